@@ -1,0 +1,4 @@
+pub mod NumBits
+pub mod Words
+pub mod Packed
+pub mod Fields
