@@ -1,0 +1,3 @@
+pub mod Column
+mod Points
+pub mod Widths

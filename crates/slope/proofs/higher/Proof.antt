@@ -1,0 +1,14 @@
+-- `slope::higher` meets its contract: the test picks as `cond` does.
+use borrow.Author.Tests.{le-leb, lt-leb}
+use native.Mathlib.Omega.{arith}
+use Rattle.slope.proofs.higher.Statement.{statement}
+use Rattle.slope.proofs.higher.Tie as tie
+
+returns : tie.Need-returns
+returns c = simp (le-leb (c .before .before .before .args .earlier .slope) (c .before .before .before .args .later .slope) (omega arith))
+
+returns-2 : tie.Need-returns-2
+returns-2 c = simp (lt-leb (c .before .before .before .args .earlier .slope) (c .before .before .before .args .later .slope) (omega arith))
+
+pub higher-spec : {M : Type 1} → statement M
+higher-spec = tie.close (tie.spec returns returns-2)
