@@ -1,0 +1,131 @@
+//! Automata given as tables.
+
+use tantivy_fst::Automaton;
+
+/// The table of document 01: a flag for each state, and 256 next states for each. State 0 starts.
+#[derive(Clone)]
+pub struct Table {
+    pub flags: Vec<u8>,
+    pub next: Vec<u8>,
+    /// Whether an accepting state can be reached in zero or more steps.
+    live: Vec<bool>,
+}
+
+impl Table {
+    pub fn new(flags: Vec<u8>, next: Vec<u8>) -> Table {
+        let m = flags.len();
+        assert!((1..=64).contains(&m) && next.len() == 256 * m);
+        assert!(flags.iter().all(|&flag| flag <= 1));
+        assert!(next.iter().all(|&state| usize::from(state) < m));
+        let mut live: Vec<bool> = flags.iter().map(|&flag| flag == 1).collect();
+        // one round a step; after m rounds nothing changes
+        for _ in 0..m {
+            for state in 0..m {
+                let row = &next[256 * state..256 * (state + 1)];
+                live[state] |= row.iter().any(|&to| live[usize::from(to)]);
+            }
+        }
+        Table { flags, next, live }
+    }
+
+    /// A table by a rule for the next state.
+    pub fn rule(flags: Vec<u8>, rule: impl Fn(usize, usize) -> usize) -> Table {
+        let next = (0..256 * flags.len())
+            .map(|i| rule(i / 256, i % 256) as u8)
+            .collect();
+        Table::new(flags, next)
+    }
+
+    /// Accepts these words and nothing else. The last state is the one for all else.
+    pub fn words(words: &[&[u8]]) -> Table {
+        let mut prefixes: Vec<&[u8]> = vec![b""];
+        for word in words {
+            for length in 1..=word.len() {
+                if !prefixes.contains(&&word[..length]) {
+                    prefixes.push(&word[..length]);
+                }
+            }
+        }
+        let place = |string: &[u8]| prefixes.iter().position(|&prefix| prefix == string);
+        let dead = prefixes.len();
+        let mut flags = vec![0; dead + 1];
+        let mut next = vec![dead as u8; 256 * (dead + 1)];
+        for (state, prefix) in prefixes.iter().enumerate() {
+            flags[state] = u8::from(words.contains(prefix));
+            if let Some((&byte, before)) = prefix.split_last() {
+                next[256 * place(before).unwrap() + usize::from(byte)] = state as u8;
+            }
+        }
+        Table::new(flags, next)
+    }
+
+    pub fn m(&self) -> usize {
+        self.flags.len()
+    }
+
+    /// Each state's row as runs: how many, then for each its first byte and its next state.
+    pub fn runs(&self) -> Vec<u8> {
+        let mut bytes = Vec::new();
+        for row in self.next.chunks(256) {
+            let firsts: Vec<usize> = (0..256)
+                .filter(|&b| b == 0 || row[b] != row[b - 1])
+                .collect();
+            bytes.push(u8::try_from(firsts.len()).expect("at most 255 runs"));
+            for first in firsts {
+                bytes.extend([first as u8, row[first]]);
+            }
+        }
+        bytes
+    }
+
+    /// Whether some accepted string lies above `start` and not above `end`, by a plain search.
+    pub fn accepts_in(&self, start: Option<&[u8]>, end: &[u8]) -> bool {
+        self.search(0, 0, start, Some(end))
+    }
+
+    // A string of length i leads to `state`; it is the front of each bound that is still there,
+    // and keeps the other's rule however it goes on.
+    fn search(&self, state: u8, i: usize, above: Option<&[u8]>, upto: Option<&[u8]>) -> bool {
+        if above.is_none() && upto.is_none() {
+            return self.live[usize::from(state)];
+        }
+        if above.is_none() && self.flags[usize::from(state)] == 1 {
+            return true;
+        }
+        (0..=255u8).any(|byte| {
+            let above = match above.map(|start| start.get(i)) {
+                Some(Some(&kb)) if byte < kb => return false,
+                Some(Some(&kb)) if byte == kb => above,
+                _ => None,
+            };
+            let upto = match upto.map(|end| end.get(i)) {
+                Some(Some(&kb)) if byte > kb => return false,
+                Some(Some(&kb)) if byte == kb => upto,
+                Some(None) => return false,
+                _ => None,
+            };
+            let next = self.next[256 * usize::from(state) + usize::from(byte)];
+            self.search(next, i + 1, above, upto)
+        })
+    }
+}
+
+impl Automaton for Table {
+    type State = u8;
+
+    fn start(&self) -> u8 {
+        0
+    }
+
+    fn is_match(&self, state: &u8) -> bool {
+        self.flags[usize::from(*state)] == 1
+    }
+
+    fn can_match(&self, state: &u8) -> bool {
+        self.live[usize::from(*state)]
+    }
+
+    fn accept(&self, state: &u8, byte: u8) -> u8 {
+        self.next[256 * usize::from(*state) + usize::from(byte)]
+    }
+}

@@ -1,0 +1,29 @@
+//! Writes the lists of answers into the folder that it is given.
+
+mod addresses;
+mod automaton;
+mod foreign;
+mod leaves;
+mod numbers;
+mod pruning;
+mod stores;
+mod text;
+mod worked;
+
+use std::path::Path;
+use std::{env, fs};
+
+fn main() {
+    let folder = env::args().nth(1).expect("the folder to write to");
+    worked::check();
+    let lists = [
+        ("leaves.txt", leaves::list(), 60_000),
+        ("stores.txt", stores::list(), 200_000),
+        ("addresses.txt", addresses::list(), 200_000),
+        ("pruning.txt", pruning::list(), 200_000),
+    ];
+    for (name, list, most) in lists {
+        fs::write(Path::new(&folder).join(name), &list).expect("the folder can be written to");
+        assert!(list.len() <= most, "{name} has {} bytes", list.len());
+    }
+}

@@ -1,0 +1,129 @@
+//! Private functions of the block index, called from outside. No answer is made here.
+
+use common::OwnedBytes;
+use tantivy_fst::Automaton;
+
+use super::super::{SSTableIndex, SSTableIndexBuilder};
+use super::{BlockAddr, BlockAddrStore, BlockAddrStoreWriter};
+
+#[derive(Clone, Copy, Debug, PartialEq, Eq)]
+pub struct Block {
+    pub start: u64,
+    pub end: u64,
+    pub ord: u64,
+}
+
+impl From<BlockAddr> for Block {
+    fn from(addr: BlockAddr) -> Block {
+        Block {
+            start: addr.byte_range.start as u64,
+            end: addr.byte_range.end as u64,
+            ord: addr.first_ordinal,
+        }
+    }
+}
+
+impl From<Block> for BlockAddr {
+    fn from(block: Block) -> BlockAddr {
+        BlockAddr {
+            first_ordinal: block.ord,
+            byte_range: block.start as usize..block.end as usize,
+        }
+    }
+}
+
+/// The slope and width of the points (1, first value), (2, second value) and so on.
+pub fn find_best_slope(values: &[u64]) -> (u32, u8) {
+    super::find_best_slope((1..).zip(values.iter().copied()))
+}
+
+pub fn extract_bits(bytes: &[u8], place: usize, width: u8) -> u64 {
+    super::extract_bits(bytes, place, width)
+}
+
+pub fn common_prefix_len(one: &[u8], other: &[u8]) -> usize {
+    crate::common_prefix_len(one, other)
+}
+
+pub fn find_shorter_str_in_between(left: &[u8], right: &[u8]) -> Vec<u8> {
+    let mut short = left.to_vec();
+    super::super::find_shorter_str_in_between(&mut short, right);
+    short
+}
+
+pub fn can_block_match_automaton(
+    start: Option<&[u8]>,
+    end: &[u8],
+    automaton: &impl Automaton,
+) -> bool {
+    crate::block_match_automaton::can_block_match_automaton(start, end, automaton)
+}
+
+/// The store of the blocks.
+pub fn write_store(blocks: &[Block]) -> Vec<u8> {
+    let mut writer = BlockAddrStoreWriter::new();
+    for &block in blocks {
+        writer.write_block_meta(block.into()).unwrap();
+    }
+    let mut bytes = Vec::new();
+    writer.serialize(&mut bytes).unwrap();
+    bytes
+}
+
+pub struct Store(BlockAddrStore);
+
+impl Store {
+    pub fn open(bytes: &[u8]) -> Store {
+        Store(BlockAddrStore::open(OwnedBytes::new(bytes.to_vec())).unwrap())
+    }
+
+    pub fn get(&self, id: u64) -> Option<Block> {
+        self.0.get(id).map(Block::from)
+    }
+
+    pub fn binary_search_ord(&self, ord: u64) -> (u64, Block) {
+        let (id, addr) = self.0.binary_search_ord(ord);
+        (id, addr.into())
+    }
+}
+
+/// The index of the blocks and their keys, with its footer of 8 bytes.
+pub fn write_index(blocks: &[(Block, &[u8])]) -> Vec<u8> {
+    let mut builder = SSTableIndexBuilder::default();
+    for &(block, key) in blocks {
+        let addr = BlockAddr::from(block);
+        builder.add_block(key, addr.byte_range, addr.first_ordinal);
+    }
+    let mut bytes = Vec::new();
+    let footer = builder.serialize(&mut bytes).unwrap();
+    bytes.extend(footer.to_le_bytes());
+    bytes
+}
+
+pub struct Index(SSTableIndex);
+
+impl Index {
+    pub fn open(bytes: &[u8]) -> Index {
+        Index(SSTableIndex::open(3, 0, OwnedBytes::new(bytes.to_vec())).unwrap())
+    }
+
+    pub fn get_block(&self, id: u64) -> Option<Block> {
+        self.0.get_block(id).map(Block::from)
+    }
+
+    pub fn locate_with_ord(&self, ord: u64) -> u64 {
+        self.0.locate_with_ord(ord)
+    }
+
+    pub fn locate_with_key(&self, key: &[u8]) -> Option<u64> {
+        self.0.locate_with_key(key)
+    }
+
+    /// The ids of the blocks that may hold an accepted key.
+    pub fn get_block_for_automaton(&self, automaton: &impl Automaton) -> Vec<u64> {
+        self.0
+            .get_block_for_automaton(automaton)
+            .map(|(id, _)| id)
+            .collect()
+    }
+}
