@@ -1,0 +1,7 @@
+pub mod Limit
+pub mod Legal
+pub mod Blocks
+pub mod Metadata
+pub mod Written
+pub mod Reading
+pub mod Back
