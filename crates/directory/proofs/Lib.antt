@@ -1,0 +1,4 @@
+pub mod Keys
+pub mod Lengths
+pub mod ReadBack
+mod Written

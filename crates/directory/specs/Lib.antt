@@ -1,0 +1,3 @@
+pub mod Directory
+pub mod Keys
+pub mod Facts

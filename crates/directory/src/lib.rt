@@ -1,0 +1,2 @@
+// The key directory, which stands for the FST.
+pub mod write;
