@@ -1,0 +1,7 @@
+pub mod Exact
+pub mod Word
+pub mod Built
+pub mod Refusal
+pub mod Strings
+pub mod Worklist
+pub mod LiveWords

@@ -1,0 +1,4 @@
+pub mod Bits
+pub mod Table
+pub mod Words
+pub mod Live

@@ -1,0 +1,36 @@
+-- What an automaton accepts: state 0 starts; a byte string that leads from it to a flag 1 is accepted.
+use Prim.Native.Nat.{ℕ, _<_}
+use mathlib.Core.Path.{_≡_}
+use mathlib.Core.List.{List, [], _∷_}
+use Rattle.automaton.specs.Bits.{bit}
+use Rattle.automaton.specs.Table.{states, flag, next}
+
+-- a byte string
+abbrev pub Bytes : List ℕ → Type 0
+Bytes [] = Unit {0}
+Bytes (b ∷ w) = (b < 256) × Bytes w
+
+-- where w leads from the state s
+unfoldable pub run : List ℕ → ℕ → List ℕ → ℕ
+run t s [] = s
+run t s (b ∷ w) = run t (next t s b) w
+
+-- the byte string w leads from s to acceptance
+pub record Hits (t : List ℕ) (s : ℕ) (w : List ℕ) : Type 0 where
+  pub bytes : Bytes w
+  pub ends : flag t (run t s w) ≡ 1
+
+-- some byte string of which P holds leads from s to acceptance
+pub record Word (t : List ℕ) (s : ℕ) (P : List ℕ → Type 0) : Type 0 where
+  pub word : List ℕ
+  pub hits : Hits t s word
+  pub good : P word
+
+-- `can_match`: an accepting state can be reached from s in zero or more steps
+abbrev pub CanMatch : List ℕ → ℕ → Type 0
+CanMatch t s = Word t s (λ w. Unit {0})
+
+-- bit s of the word is set exactly when s can match, for every state
+pub record Reach (t : List ℕ) (word : ℕ) : Type 0 where
+  pub up : (s : ℕ) → s < states t → bit word s ≡ 1 → CanMatch t s
+  pub down : (s : ℕ) → s < states t → CanMatch t s → bit word s ≡ 1

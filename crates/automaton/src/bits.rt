@@ -1,0 +1,44 @@
+// Bits of one word.
+ghost use mathlib.Core.Path.{_≡_};
+ghost use Prim.Native.Nat.{ℕ, _+_, _-_, _^_, _≤_, _<_};
+ghost use lib.Count.{trailingZeros};
+ghost use Rattle.automaton.specs.Bits.{bit, Exactly};
+
+pub fn is_set(word: u64, s: usize) -> bool
+    requires { ⌜ s < 64 ⌝ }
+    ensures { λ r. ⌜ Exactly r (bit word s ≡ 1) ⌝ }
+{
+    (word >> s) & 1 == 1
+}
+
+// The word with a clear bit set.
+pub fn with(word: u64, s: usize) -> u64
+    requires { ⌜ (s < 64) × (bit word s ≡ 0) ⌝ }
+    ensures { λ r. ⌜ r ≡ word + 2 ^ s ⌝ }
+{
+    word | (1u64 << s)
+}
+
+// The place of the lowest set bit.
+pub fn lowest(word: u64) -> usize
+    requires { ⌜ 0 < word ⌝ }
+    ensures { λ r. ⌜ (r < 64) × (r ≡ trailingZeros 64 word) × (bit word r ≡ 1) ⌝ }
+{
+    u64::trailing_zeros(word) as usize
+}
+
+// The word without its lowest set bit.
+pub fn without_lowest(word: u64) -> u64
+    requires { ⌜ 0 < word ⌝ }
+    ensures { λ r. ⌜ r ≡ word - 2 ^ trailingZeros 64 word ⌝ }
+{
+    word & (word - 1)
+}
+
+// Whether a bit from lo on and below hi is set: the others are shifted out.
+pub fn any_set(word: u64, lo: usize, hi: usize) -> bool
+    requires { ⌜ (lo < hi) × (hi ≤ 64) ⌝ }
+    ensures { λ r. ⌜ Exactly r ((s : ℕ) × (lo ≤ s) × (s < hi) × (bit word s ≡ 1)) ⌝ }
+{
+    (word << (64 - hi)) >> (64 - hi + lo) != 0
+}

@@ -1,0 +1,73 @@
+// The bytes that lead from each state to one that can match.
+use crate::bits::any_set;
+use crate::bits::is_set;
+ghost use mathlib.Core.Path.{_≡_};
+ghost use Prim.Native.Nat.{ℕ, _+_, _≤_, _<_};
+ghost use lib.ListN.{length, getD};
+ghost use Rattle.automaton.specs.Bits.{bit, Exactly};
+ghost use Rattle.automaton.specs.Table.{WellFormed, states};
+ghost use Rattle.automaton.specs.Words.{Reach};
+ghost use Rattle.automaton.specs.Live.{Live, Byte};
+
+// Of the 64 next states from `at` on, the word of those that can match.
+fn live_word(table: &[u8], reach: u64, at: usize) -> u64
+    requires { ⌜ (at + 64 ≤ length (now table)) × ((j : ℕ) → j < 64 → getD (now table) (at + j) 0 < 64) ⌝ }
+    ensures { λ r. ⌜ ((j : ℕ) → j < 64 → bit r j ≡ bit reach (getD (now (table .entry)) (at + j) 0)) ⌝ }
+{
+    let mut word: u64 = 0;
+    let mut j: usize = 0;
+    while j < 64 {
+        word |= ((reach >> table[at + j]) & 1) << j;
+        j += 1;
+    }
+    word
+}
+
+// Four words a state, worked out once for a listing; zeros for numbers that are no states.
+pub fn live(table: &[u8], reach: u64) -> [u64; 256]
+    requires { ⌜ WellFormed (now table) × Reach (now table) reach ⌝ }
+    ensures { λ r. ⌜ Live (now (table .entry)) r ⌝ }
+{
+    let m = table[0] as usize;
+    let mut words: [u64; 256] = [0; 256];
+    let mut i: usize = 0;
+    while i < 4 * m {
+        words[i] = live_word(table, reach, 1 + m + i * 64);
+        i += 1;
+    }
+    words
+}
+
+// Whether a byte from lo on and below hi leads on, by the words: one look for each word that the bytes lie in.
+// The table is there for the contract alone.
+pub fn any_byte(table: &[u8], live: &[u64; 256], state: usize, lo: usize, hi: usize) -> bool
+    requires { ⌜ WellFormed (now table) × Live (now table) (now live) × (state < states (now table)) × (hi ≤ 256) ⌝ }
+    ensures { λ r. ⌜ Exactly r (Byte (now (table .entry)) state lo hi) ⌝ }
+{
+    let mut b = lo;
+    while b < hi {
+        let first = b / 64 * 64;
+        let end = if hi < first + 64 { hi } else { first + 64 };
+        if any_set(live[4 * state + b / 64], b - first, end - first) {
+            return true;
+        }
+        b = first + 64;
+    }
+    false
+}
+
+// The same by the table, for a single interval.
+pub fn any_byte_of(table: &[u8], reach: u64, state: usize, lo: usize, hi: usize) -> bool
+    requires { ⌜ WellFormed (now table) × Reach (now table) reach × (state < states (now table)) × (hi ≤ 256) ⌝ }
+    ensures { λ r. ⌜ Exactly r (Byte (now (table .entry)) state lo hi) ⌝ }
+{
+    let row = 1 + table[0] as usize + state * 256;
+    let mut b = lo;
+    while b < hi {
+        if is_set(reach, table[row + b] as usize) {
+            return true;
+        }
+        b += 1;
+    }
+    false
+}

@@ -1,0 +1,104 @@
+// Which states can reach acceptance: waiting states are bits of one word, the lowest set bit next.
+use crate::bits::is_set;
+use crate::bits::lowest;
+use crate::bits::with;
+use crate::bits::without_lowest;
+use crate::table::is_match;
+ghost use mathlib.Core.Path.{_≡_};
+ghost use Prim.Native.Nat.{ℕ, _+_, _^_, _≤_, _<_};
+ghost use lib.ListN.{length, getD};
+ghost use Rattle.automaton.specs.Bits.{bit, Exactly};
+ghost use Rattle.automaton.specs.Table.{WellFormed, states, flag, next};
+ghost use Rattle.automaton.specs.Words.{Reach};
+
+// The word of the accepting states.
+fn flags(table: &[u8]) -> u64
+    requires { ⌜ WellFormed (now table) ⌝ }
+    ensures { λ r. ⌜ r < 2 ^ states (now (table .entry)) ⌝ }
+    ensures { λ r. ⌜ ((s : ℕ) → s < states (now (table .entry)) → bit r s ≡ flag (now (table .entry)) s) ⌝ }
+{
+    let m = table[0] as usize;
+    let mut word: u64 = 0;
+    let mut s: usize = 0;
+    while s < m {
+        if is_match(table, s) {
+            word = with(word, s);
+        }
+        s += 1;
+    }
+    word
+}
+
+// The word of the next states that stand in the 256 bytes from `at` on.
+fn next_states(table: &[u8], at: usize) -> u64
+    requires { ⌜ (at + 256 ≤ length (now table)) × ((b : ℕ) → b < 256 → getD (now table) (at + b) 0 < 64) ⌝ }
+    ensures { λ r. ⌜ ((b : ℕ) → b < 256 → bit r (getD (now (table .entry)) (at + b) 0) ≡ 1) ⌝ }
+    ensures { λ r. ⌜ ((s : ℕ) → bit r s ≡ 1 → (b : ℕ) × (b < 256) × (getD (now (table .entry)) (at + b) 0 ≡ s)) ⌝ }
+{
+    let mut word: u64 = 0;
+    let mut b: usize = 0;
+    while b < 256 {
+        word |= 1u64 << table[at + b];
+        b += 1;
+    }
+    word
+}
+
+// For each state the word of those that a byte leads to from it.
+fn successors(table: &[u8]) -> [u64; 64]
+    requires { ⌜ WellFormed (now table) ⌝ }
+    ensures { λ r. ⌜ ((p b : ℕ) → p < states (now (table .entry)) → b < 256 → bit (getD r p 0) (next (now (table .entry)) p b) ≡ 1) ⌝ }
+    ensures { λ r. ⌜ ((p s : ℕ) → p < states (now (table .entry)) → bit (getD r p 0) s ≡ 1 → (b : ℕ) × (b < 256) × (next (now (table .entry)) p b ≡ s)) ⌝ }
+{
+    let m = table[0] as usize;
+    let mut words: [u64; 64] = [0; 64];
+    let mut p: usize = 0;
+    while p < m {
+        words[p] = next_states(table, 1 + m + p * 256);
+        p += 1;
+    }
+    words
+}
+
+// The word of the states below m from which a byte leads to s.
+fn leading_to(successors: &[u64; 64], m: usize, s: usize) -> u64
+    requires { ⌜ (m ≤ 64) × (s < 64) ⌝ }
+    ensures { λ r. ⌜ r < 2 ^ m ⌝ }
+    ensures { λ r. ⌜ ((p : ℕ) → p < m → bit r p ≡ bit (getD (now (successors .entry)) p 0) s) ⌝ }
+{
+    let mut word: u64 = 0;
+    let mut p: usize = 0;
+    while p < m {
+        word |= ((successors[p] >> s) & 1) << p;
+        p += 1;
+    }
+    word
+}
+
+// The word of the states that can match.
+pub fn reach(table: &[u8]) -> u64
+    requires { ⌜ WellFormed (now table) ⌝ }
+    ensures { λ r. ⌜ Reach (now (table .entry)) r ⌝ }
+    ensures { λ r. ⌜ r < 2 ^ states (now (table .entry)) ⌝ }
+{
+    let m = table[0] as usize;
+    let steps = successors(table);
+    let mut found = flags(table);
+    let mut waiting = found;
+    while waiting != 0 {
+        let s = lowest(waiting);
+        waiting = without_lowest(waiting);
+        let more = leading_to(&steps, m, s) & !found;
+        found |= more;
+        waiting |= more;
+    }
+    found
+}
+
+// Whether a state can match, by the word of those that can.
+pub fn can_match(word: u64, state: usize) -> bool
+    requires { ⌜ state < 64 ⌝ }
+    ensures { λ r. ⌜ Exactly r (bit word state ≡ 1) ⌝ }
+{
+    is_set(word, state)
+}
