@@ -1,0 +1,165 @@
+// Replays a list of answers, made by running the Rust, against the proved functions, and counts the cases that differ.
+mod cases;
+mod pack;
+
+ghost use Prim.Native.Nat.{_≤_};
+ghost use lib.ListN.{length};
+use libc::STDIN_FILENO;
+use libc::STDOUT_FILENO;
+use vectors::Line;
+
+// How many cases were compared, and how many of them differ.
+struct Tally {
+    compared: u64,
+    differ: u64,
+}
+
+// One more, up to the largest number.
+fn more(n: u64) -> u64 {
+    if n < u64::MAX { n + 1 } else { n }
+}
+
+impl Tally {
+    fn with(self, same: bool) -> Tally {
+        let compared = more(self.compared);
+        if same {
+            Tally {
+                compared,
+                differ: self.differ,
+            }
+        } else {
+            Tally {
+                compared,
+                differ: more(self.differ),
+            }
+        }
+    }
+}
+
+// The kind's row among the tallies; 8 where there is no such kind.
+fn row_of(kind: u8) -> usize
+    ensures { λ r. ⌜ r ≤ 8 ⌝ }
+{
+    match kind {
+        b'n' => 0,
+        b'l' => 1,
+        b'p' => 2,
+        b'b' => 3,
+        b'x' => 4,
+        b'g' => 5,
+        b's' => 6,
+        b'c' => 7,
+        _ => 8,
+    }
+}
+
+// How many byte strings a case of a kind has.
+fn strings_of(kind: u8) -> usize {
+    match kind {
+        b's' => 3,
+        b'c' => 2,
+        b'l' | b'b' | b'x' | b'g' => 1,
+        _ => 0,
+    }
+}
+
+// Whether a line's answers are those of the proved functions. A bad line has none that are.
+fn same(line: Line, numbers: &[u64], bytes: &[u8], spans: &[usize]) -> bool
+    requires { ⌜ line .numbers ≤ length (now numbers) ⌝ }
+{
+    let kind = line.kind;
+    let count = line.numbers;
+    if !line.good {
+        return false;
+    }
+    if line.strings != strings_of(kind) {
+        return false;
+    }
+    let given = &numbers[0..count];
+    let first = vectors::string(bytes, spans, 0);
+    let second = vectors::string(bytes, spans, 1);
+    let third = vectors::string(bytes, spans, 2);
+    let mut area = [cases::MARK; 8192];
+    match kind {
+        b'n' => cases::same_width(given),
+        b'l' => cases::same_number(given, first, &mut area),
+        b'p' => cases::same_slope(given),
+        b'b' => cases::same_fields(given, first, &mut area),
+        b'x' => cases::same_read(given, first),
+        b'g' => cases::same_group(given, first, &mut area),
+        b's' => cases::same_shortened(first, second, third, &mut area),
+        b'c' => cases::same_prefix(given, first, second),
+        _ => false,
+    }
+}
+
+// The tallies with one case more: a row for each kind, and behind them all cases.
+fn counted(tallies: [Tally; 9], kind: u8, is_same: bool) -> [Tally; 9] {
+    let mut rows = tallies;
+    let row = row_of(kind);
+    if row < 8 {
+        let tally = rows[row];
+        rows[row] = tally.with(is_same);
+    }
+    let all = rows[8];
+    rows[8] = all.with(is_same);
+    rows
+}
+
+// The tallies of all lines of the list.
+fn replay(text: &[u8], numbers: &mut [u64], bytes: &mut [u8], spans: &mut [usize]) -> [Tally; 9] {
+    let none = Tally {
+        compared: 0,
+        differ: 0,
+    };
+    let mut tallies = [none; 9];
+    let mut at: usize = 0;
+    while at < text.len() {
+        let line = vectors::parse(text, at, numbers, bytes, spans);
+        if line.kind != b'#' {
+            let is_same = same(line, numbers, bytes, spans);
+            let next = counted(tallies, line.kind, is_same);
+            tallies = next;
+        }
+        at = line.next;
+    }
+    tallies
+}
+
+fn print_tally(tally: Tally) {
+    io::print_decimal(STDOUT_FILENO, tally.compared);
+    io::write_all(STDOUT_FILENO, b" compared, ");
+    io::print_decimal(STDOUT_FILENO, tally.differ);
+    io::write_all(STDOUT_FILENO, b" differ\n");
+}
+
+fn print_row(name: &[u8], tally: Tally) {
+    io::write_all(STDOUT_FILENO, name);
+    io::write_all(STDOUT_FILENO, b": ");
+    print_tally(tally);
+}
+
+fn print_all(tallies: [Tally; 9]) {
+    print_row(b"widths", tallies[0]);
+    print_row(b"numbers", tallies[1]);
+    print_row(b"slopes", tallies[2]);
+    print_row(b"fields", tallies[3]);
+    print_row(b"reads", tallies[4]);
+    print_row(b"groups", tallies[5]);
+    print_row(b"shortened keys", tallies[6]);
+    print_row(b"common prefixes", tallies[7]);
+    print_tally(tallies[8]);
+}
+
+fn main() {
+    let mut text = io::large_buffer();
+    let n = io::read_full(STDIN_FILENO, &mut text);
+    if n == 65536 {
+        io::write_all(STDOUT_FILENO, b"too long\n");
+        return;
+    }
+    let mut numbers = [0u64; 520];
+    let mut bytes = [0u8; 8192];
+    let mut spans = [0usize; 16];
+    print_all(replay(&text[..n], &mut numbers, &mut bytes, &mut spans));
+}
