@@ -1,0 +1,165 @@
+-- The areas stand for entries: each entry's five numbers and its key are at its index. An accepted call keeps this.
+use Prim.Native.Nat.{ℕ, zero, suc, _+_, _-_, _*_, _≤_, _<_}
+use mathlib.Core.Path.{_≡_, refl, sym, ap, _∙_}
+use mathlib.Core.List.{List, [], _∷_}
+use native.Mathlib.Nat.{add-zero, zero-add, suc-add}
+use native.Mathlib.Omega.{arith}
+use lib.ListN.{length, getD, take, drop, set}
+use lib.Seq.{sets, take-nil, take-take, getD-take, getD-drop, getD-set-same, getD-set-other, take-set-le}
+use borrow.Author.Tests.{ne-eqb}
+use Rattle.serialize.proofs.Stores.{sets-part, sets-outside-take}
+use Rattle.group.specs.declared.BlockAddr.{BlockAddr}
+use Rattle.builder.specs.Area.{stride, keyOffset, keyLen, areaBlock, areaKey, areaView, viewOf}
+use Rattle.builder.specs.Calls.{After}
+use Rattle.builder.specs.Plain.{Entry, Rooms, keyBytesTaken, plainView}
+
+-- e is block i, and its key starts at `at`
+pub record Held (e : Entry) (i at : ℕ) (B K : List ℕ) : Type 0 where
+  pub block : areaBlock B i ≡ e .block
+  pub offset : keyOffset B i ≡ at
+  pub len : keyLen B i ≡ length (e .key)
+  pub key : areaKey B K i ≡ e .key
+
+-- each entry is held at its index, behind the keys of those before it; entries stand newest first
+unfoldable pub Holds : List Entry → List ℕ → List ℕ → Type 0
+Holds [] B K = Unit {0}
+Holds (e ∷ es) B K = Held e (length es) (keyBytesTaken es) B K × Holds es B K
+
+-- the builder with its areas stands for the entries
+pub record Rep (es : List Entry) (a : After) : Type 0 where
+  pub count : a .builder .n ≡ length es
+  pub few : length es ≤ 65536
+  pub inside : stride * length es ≤ length (a .blocks)
+  pub within : keyBytesTaken es ≤ length (a .keys)
+  pub holds : Holds es (a .blocks) (a .keys)
+
+-- both areas' lengths
+abbrev pub roomsOf : After → Rooms
+roomsOf a = record { blocks = length (a .blocks); keys = length (a .keys) }
+
+-- whatever the areas hold, no block is no entry
+pub fresh : (a : After) → a .builder .n ≡ 0 → Rep [] a
+unfolding Holds keyBytesTaken
+fresh a e = record { count = e; few = omega arith; inside = omega arith; within = omega arith; holds = tt }
+
+-- ---- the areas show what the entries show
+
+module _ (e : Entry) (es : List Entry) (a : After) (r : Rep (e ∷ es) a) where
+  some : a .builder .n ≡ 0 → ⊥
+  some z = omega (arith, r .count)
+
+  last-is : a .builder .n - 1 ≡ length es
+  last-is = omega (arith, r .count)
+
+  pub rep-held : Held e (length es) (keyBytesTaken es) (a .blocks) (a .keys)
+  unfolding Holds
+  rep-held = r .holds .0
+
+  view-some : viewOf (a .builder) (a .blocks) (a .keys) ≡ plainView (roomsOf a) (e ∷ es)
+  unfolding areaView plainView keyBytesTaken
+  view-some =
+      rw (ne-eqb (a .builder .n) 0 some, last-is, rep-held .block, rep-held .key, rep-held .offset, rep-held .len, r .count)
+
+pub rep-view : (es : List Entry) (a : After) → Rep es a → viewOf (a .builder) (a .blocks) (a .keys) ≡ plainView (roomsOf a) es
+unfolding areaView plainView
+rep-view [] a r = rw (r .count)
+rep-view (e ∷ es) a r = view-some e es a r
+
+pub plain-n : (rooms : Rooms) (es : List Entry) → plainView rooms es .n ≡ length es
+unfolding plainView
+plain-n rooms [] = refl
+plain-n rooms (e ∷ es) = refl
+
+pub plain-next : (rooms : Rooms) (es : List Entry) → plainView rooms es .nextKey ≡ keyBytesTaken es
+unfolding plainView keyBytesTaken
+plain-next rooms [] = refl
+plain-next rooms (e ∷ es) = refl
+
+pub plain-room : (rooms : Rooms) (es : List Entry) → (plainView rooms es .room ≡ rooms .blocks) × (plainView rooms es .keyRoom ≡ rooms .keys)
+unfolding plainView
+plain-room rooms [] = (refl, refl)
+plain-room rooms (e ∷ es) = (refl, refl)
+
+-- ---- what stands in front of a change stays
+
+front-getD : (m : ℕ) (B B′ : List ℕ) (j : ℕ) → j < m → take m B′ ≡ take m B → getD B′ j 0 ≡ getD B j 0
+front-getD m B B′ j h e = sym (getD-take m B′ j 0 h) ∙ ap (λ (l : List ℕ). getD l j 0) e ∙ getD-take m B j 0 h
+
+drop-take : (n m : ℕ) (l : List ℕ) → drop n (take (n + m) l) ≡ take m (drop n l)
+drop-take zero m l = rw (zero-add m)
+drop-take (suc n) m [] = rw (take-nil (suc n + m), take-nil m)
+drop-take (suc n) m (x ∷ l) = rw (suc-add n m) (drop-take n m l)
+
+front-part : (m : ℕ) (K K′ : List ℕ) (at len : ℕ) → at + len ≤ m → take m K′ ≡ take m K → take len (drop at K′) ≡ take len (drop at K)
+front-part m K K′ at len h e =
+    sym (drop-take at len K′) ∙ ap (drop at) (sym (take-take (at + len) m K′ h) ∙ ap (take (at + len)) e ∙ take-take (at + len) m K h) ∙ drop-take at len K
+
+pub holds-kept : (es : List Entry) (B K B′ K′ : List ℕ) (m k : ℕ) → stride * length es ≤ m → keyBytesTaken es ≤ k
+    → take m B′ ≡ take m B → take k K′ ≡ take k K → Holds es B K → Holds es B′ K′
+unfolding Holds keyBytesTaken
+holds-kept [] B K B′ K′ m k h g p q w = tt
+holds-kept (e ∷ es) B K B′ K′ m k h g p q w =
+    let i : ℕ = length es in
+    let same : (j : ℕ) → j < m → getD B′ j 0 ≡ getD B j 0 = λ j l. front-getD m B B′ j l p in (
+      record {
+        block = rw (same (stride * i) (omega arith), same (stride * i + 1) (omega arith), same (stride * i + 2) (omega arith)) (w .0 .block);
+        offset = same (stride * i + 3) (omega arith) ∙ w .0 .offset;
+        len = same (stride * i + 4) (omega arith) ∙ w .0 .len;
+        key = rw (same (stride * i + 3) (omega arith), same (stride * i + 4) (omega arith), front-part k K K′ (keyOffset B i) (keyLen B i) (omega (arith, w .0 .offset, w .0 .len)) q) (w .0 .key);
+      },
+      holds-kept es B K B′ K′ m k (omega arith) (omega arith) p q (w .1),
+    )
+
+-- ---- an accepted add
+
+getD-sets : (B w : List ℕ) (at j : ℕ) → at + length w ≤ length B → j < length w → getD (sets B at w) (at + j) 0 ≡ getD w j 0
+getD-sets B w at j h l =
+    sym (getD-drop at (sets B at w) j 0) ∙ sym (getD-take (length w) (drop at (sets B at w)) j 0 l) ∙ ap (λ (x : List ℕ). getD x j 0) (sets-part B w at h)
+
+abbrev pub five : BlockAddr → ℕ → ℕ → List ℕ
+five b at len = b .start ∷ b .end ∷ b .«first_ordinal» ∷ at ∷ len ∷ []
+
+added-held : (b : BlockAddr) (key : List ℕ) (i at : ℕ) (B K : List ℕ) → stride * i + stride ≤ length B → at + length key ≤ length K
+    → Held (record { block = b; key = key }) i at (sets B (stride * i) (five b at (length key))) (sets K at key)
+added-held b key i at B K h g =
+    let n : (j : ℕ) → j < stride → getD (sets B (stride * i) (five b at (length key))) (stride * i + j) 0 ≡ getD (five b at (length key)) j 0 = λ j l. getD-sets B (five b at (length key)) (stride * i) j h l in
+    record {
+      block = rw (rw (add-zero (stride * i)) at (n 0 (omega arith)), n 1 (omega arith), n 2 (omega arith));
+      offset = n 3 (omega arith);
+      len = n 4 (omega arith);
+      key = rw (n 3 (omega arith), n 4 (omega arith)) (sets-part K key at g);
+    }
+
+pub holds-added : (es : List Entry) (b : BlockAddr) (key B K : List ℕ) → stride * length es + stride ≤ length B → keyBytesTaken es + length key ≤ length K
+    → Holds es B K → Holds (record { block = b; key = key } ∷ es) (sets B (stride * length es) (five b (keyBytesTaken es) (length key))) (sets K (keyBytesTaken es) key)
+unfolding Holds
+holds-added es b key B K h g w = (
+  added-held b key (length es) (keyBytesTaken es) B K h g,
+  holds-kept es B K _ _ (stride * length es) (keyBytesTaken es) (omega arith) (omega arith)
+      (sets-outside-take B (five b (keyBytesTaken es) (length key)) (stride * length es) (stride * length es) (omega arith))
+      (sets-outside-take K key (keyBytesTaken es) (keyBytesTaken es) (omega arith)) w,
+)
+
+-- ---- an accepted shorten
+
+shortened-held : (e : Entry) (key : List ℕ) (i at : ℕ) (B K : List ℕ) → stride * i + stride ≤ length B → at + length key ≤ length K
+    → Held e i at B K → Held (record { block = e .block; key = key }) i at (set B (stride * i + 4) (length key)) (sets K at key)
+shortened-held e key i at B K h g w =
+    let other : (j : ℕ) → (j ≡ stride * i + 4 → ⊥) → getD (set B (stride * i + 4) (length key)) j 0 ≡ getD B j 0 = λ j n. getD-set-other B (stride * i + 4) j (length key) 0 n in
+    let same : getD (set B (stride * i + 4) (length key)) (stride * i + 4) 0 ≡ length key = getD-set-same B (stride * i + 4) (length key) 0 (omega arith) in
+    record {
+      block = rw (other (stride * i) (λ z. omega arith), other (stride * i + 1) (λ z. omega arith), other (stride * i + 2) (λ z. omega arith)) (w .block);
+      offset = other (stride * i + 3) (λ z. omega arith) ∙ w .offset;
+      len = same;
+      key = rw (other (stride * i + 3) (λ z. omega arith), same, w .offset) (sets-part K key at g);
+    }
+
+pub holds-shortened : (e : Entry) (es : List Entry) (key B K : List ℕ) → stride * length es + stride ≤ length B → keyBytesTaken es + length key ≤ length K
+    → Holds (e ∷ es) B K → Holds (record { block = e .block; key = key } ∷ es) (set B (stride * length es + 4) (length key)) (sets K (keyBytesTaken es) key)
+unfolding Holds
+holds-shortened e es key B K h g w = (
+  shortened-held e key (length es) (keyBytesTaken es) B K h g (w .0),
+  holds-kept es B K _ _ (stride * length es) (keyBytesTaken es) (omega arith) (omega arith)
+      (take-set-le (stride * length es) B (stride * length es + 4) (length key) (omega arith))
+      (sets-outside-take K key (keyBytesTaken es) (keyBytesTaken es) (omega arith)) (w .1),
+)

@@ -1,0 +1,4 @@
+pub mod Area
+pub mod Rows
+pub mod Calls
+pub mod Plain

@@ -1,0 +1,54 @@
+-- Rows 1 to 7 of document 01's table, over what they look at.
+use Prim.Native.Nat.{ℕ, zero, suc, _+_, _*_, _≤_}
+use mathlib.Core.List.{List}
+use mathlib.Core.Bool.{Bool, not, _&&_, _||_, cond}
+use lib.Dec.{eqb, ltb}
+use lib.ListN.{length}
+use Rattle.keys.specs.Order.{less}
+use Rattle.group.specs.declared.BlockAddr.{BlockAddr}
+use Rattle.group.specs.Rows.{numbersBad, joinBad, ordinalBad}
+use Rattle.builder.specs.Area.{View, stride}
+
+-- row 1: n > 65,536, 5 × n beyond the area, or last key ends beyond the key area
+unfoldable pub areaBad : View → Bool
+areaBad v = ltb 65536 (v .n) || (ltb (v .room) (stride * v .n) || ltb (v .keyRoom) (v .nextKey))
+
+-- row 1 isn't hit, in numbers
+pub record AreaOk (v : View) : Type 0 where
+  pub few : v .n ≤ 65536
+  pub inside : stride * v .n ≤ v .room
+  pub within : v .nextKey ≤ v .keyRoom
+
+-- row 2: longer than 1,024
+unfoldable pub keyLong : List ℕ → Bool
+keyLong key = ltb 1024 (length key)
+
+-- row 6: n > 0 and not above the last separator
+unfoldable pub keyBad : View → List ℕ → Bool
+keyBad v key = ltb 0 (v .n) && not (less (v .lastKey) key)
+
+-- row 7: n = 65,536, or five numbers or the key don't fit
+unfoldable pub roomBad : View → List ℕ → Bool
+roomBad v key = eqb (v .n) 65536 || (ltb (v .room) (stride * v .n + stride) || ltb (v .keyRoom) (v .nextKey + length key))
+
+-- rows 2 to 6 for a block with its key behind what is there; 0 where none is hit
+unfoldable pub blockNo : View → List ℕ → BlockAddr → ℕ
+blockNo v key b =
+    cond (keyLong key) 2
+    (cond (numbersBad b) 3
+    (cond (ltb 0 (v .n) && joinBad (v .last) b) 4
+    (cond (ltb 0 (v .n) && ordinalBad (v .last) b) 5
+    (cond (keyBad v key) 6 0))))
+
+-- the first number that isn't 0
+unfoldable pub orElse : ℕ → ℕ → ℕ
+orElse zero k = k
+orElse (suc j) k = suc j
+
+-- the number that an add answers
+unfoldable pub addNo : View → List ℕ → BlockAddr → ℕ
+addNo v key b = cond (areaBad v) 1 (orElse (blockNo v key b) (cond (roomBad v key) 7 0))
+
+-- the number that a shorten answers
+unfoldable pub shortenNo : View → List ℕ → ℕ
+shortenNo v next = cond (areaBad v) 1 (cond (keyLong next) 2 (cond (keyBad v next) 6 0))

@@ -1,0 +1,38 @@
+// What an accepted add writes.
+ghost use mathlib.Core.Path.{_≡_};
+ghost use mathlib.Core.List.{_∷_, []};
+ghost use Prim.Native.Nat.{_+_, _*_, _≤_};
+ghost use lib.ListN.{length};
+ghost use lib.Seq.{sets};
+ghost use Rattle.builder.specs.Area.{viewOf, stride};
+ghost use Rattle.builder.specs.Rows.{AreaOk};
+use crate::SSTableIndexBuilder;
+use crate::rows::END;
+use crate::rows::FIRST_ORDINAL;
+use crate::rows::KEY_LEN;
+use crate::rows::KEY_OFFSET;
+use crate::rows::STRIDE;
+use crate::rows::next_key;
+use group::BlockAddr;
+
+// Writes a block's record and its key behind those that are there.
+pub fn append(
+    builder: SSTableIndexBuilder,
+    blocks: &mut [u64],
+    keys: &mut [u8],
+    key: &[u8],
+    block: BlockAddr,
+)
+    requires { ⌜ AreaOk (viewOf builder (now blocks) (now keys)) × (stride * builder .n + stride ≤ length (now blocks)) × (viewOf builder (now blocks) (now keys) .nextKey + length (now key) ≤ length (now keys)) ⌝ }
+    ensures { λ _. ⌜ now (blocks .exit) ≡ sets (now (blocks .entry)) (stride * builder .n) (block .start ∷ block .end ∷ block .«first_ordinal» ∷ viewOf builder (now (blocks .entry)) (now (keys .entry)) .nextKey ∷ length (now (key .entry)) ∷ []) ⌝ }
+    ensures { λ _. ⌜ now (keys .exit) ≡ sets (now (keys .entry)) (viewOf builder (now (blocks .entry)) (now (keys .entry)) .nextKey) (now (key .entry)) ⌝ }
+{
+    let offset = next_key(builder, blocks, keys);
+    let at = STRIDE * builder.n;
+    blocks[at] = block.start;
+    blocks[at + END] = block.end;
+    blocks[at + FIRST_ORDINAL] = block.first_ordinal;
+    blocks[at + KEY_OFFSET] = offset as u64;
+    blocks[at + KEY_LEN] = key.len() as u64;
+    bytes::copy(key, &mut keys[offset..]);
+}

@@ -1,0 +1,182 @@
+// Rows 1 to 7 of the table.
+ghost use mathlib.Core.Path.{_≡_};
+ghost use Prim.Native.Nat.{_+_, _*_, _≤_};
+ghost use lib.ListN.{length};
+ghost use Rattle.builder.specs.Area.{viewOf};
+ghost use Rattle.builder.specs.Rows.{areaBad, AreaOk, keyBad, roomBad, blockNo, addNo, shortenNo};
+use crate::SSTableIndexBuilder;
+use group::BlockAddr;
+
+// A block's record: start, end, first ordinal, key offset, key length.
+pub const STRIDE: usize = 5;
+
+pub const END: usize = 1;
+
+pub const FIRST_ORDINAL: usize = 2;
+
+pub const KEY_OFFSET: usize = 3;
+
+pub const KEY_LEN: usize = 4;
+
+const MAX_BLOCKS: usize = 65536;
+
+const MAX_KEY_LEN: usize = 1024;
+
+// Row 1: whether the builder's count and its last key don't fit the areas.
+pub fn area_bad(builder: SSTableIndexBuilder, blocks: &[u64], keys: &[u8]) -> bool
+    ensures { λ r. ⌜ r ≡ areaBad (viewOf builder (now (blocks .entry)) (now (keys .entry))) ⌝ }
+{
+    let n = builder.n;
+    if n > MAX_BLOCKS {
+        return true;
+    }
+    if STRIDE * n > blocks.len() {
+        return true;
+    }
+    if n == 0 {
+        return false;
+    }
+    let at = STRIDE * (n - 1);
+    let offset = blocks[at + KEY_OFFSET];
+    let len = blocks[at + KEY_LEN];
+    let room = keys.len() as u64;
+    if offset > room {
+        return true;
+    }
+    len > room - offset
+}
+
+// Where the next key goes.
+pub fn next_key(builder: SSTableIndexBuilder, blocks: &[u64], keys: &[u8]) -> usize
+    requires { ⌜ AreaOk (viewOf builder (now blocks) (now keys)) ⌝ }
+    ensures { λ r. ⌜ r ≡ viewOf builder (now (blocks .entry)) (now (keys .entry)) .nextKey ⌝ }
+{
+    let n = builder.n;
+    if n == 0 {
+        return 0;
+    }
+    let at = STRIDE * (n - 1);
+    blocks[at + KEY_OFFSET] as usize + blocks[at + KEY_LEN] as usize
+}
+
+// Row 6: whether a key isn't above the last separator.
+pub fn key_bad(builder: SSTableIndexBuilder, blocks: &[u64], keys: &[u8], key: &[u8]) -> bool
+    requires { ⌜ AreaOk (viewOf builder (now blocks) (now keys)) ⌝ }
+    ensures { λ r. ⌜ r ≡ keyBad (viewOf builder (now (blocks .entry)) (now (keys .entry))) (now (key .entry)) ⌝ }
+{
+    let n = builder.n;
+    if n == 0 {
+        return false;
+    }
+    let at = STRIDE * (n - 1);
+    let offset = blocks[at + KEY_OFFSET] as usize;
+    let end = offset + blocks[at + KEY_LEN] as usize;
+    !keys::lt(&keys[offset..end], key)
+}
+
+// The block before the next one, if there is one.
+fn last_block(builder: SSTableIndexBuilder, blocks: &[u64], keys: &[u8]) -> BlockAddr
+    requires { ⌜ AreaOk (viewOf builder (now blocks) (now keys)) ⌝ }
+    ensures { λ r. ⌜ r ≡ viewOf builder (now (blocks .entry)) (now (keys .entry)) .last ⌝ }
+{
+    let n = builder.n;
+    if n == 0 {
+        return BlockAddr {
+            start: 0,
+            end: 0,
+            first_ordinal: 0,
+        };
+    }
+    let at = STRIDE * (n - 1);
+    BlockAddr {
+        start: blocks[at],
+        end: blocks[at + END],
+        first_ordinal: blocks[at + FIRST_ORDINAL],
+    }
+}
+
+// Rows 2 to 6 for a block and its key behind the builder's blocks.
+pub fn block_no(
+    builder: SSTableIndexBuilder,
+    blocks: &[u64],
+    keys: &[u8],
+    key: &[u8],
+    block: BlockAddr,
+) -> u32
+    requires { ⌜ AreaOk (viewOf builder (now blocks) (now keys)) ⌝ }
+    ensures { λ r. ⌜ r ≡ blockNo (viewOf builder (now (blocks .entry)) (now (keys .entry))) (now (key .entry)) block ⌝ }
+{
+    if key.len() > MAX_KEY_LEN {
+        return 2;
+    }
+    if group::rows::numbers_bad(block) {
+        return 3;
+    }
+    if builder.n > 0 {
+        let last = last_block(builder, blocks, keys);
+        if group::rows::join_bad(last, block) {
+            return 4;
+        }
+        if group::rows::ordinal_bad(last, block) {
+            return 5;
+        }
+    }
+    if key_bad(builder, blocks, keys, key) {
+        return 6;
+    }
+    0
+}
+
+// Row 7: whether there is no room for a block.
+fn room_bad(builder: SSTableIndexBuilder, blocks: &[u64], keys: &[u8], key: &[u8]) -> bool
+    requires { ⌜ AreaOk (viewOf builder (now blocks) (now keys)) ⌝ }
+    ensures { λ r. ⌜ r ≡ roomBad (viewOf builder (now (blocks .entry)) (now (keys .entry))) (now (key .entry)) ⌝ }
+{
+    let n = builder.n;
+    if n == MAX_BLOCKS {
+        return true;
+    }
+    if blocks.len() < STRIDE * n + STRIDE {
+        return true;
+    }
+    keys.len() - next_key(builder, blocks, keys) < key.len()
+}
+
+// The number that an add answers.
+pub fn add_no(
+    builder: SSTableIndexBuilder,
+    blocks: &[u64],
+    keys: &[u8],
+    key: &[u8],
+    block: BlockAddr,
+) -> u32
+    ensures { λ r. ⌜ r ≡ addNo (viewOf builder (now (blocks .entry)) (now (keys .entry))) (now (key .entry)) block ⌝ }
+{
+    if area_bad(builder, blocks, keys) {
+        return 1;
+    }
+    let no = block_no(builder, blocks, keys, key, block);
+    if no != 0 {
+        return no;
+    }
+    if room_bad(builder, blocks, keys, key) {
+        return 7;
+    }
+    0
+}
+
+// The number that a shorten answers.
+pub fn shorten_no(builder: SSTableIndexBuilder, blocks: &[u64], keys: &[u8], next_key: &[u8]) -> u32
+    ensures { λ r. ⌜ r ≡ shortenNo (viewOf builder (now (blocks .entry)) (now (keys .entry))) (now («next_key» .entry)) ⌝ }
+{
+    if area_bad(builder, blocks, keys) {
+        return 1;
+    }
+    if next_key.len() > MAX_KEY_LEN {
+        return 2;
+    }
+    if key_bad(builder, blocks, keys, next_key) {
+        return 6;
+    }
+    0
+}

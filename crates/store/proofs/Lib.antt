@@ -1,0 +1,4 @@
+pub mod Groups
+pub mod Lookup
+pub mod Stored
+pub mod ReadBack

@@ -1,0 +1,25 @@
+-- What the functions that write and read a store ask.
+use Prim.Native.Nat.{ℕ, _*_, _≤_}
+use mathlib.Core.List.{List}
+use lib.ListN.{length}
+use Rattle.group.specs.Blocks.{blockAt}
+use Rattle.group.specs.Legal.{Legal}
+use Rattle.store.specs.Store.{groupCount}
+
+-- a group's length
+pub record GroupLen (L : ℕ) : Type 0 where
+  pub some : 1 ≤ L
+  pub few : L ≤ 256
+
+-- n legal blocks that stand in the area
+pub record StoreArea (area : List ℕ) (stride n : ℕ) : Type 0 where
+  pub few : n ≤ 65536
+  pub wide : 3 ≤ stride
+  pub inside : stride * n ≤ length area
+  pub legal : Legal (blockAt area stride) n
+
+-- group records for n blocks
+pub record Records (L : ℕ) (recs : List ℕ) (n : ℕ) : Type 0 where
+  pub some : 1 ≤ n
+  pub few : n ≤ 65536
+  pub long : 36 * groupCount L n ≤ length recs

@@ -1,0 +1,66 @@
+-- Block i of a store, read from its group records and its address bytes (document 01, "Opening and lookups").
+use Prim.Native.Nat.{ℕ, suc, _+_, _-_, _*_, _/_, _%_, _≤_, _<_, min}
+use mathlib.Core.Path.{_≡_}
+use mathlib.Core.List.{List}
+use mathlib.Core.Bool.{Bool, false, _||_, cond}
+use lib.Dec.{ltb, leb}
+use lib.ListN.{length, drop}
+use Rattle.serialize.specs.Digits.{leVal}
+use Rattle.group.specs.declared.BlockAddr.{BlockAddr}
+use Rattle.group.specs.declared.BlockAddrBlockMetadata.{BlockAddrBlockMetadata}
+use Rattle.group.specs.Legal.{limit, NumbersOk, Legal}
+use Rattle.group.specs.Rows.{numbersBad}
+use Rattle.group.specs.Meta.{metaAt}
+use Rattle.group.specs.Read.{groupBad, blockRead}
+use Rattle.store.specs.Store.{groupCount}
+use Rattle.store.specs.declared.Got.{Got}
+use Rattle.store.specs.declared.Got.the-variants.{Block, Broken}
+use Rattle.store.specs.declared.Located.{Located}
+use Rattle.store.specs.declared.Located.the-variants.{At, Below, Unsound}
+
+-- the record of group g
+abbrev pub groupMeta : List ℕ → ℕ → BlockAddrBlockMetadata
+groupMeta recs g = metaAt recs (36 * g)
+
+-- how many of n blocks group g has
+abbrev pub groupLen : ℕ → ℕ → ℕ → ℕ
+groupLen L n g = min L (n - L * g)
+
+-- block i
+unfoldable pub storeBlock : ℕ → List ℕ → List ℕ → ℕ → BlockAddr
+storeBlock L recs addr i =
+    blockRead (groupMeta recs (i / L)) (leVal (drop (groupMeta recs (i / L) .offset) addr)) (i % L)
+
+-- a group that breaks row 15, or whose first values are outside row 16's range
+unfoldable pub metaBad : ℕ → List ℕ → List ℕ → ℕ → ℕ → Bool
+metaBad L recs addr n g =
+    groupBad (groupMeta recs g) (groupLen L n g) (length addr)
+    || (leb limit (groupMeta recs g .«range_start») || leb limit (groupMeta recs g .«first_ordinal»))
+
+-- what a lookup of block i finds: it, or that its group is broken or its numbers break row 3 (row 20)
+unfoldable pub storeGet : ℕ → List ℕ → List ℕ → ℕ → ℕ → Got
+storeGet L recs addr n i =
+    cond (metaBad L recs addr n (i / L)) Broken (cond (numbersBad (storeBlock L recs addr i)) Broken (Block (storeBlock L recs addr i)))
+
+-- a store of n blocks that keeps rows 15 and 16
+pub record StoreOk (L : ℕ) (recs addr : List ℕ) (n : ℕ) : Type 0 where
+  pub groups : (g : ℕ) → g < groupCount L n → metaBad L recs addr n g ≡ false
+  pub legal : Legal (storeBlock L recs addr) n
+
+-- i is the last of n numbers that are at or below x
+pub record Last (f : ℕ → ℕ) (n x i : ℕ) : Type 0 where
+  pub inside : i < n
+  pub at-most : f i ≤ x
+  pub later : (j : ℕ) → i < j → j < n → x < f j
+
+-- what an ordinal's lookup may answer in every case, and what it answers in a store that keeps the rules:
+-- the last block whose first ordinal is at or below it, or that there is none
+unfoldable pub LocatedIn : ℕ → Located → Type 0
+LocatedIn n (At i b) = (i < n) × NumbersOk b
+LocatedIn n Below = Unit {0}
+LocatedIn n Unsound = Unit {0}
+
+unfoldable pub LocatedAs : (ℕ → BlockAddr) → ℕ → ℕ → Located → Type 0
+LocatedAs block n ord (At i b) = Last (λ j. block j .«first_ordinal») n ord i × (b ≡ block i)
+LocatedAs block n ord Below = ord < block 0 .«first_ordinal»
+LocatedAs block n ord Unsound = ⊥

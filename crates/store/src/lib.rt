@@ -1,0 +1,18 @@
+// The address store: `BlockAddrStoreWriter` and `BlockAddrStore` of src/index/v3.rs.
+pub mod read;
+pub mod write;
+
+use group::BlockAddr;
+
+// A block that was looked up, or a group that breaks its rules.
+pub enum Got {
+    Block(BlockAddr),
+    Broken,
+}
+
+// The block for an ordinal, an ordinal below the first, or a group that breaks its rules.
+pub enum Located {
+    At(usize, BlockAddr),
+    Below,
+    Unsound,
+}

@@ -1,0 +1,104 @@
+// Reading a store: by id and by ordinal.
+ghost use mathlib.Core.Path.{_≡_};
+ghost use mathlib.Core.Bool.{_||_};
+ghost use Prim.Native.Nat.{_+_, _*_, _≤_, _<_};
+ghost use lib.Dec.{leb};
+ghost use lib.ListN.{length};
+ghost use Rattle.group.specs.Legal.{limit};
+ghost use Rattle.group.specs.Read.{groupBad};
+ghost use Rattle.store.specs.Read.{groupMeta, groupLen, storeGet, storeBlock, StoreOk, LocatedIn, LocatedAs};
+ghost use Rattle.store.specs.Facts.{GroupLen, Records};
+use crate::Got;
+use crate::Located;
+use group::BlockAddrBlockMetadata;
+
+const META_LEN: usize = 36;
+// The place of the first ordinal in a group record.
+const FIRST_ORDINAL: usize = 16;
+
+// How many blocks group g has.
+fn blocks_in(n: usize, group_len: usize, g: usize) -> usize
+    requires { ⌜ «group_len» * g ≤ n ⌝ }
+    ensures { λ r. ⌜ r ≡ groupLen «group_len» n g ⌝ }
+{
+    let left = n - group_len * g;
+    if group_len < left { group_len } else { left }
+}
+
+// Whether a group can't be read.
+fn meta_bad(meta: BlockAddrBlockMetadata, count: usize, addr_len: usize) -> bool
+    ensures { λ r. ⌜ r ≡ (groupBad meta count «addr_len» || (leb limit (meta .«range_start») || leb limit (meta .«first_ordinal»))) ⌝ }
+{
+    if group::read::group_bad(meta, count, addr_len) {
+        return true;
+    }
+    if meta.range_start >= group::rows::LIMIT {
+        return true;
+    }
+    meta.first_ordinal >= group::rows::LIMIT
+}
+
+// Block `block_id` of n.
+pub fn get(metas: &[u8], addrs: &[u8], n: usize, group_len: usize, block_id: usize) -> Got
+    requires { ⌜ GroupLen «group_len» × Records «group_len» (now metas) n × («block_id» < n) ⌝ }
+    ensures { λ r. ⌜ r ≡ storeGet «group_len» (now (metas .entry)) (now (addrs .entry)) n «block_id» ⌝ }
+{
+    let g = block_id / group_len;
+    let meta = group::meta::deserialize(metas, META_LEN * g);
+    if meta_bad(meta, blocks_in(n, group_len, g), addrs.len()) {
+        return Got::Broken;
+    }
+    let offset = meta.offset as usize;
+    let block = group::read::deserialize_block_addr(meta, &addrs[offset..], block_id % group_len);
+    if group::rows::numbers_bad(block) {
+        return Got::Broken;
+    }
+    Got::Block(block)
+}
+
+// The last group whose first ordinal is at or below `ord`, if ordinals rise and the first group's is.
+fn bisect_groups(metas: &[u8], groups: usize, ord: u64) -> usize
+    requires { ⌜ (1 ≤ groups) × (groups ≤ 65536) × (36 * groups ≤ length (now metas)) ⌝ }
+    ensures { λ r. ⌜ (r < groups) × (0 < r → groupMeta (now (metas .entry)) r .«first_ordinal» ≤ ord) × (r + 1 < groups → ord < groupMeta (now (metas .entry)) (r + 1) .«first_ordinal») ⌝ }
+{
+    let mut left: usize = 0;
+    let mut right = groups;
+    while left + 1 < right {
+        let mid = left + (right - left) / 2;
+        if serialize::deserialize_u64(metas, META_LEN * mid + FIRST_ORDINAL) <= ord {
+            left = mid;
+        } else {
+            right = mid;
+        }
+    }
+    left
+}
+
+// The last block whose first ordinal is at or below `ord`.
+pub fn binary_search_ord(
+    metas: &[u8],
+    addrs: &[u8],
+    n: usize,
+    group_len: usize,
+    ord: u64,
+) -> Located
+    requires { ⌜ GroupLen «group_len» × Records «group_len» (now metas) n ⌝ }
+    ensures { λ r. ⌜ LocatedIn n r ⌝ }
+    ensures { λ r. ⌜ (StoreOk «group_len» (now (metas .entry)) (now (addrs .entry)) n → LocatedAs (storeBlock «group_len» (now (metas .entry)) (now (addrs .entry))) n ord r) ⌝ }
+{
+    let g = bisect_groups(metas, crate::write::group_count(n, group_len), ord);
+    let meta = group::meta::deserialize(metas, META_LEN * g);
+    if meta_bad(meta, blocks_in(n, group_len, g), addrs.len()) {
+        return Located::Unsound;
+    }
+    if meta.first_ordinal > ord {
+        return Located::Below;
+    }
+    let offset = meta.offset as usize;
+    let inner = group::read::bisect_for_ord(meta, &addrs[offset..], ord);
+    let block = group::read::deserialize_block_addr(meta, &addrs[offset..], inner);
+    if group::rows::numbers_bad(block) {
+        return Located::Unsound;
+    }
+    Located::At(group_len * g + inner, block)
+}
