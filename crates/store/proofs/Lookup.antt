@@ -4,7 +4,7 @@ use mathlib.Core.Bool.{Bool, true, false, _||_, true≢false}
 use mathlib.Core.List.{List}
 use mathlib.Core.Logic.{⊎-elim}
 use Prim.Native.Nat.{ℕ, zero, suc, _+_, _-_, _*_, _/_, _%_, _≤_, _<_}
-use native.Mathlib.Nat.{add-zero, add-assoc, mul-comm, mul-suc, suc-mul, mod-lt, mod-eq-of-lt, le-refl, mul-le-mul, div-eq-of-lt, div-add-mod, mul-div-le, mul-add-div, mul-add-mod-self-left, le-div-iff-mul-le, eq-or-lt-of-le, lt-of-not-le, le-of-suc-le-suc}
+use native.Mathlib.Nat.{add-zero, add-assoc, mul-comm, mul-suc, suc-mul, mod-lt, mod-eq-of-lt, le-refl, mul-le-mul, div-eq-of-lt, div-add-mod, mul-div-le, mul-add-div, mul-add-mod-self-left, eq-or-lt-of-le, lt-of-not-le, le-of-suc-le-suc}
 use native.Mathlib.Numerals.{add-one}
 use native.Mathlib.Omega.{arith}
 use lib.Dec.{leb}
@@ -22,34 +22,19 @@ use Rattle.group.proofs.Reading.{GroupOk, group-ok, readable}
 use Rattle.store.specs.Store.{groupCount}
 use Rattle.store.specs.Read.{groupMeta, groupLen, storeBlock, metaBad, storeGet, StoreOk, Last}
 use Rattle.store.specs.declared.Got.the-variants.{Block}
+use Rattle.store.proofs.Groups.{group-count-lt}
 
 -- ---- groups
 
 module _ (L n : ℕ) (some : 1 ≤ L) where
-  -- a group is there exactly if its first block is
-  pub group-begins : (g : ℕ) → g < groupCount L n → L * g < n
-  group-begins g h =
-      let p : 0 < L = omega arith in
-      let t : suc g * L ≤ n + (L - 1) = le-div-iff-mul-le p .0 h in
-      omega (arith, mul-comm L g, suc-mul g L)
-
-  pub group-there : (g : ℕ) → L * g < n → g < groupCount L n
-  group-there g h =
-      let p : 0 < L = omega arith in
-      let t : suc g * L ≤ n + (L - 1) = omega (arith, mul-comm L g, suc-mul g L) in
-      le-div-iff-mul-le p .1 t
-
   pub groups-some : 1 ≤ n → 1 ≤ groupCount L n
-  groups-some h = group-there 0 (omega arith)
-
-  pub groups-few : groupCount L n ≤ n
-  groups-few = le-of-suc-le-suc (lt-of-not-le (λ (h : n < groupCount L n). let begins = group-begins n h in let most : 1 * n ≤ L * n = mul-le-mul some (le-refl n) in omega arith))
+  groups-some h = group-count-lt some n 0 (omega arith)
 
   pub block-begins : (i : ℕ) → i < n → L * (i / L) < n
   block-begins i h = omega (arith, mul-div-le i L)
 
   pub block-there : (i : ℕ) → i < n → i / L < groupCount L n
-  block-there i h = group-there (i / L) (block-begins i h)
+  block-there i h = group-count-lt some n (i / L) (block-begins i h)
 
   -- a block's place in its group
   pub inner-there : (i : ℕ) → i < n → i % L < groupLen L n (i / L)
@@ -172,7 +157,7 @@ module _ (L : ℕ) (recs addr : List ℕ) (n ord g j : ℕ) (some : 1 ≤ L) (ok
       (λ (e : suc j ≡ L).
       let seam : L * g + j + 1 ≡ L * (g + 1) = omega (arith, mul-suc L g, ap (λ (x : ℕ). L * x) (add-one g)) in
       let same : ordinal (L * g + j + 1) ≡ groupMeta recs (g + 1) .«first_ordinal» = ap ordinal seam ∙ first-of-group L recs addr some (g + 1) in
-      let above = next-group (group-there L n some (g + 1) (omega arith)) in
+      let above = next-group (group-count-lt some n (g + 1) (omega arith)) in
       rw same above)
       (λ (l : suc j < L).
       let same : ordinal (L * g + j + 1) ≡ ordinalRead (groupMeta recs g) (leVal (drop (groupMeta recs g .offset) addr)) (j + 1) =

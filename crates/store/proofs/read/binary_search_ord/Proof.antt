@@ -16,7 +16,8 @@ use Rattle.group.proofs.Legal.{numbers-ok, numbers-good}
 use Rattle.group.proofs.Reading.{GroupOk}
 use Rattle.store.specs.Store.{groupCount}
 use Rattle.store.specs.Read.{groupMeta, groupLen, storeBlock, metaBad, StoreOk, Last, LocatedIn, LocatedAs}
-use Rattle.store.proofs.Lookup.{groups-some, groups-few, group-begins, block-of-group, first-of-group, group-kept, part-readable, bad-is, part-is, block-is, last-found}
+use Rattle.store.proofs.Groups.{group-count-le, group-first-lt}
+use Rattle.store.proofs.Lookup.{groups-some, block-of-group, first-of-group, group-kept, part-readable, bad-is, part-is, block-is, last-found}
 use Rattle.store.proofs.read.binary_search_ord.Statement.{statement}
 use Rattle.store.proofs.read.binary_search_ord.Tie as tie
 
@@ -41,7 +42,7 @@ group-count-requires c κs = search needs
 bisect-groups-requires : tie.Need-bisect-groups-requires
 bisect-groups-requires c κs =
     let s = c .before .before .before in
-    omega (arith, c .group-count .ensures, groups-some (s .args .group-len) (s .args .n) (s .pre .0 .some) (s .pre .1 .some), groups-few (s .args .group-len) (s .args .n) (s .pre .0 .some))
+    omega (arith, c .group-count .ensures, groups-some (s .args .group-len) (s .args .n) (s .pre .0 .some) (s .pre .1 .some), group-count-le (s .pre .0 .some) (s .args .n))
 
 mul-deserialize : tie.Need-mul-deserialize
 mul-deserialize c = search needs
@@ -54,7 +55,7 @@ there : (c : tie.After-bisect-groups) → c .bisect-groups .result < groupCount 
 there c = omega (arith, c .bisect-groups .ensures .0, c .before .group-count .ensures)
 
 begins : (c : tie.After-bisect-groups) → c .before .before .before .before .args .group-len * c .bisect-groups .result < c .before .before .before .before .args .n
-begins c = let s = c .before .before .before .before in group-begins (s .args .group-len) (s .args .n) (s .pre .0 .some) (c .bisect-groups .result) (there c)
+begins c = let s = c .before .before .before .before in group-first-lt (s .pre .0 .some) (s .args .n) (c .bisect-groups .result) (there c)
 
 blocks-in-requires : tie.Need-blocks-in-requires
 blocks-in-requires c κs = omega (arith, begins (c .before))
