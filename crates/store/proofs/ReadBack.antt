@@ -11,7 +11,9 @@ use lib.ListN.{length, take, drop, length-append, length-take, length-drop}
 use lib.Seq.{ext-getD, getD-take, getD-drop, take-at, drop-at}
 use Rattle.serialize.specs.Digits.{leVal, leBytes, Below}
 use Rattle.serialize.proofs.Digits.{length-digits, digits-inj, below-drop}
-use Rattle.group.specs.Blocks.{blockOf}
+use Rattle.slope.specs.Slope.{bestSlope}
+use Rattle.slope.proofs.Widths.{bestSlope-lt}
+use Rattle.group.specs.Blocks.{blockOf, blocksAt}
 use Rattle.group.specs.Legal.{limit, Legal}
 use Rattle.group.specs.Write.{metaOf, groupNumber, addrBytes}
 use Rattle.group.specs.Read.{blockRead}
@@ -20,16 +22,16 @@ use Rattle.group.specs.declared.BlockAddr.{BlockAddr}
 use Rattle.group.specs.declared.BlockAddrBlockMetadata.{BlockAddrBlockMetadata}
 use Rattle.group.proofs.Limit.{limit-high}
 use Rattle.group.proofs.Legal.{numbers-good}
-use Rattle.group.proofs.Blocks.{legal-same}
+use Rattle.group.proofs.Blocks.{length-blocksAt, legal-same}
 use Rattle.group.proofs.Metadata.{MetaFits, meta-back}
 use Rattle.group.proofs.Written.{fits, length-addrBytes}
 use Rattle.group.proofs.Reading.{GroupOk, group-not-bad}
 use Rattle.group.proofs.Back.{block-back}
 use Rattle.store.specs.Store.{groupCount, groupAddrs, records, addrs, storeBytes}
 use Rattle.store.specs.Read.{groupMeta, groupLen, storeBlock, metaBad, storeGet, StoreOk}
-use Rattle.store.specs.Facts.{GroupLen}
+use Rattle.store.specs.Facts.{GroupLen, StoreArea}
 use Rattle.store.specs.declared.Got.the-variants.{Block}
-use Rattle.store.proofs.Groups.{group-count-above, group-count-below, group-count-lt, group-first-lt, group-count-le, legal-take, legal-drop}
+use Rattle.store.proofs.Groups.{group-count-above, group-count-below, group-count-lt, group-first-lt, group-count-le, legal-take, legal-drop, store-legal}
 use Rattle.store.proofs.Stored.{below-append, length-records, addrs-le, group-cons, record-at, bits-at, bits-inside, addrs-below}
 
 -- records and address bytes that give the blocks bs
@@ -45,6 +47,15 @@ pub record Storable (choose : List ℕ → ℕ) (L : ℕ) (bs : List BlockAddr) 
   pub group : GroupLen L
   pub few : length bs ≤ 65536
   pub legal : Legal (blockOf bs) (length bs)
+
+-- the blocks of an area, as they are written
+pub area-storable : {area : List ℕ} {stride n L : ℕ} → StoreArea area stride n → GroupLen L → Storable bestSlope L (blocksAt area stride 0 n)
+area-storable {area} {stride} {n} store group = record {
+  slopes = bestSlope-lt;
+  group = group;
+  few = rw (length-blocksAt area stride 0 n) (store .few);
+  legal = store-legal store;
+}
 
 -- ---- one group
 
