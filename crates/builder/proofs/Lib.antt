@@ -5,3 +5,8 @@ pub mod Machine
 pub mod Rules
 pub mod OneByte
 pub mod Indexed
+pub mod Row8
+pub mod IndexWritten
+pub mod FinishNumbers
+pub mod IndexBytes
+pub mod Finishing

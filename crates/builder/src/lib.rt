@@ -1,10 +1,12 @@
 // The index builder: `SSTableIndexBuilder` of src/index/mod.rs over two lent areas.
 mod add;
+mod finish;
 mod rows;
 mod shorten;
 
 ghost use mathlib.Core.Path.{_≡_};
 ghost use Rattle.builder.specs.Calls.{after, addDef, shortenDef};
+ghost use Rattle.builder.specs.Finish.{finish as finishOf, finishDef, finishLenDef};
 use group::BlockAddr;
 
 pub struct SSTableIndexBuilder {
@@ -15,6 +17,18 @@ pub struct SSTableIndexBuilder {
 pub enum Answer {
     Taken(SSTableIndexBuilder),
     Refused(u32, SSTableIndexBuilder),
+}
+
+// The index's and its directory's length, or a row's number; and the builder as it was.
+pub enum Finished {
+    Written(SSTableIndexBuilder, usize, usize),
+    Unwritten(u32, SSTableIndexBuilder),
+}
+
+// The length that a finish would need, or a row's number.
+pub enum FinishLen {
+    Total(usize),
+    Refused(u32),
 }
 
 impl SSTableIndexBuilder {
@@ -52,5 +66,35 @@ impl SSTableIndexBuilder {
         }
         shorten::shorten_last(self, blocks, keys, next_key);
         Answer::Taken(self)
+    }
+
+    // Writes the index from the front of `out` on: the Rust's `serialize`.
+    pub fn finish(self, blocks: &[u64], keys: &[u8], out: &mut [u8]) -> Finished
+        ensures { λ r. ⌜ finishOf r (now (out .exit)) ≡ finishDef self (now (blocks .entry)) (now (keys .entry)) (now (out .entry)) ⌝ }
+    {
+        let no = finish::list_no(self, blocks, keys);
+        if no != 0 {
+            return Finished::Unwritten(no, self);
+        }
+        let total = finish::index_len(self, blocks, keys);
+        if out.len() < total {
+            return Finished::Unwritten(9, self);
+        }
+        if self.n < 2 {
+            return Finished::Written(self, 0, 0);
+        }
+        let directory = finish::write_index(self, blocks, keys, out);
+        Finished::Written(self, total, directory)
+    }
+
+    // The total that a finish would need: rows 1 and 8 as finish has them.
+    pub fn finish_len(self, blocks: &[u64], keys: &[u8]) -> FinishLen
+        ensures { λ r. ⌜ r ≡ finishLenDef self (now (blocks .entry)) (now (keys .entry)) ⌝ }
+    {
+        let no = finish::list_no(self, blocks, keys);
+        if no != 0 {
+            return FinishLen::Refused(no);
+        }
+        FinishLen::Total(finish::index_len(self, blocks, keys))
     }
 }

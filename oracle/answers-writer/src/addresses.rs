@@ -24,7 +24,7 @@ pub fn list() -> String {
         "o STORE N ORDINAL ID START END ORD: binary_search_ord; the block's id, and its address as above.",
         "Ordinals below the first, where the Rust panics, are left out.",
         "",
-        "Stores of the list stores.txt",
+        "Stores of the list above",
     ]);
     let blocks = worked::BLOCKS;
     look_up(

@@ -1,0 +1,194 @@
+-- Row 8: the tests block by block, and what they give the writers where none is hit.
+use Prim.Native.Nat.{ℕ, zero, suc, _+_, _-_, _≤_, _<_}
+use mathlib.Core.Path.{_≡_, refl, sym, ap, _∙_}
+use mathlib.Core.List.{List}
+use mathlib.Core.Bool.{Bool, true, false, not, _||_}
+use native.Mathlib.Numerals.{add-one}
+use native.Mathlib.Omega.{arith}
+use lib.Dec.{eqb}
+use lib.ListN.{length, length-take, length-drop}
+use borrow.Author.Tests.{eqb-true, eqb-false, eq-eqb, ne-eqb, not-false}
+use Rattle.keys.proofs.Order.{by-test}
+use Rattle.group.specs.Legal.{Follows}
+use Rattle.directory.specs.Facts.{KeysArea}
+use Rattle.store.specs.Facts.{GroupLen, StoreArea}
+use Rattle.builder.specs.Area.{keyOffset, keyLen, areaBlock, areaKey, areaView, viewOf}
+use Rattle.builder.specs.Rows.{areaBad, AreaOk, blockNo}
+use Rattle.builder.specs.Finish.{offsetsBad, rulesBad, listNo}
+use Rattle.builder.specs.declared.SSTableIndexBuilder.{SSTableIndexBuilder}
+use Rattle.builder.proofs.Numbers.{BlockOk, block-ok}
+use Rattle.builder.proofs.Views.{or-false, area-ok, next-none, next-some, last-some}
+
+-- ---- a test of every block
+
+or-left : (a b : Bool) → a ≡ true → (a || b) ≡ true
+or-left a b e = simp e
+
+or-right : (a b : Bool) → b ≡ true → (a || b) ≡ true
+or-right true b e = refl
+or-right false b e = e
+
+module _ (bad test : ℕ → Bool) (turn : (m : ℕ) → bad (suc m) ≡ (bad m || test m)) where
+  some-hit : (m n : ℕ) → m < n → test m ≡ true → bad n ≡ true
+  some-hit m zero h e = absurd (omega arith)
+  some-hit m (suc n) h e =
+      turn n
+      ∙ by-test (eqb m n)
+      (λ t. or-right (bad n) (test n) (sym (ap test (eqb-true m n t)) ∙ e))
+      (λ t. or-left (bad n) (test n) (some-hit m n (omega (arith, eqb-false m n t)) e))
+
+  none-next : (m : ℕ) → bad m ≡ false → test m ≡ false → bad (m + 1) ≡ false
+  none-next m f e = rw (add-one m, turn m, f, e)
+
+  none-at : (n : ℕ) → bad n ≡ false → (i : ℕ) → i < n → test i ≡ false
+  none-at n f i h =
+      by-test (test i)
+      (λ t.
+      let z : true ≡ false = sym (some-hit i n h t) ∙ f in
+      t ∙ z)
+      (λ t. t)
+
+module _ (B K : List ℕ) where
+  -- where the key of block m ends
+  pub next-suc : (m : ℕ) → areaView (suc m) B K .nextKey ≡ keyOffset B m + keyLen B m
+  next-suc m =
+      let one : suc m - 1 ≡ m = omega arith in
+      next-some (suc m) B K (λ z. omega arith) ∙ ap (λ (k : ℕ). keyOffset B k + keyLen B k) one
+
+  pub next-one : (m : ℕ) → areaView (m + 1) B K .nextKey ≡ keyOffset B m + keyLen B m
+  next-one m = rw (add-one m) (next-suc m)
+
+  pub last-suc : (m : ℕ) → areaView (suc m) B K .last ≡ areaBlock B m
+  last-suc m =
+      let one : suc m - 1 ≡ m = omega arith in
+      last-some (suc m) B K (λ z. omega arith) ∙ ap (areaBlock B) one
+
+  -- ---- the offsets
+
+  pub offsets-hit : (m n : ℕ) → m < n → (keyOffset B m ≡ areaView m B K .nextKey → ⊥) → true ≡ offsetsBad n B K
+  unfolding offsetsBad
+  offsets-hit m n h ne =
+      sym (some-hit (λ (k : ℕ). offsetsBad k B K) (λ (k : ℕ). not (eqb (keyOffset B k) (areaView k B K .nextKey))) (λ k. refl) m n h (ap not (ne-eqb _ _ ne)))
+
+  pub offsets-next : (m : ℕ) → offsetsBad m B K ≡ false → keyOffset B m ≡ areaView m B K .nextKey → offsetsBad (m + 1) B K ≡ false
+  unfolding offsetsBad
+  offsets-next m f e =
+      none-next (λ (k : ℕ). offsetsBad k B K) (λ (k : ℕ). not (eqb (keyOffset B k) (areaView k B K .nextKey))) (λ k. refl) m f (ap not (eq-eqb _ _ e))
+
+  pub offsets-at : (n : ℕ) → offsetsBad n B K ≡ false → (i : ℕ) → i < n → keyOffset B i ≡ areaView i B K .nextKey
+  unfolding offsetsBad
+  offsets-at n f i h =
+      eqb-true (keyOffset B i) (areaView i B K .nextKey)
+      (not-false _ (none-at (λ (k : ℕ). offsetsBad k B K) (λ (k : ℕ). not (eqb (keyOffset B k) (areaView k B K .nextKey))) (λ k. refl) n f i h))
+
+  -- ---- rows 2 to 6
+
+  pub rules-hit : (m n : ℕ) → m < n → not (eqb (blockNo (areaView m B K) (areaKey B K m) (areaBlock B m)) 0) ≡ true → true ≡ rulesBad n B K
+  unfolding rulesBad
+  rules-hit m n h t =
+      sym (some-hit (λ (k : ℕ). rulesBad k B K) (λ (k : ℕ). not (eqb (blockNo (areaView k B K) (areaKey B K k) (areaBlock B k)) 0)) (λ k. refl) m n h t)
+
+  pub rules-next : (m : ℕ) → rulesBad m B K ≡ false → not (eqb (blockNo (areaView m B K) (areaKey B K m) (areaBlock B m)) 0) ≡ false → rulesBad (m + 1) B K ≡ false
+  unfolding rulesBad
+  rules-next m f t =
+      none-next (λ (k : ℕ). rulesBad k B K) (λ (k : ℕ). not (eqb (blockNo (areaView k B K) (areaKey B K k) (areaBlock B k)) 0)) (λ k. refl) m f t
+
+  pub rules-at : (n : ℕ) → rulesBad n B K ≡ false → (i : ℕ) → i < n → BlockOk (areaView i B K) (areaKey B K i) (areaBlock B i)
+  unfolding rulesBad
+  rules-at n f i h =
+      block-ok (areaView i B K) (areaKey B K i) (areaBlock B i)
+      (eqb-true _ 0 (not-false _ (none-at (λ (k : ℕ). rulesBad k B K) (λ (k : ℕ). not (eqb (blockNo (areaView k B K) (areaKey B K k) (areaBlock B k)) 0)) (λ k. refl) n f i h)))
+
+  -- ---- every front of the blocks fits the areas
+
+  module _ (n : ℕ) (offsets : offsetsBad n B K ≡ false) where
+    next-rises : (j m : ℕ) → m ≤ j → j ≤ n → areaView m B K .nextKey ≤ areaView j B K .nextKey
+    next-rises zero m h l =
+        let none : m ≡ 0 = omega arith in
+        omega (arith, next-none m B K none)
+    next-rises (suc j) m h l =
+        by-test (eqb m (suc j))
+        (λ t. rw (eqb-true m (suc j) t) (omega arith))
+        (λ t. omega (arith, next-rises j m (omega (arith, eqb-false m (suc j) t)) (omega arith), next-suc j, offsets-at n offsets j (omega arith)))
+
+    pub front-ok : AreaOk (areaView n B K) → (m : ℕ) → m ≤ n → AreaOk (areaView m B K)
+    unfolding areaView
+    front-ok ok m h = record {
+      few = omega (arith, ok .few);
+      inside = omega (arith, ok .inside);
+      within = omega (arith, ok .within, next-rises n m h (omega arith));
+    }
+
+    pub key-inside : AreaOk (areaView n B K) → (i : ℕ) → i < n → keyOffset B i + keyLen B i ≤ length K
+    unfolding areaView
+    key-inside ok i h = omega (arith, front-ok ok (suc i) h .within, next-suc i)
+
+-- ---- rows 1 and 8 aren't hit
+
+pub record ListOk (n : ℕ) (B K : List ℕ) : Type 0 where
+  pub area : AreaOk (areaView n B K)
+  pub offsets : offsetsBad n B K ≡ false
+  pub rules : rulesBad n B K ≡ false
+
+pub list-ok : (b : SSTableIndexBuilder) (B K : List ℕ) → listNo b B K ≡ 0 → ListOk (b .n) B K
+unfolding listNo
+list-ok b B K e =
+    by-test (areaBad (viewOf b B K))
+    (λ t. absurd (let z : _≡_ {A = ℕ} 1 0 = simp t at e in omega arith))
+    (λ t. by-test (offsetsBad (b .n) B K || rulesBad (b .n) B K)
+    (λ u. absurd (let z : _≡_ {A = ℕ} 8 0 = simp (t, u) at e in omega arith))
+    (λ u.
+    let p = or-false (offsetsBad (b .n) B K) (rulesBad (b .n) B K) u in
+    record { area = area-ok (viewOf b B K) t; offsets = p .0; rules = p .1 }))
+
+module _ (b : SSTableIndexBuilder) (B K : List ℕ) where
+  pub list-area : areaBad (viewOf b B K) ≡ true → 1 ≡ listNo b B K
+  unfolding listNo
+  list-area e = simp e
+
+  pub list-offsets : areaBad (viewOf b B K) ≡ false → offsetsBad (b .n) B K ≡ true → 8 ≡ listNo b B K
+  unfolding listNo
+  list-offsets e f = simp (e, f)
+
+  pub list-rules : areaBad (viewOf b B K) ≡ false → offsetsBad (b .n) B K ≡ false → rulesBad (b .n) B K ≡ true → 8 ≡ listNo b B K
+  unfolding listNo
+  list-rules e f g = simp (e, f, g)
+
+  pub list-none : areaBad (viewOf b B K) ≡ false → offsetsBad (b .n) B K ≡ false → rulesBad (b .n) B K ≡ false → 0 ≡ listNo b B K
+  unfolding listNo
+  list-none e f g = simp (e, f, g)
+
+-- what the writers of the directory and the store ask
+pub keys-area : (n : ℕ) (B K : List ℕ) → ListOk n B K → KeysArea B 5 3 K n
+unfolding areaView
+keys-area n B K ok = record {
+  few = ok .area .few;
+  place = omega arith;
+  inside = ok .area .inside;
+  short = λ i h.
+      let short : length (areaKey B K i) ≤ 1024 = rules-at B K n (ok .rules) i h .short in
+      omega (arith, simp (length-take, length-drop) at short, key-inside B K n (ok .offsets) (ok .area) i h);
+  within = λ i h. key-inside B K n (ok .offsets) (ok .area) i h;
+}
+
+view-some : (i : ℕ) (B K : List ℕ) → areaView (suc i) B K .n ≡ 0 → ⊥
+unfolding areaView
+view-some i B K z = omega arith
+
+behind-ok : (n : ℕ) (B K : List ℕ) → ListOk n B K → (i : ℕ) → suc i < n → Follows (areaBlock B i) (areaBlock B (suc i))
+behind-ok n B K ok i h = rw (last-suc B K i) at (rules-at B K n (ok .rules) (suc i) h .follows (view-some i B K))
+
+pub store-area : (n : ℕ) (B K : List ℕ) → ListOk n B K → StoreArea B 5 n
+unfolding areaView
+store-area n B K ok = record {
+  few = ok .area .few;
+  wide = omega arith;
+  inside = ok .area .inside;
+  legal = record {
+    numbers = λ i h. rules-at B K n (ok .rules) i h .numbers;
+    follows = behind-ok n B K ok;
+  };
+}
+
+pub group-len : GroupLen 128
+group-len = record { some = omega arith; few = omega arith }

@@ -1,0 +1,153 @@
+// Replays a list of answers, made by running the Rust, against the proved address store, and counts the cases that differ.
+mod blocks;
+mod cases;
+mod hash;
+
+ghost use Prim.Native.Nat.{_≤_};
+ghost use lib.ListN.{length};
+use libc::STDIN_FILENO;
+use libc::STDOUT_FILENO;
+use vectors::Line;
+
+// How many cases were compared, and how many of them differ.
+struct Tally {
+    compared: u64,
+    differ: u64,
+}
+
+// One more, up to the largest number.
+fn more(n: u64) -> u64 {
+    if n < u64::MAX { n + 1 } else { n }
+}
+
+impl Tally {
+    fn with(self, same: bool) -> Tally {
+        let compared = more(self.compared);
+        if same {
+            Tally {
+                compared,
+                differ: self.differ,
+            }
+        } else {
+            Tally {
+                compared,
+                differ: more(self.differ),
+            }
+        }
+    }
+}
+
+// The kind's row among the tallies; 5 where there is no such kind.
+fn row_of(kind: u8) -> usize
+    ensures { λ r. ⌜ r ≤ 5 ⌝ }
+{
+    match kind {
+        b's' => 0,
+        b'h' => 1,
+        b'i' => 2,
+        b'u' => 3,
+        b'o' => 4,
+        _ => 5,
+    }
+}
+
+// How many byte strings a case of a kind has.
+fn strings_of(kind: u8) -> usize {
+    match kind {
+        b's' | b'i' | b'u' | b'o' => 1,
+        _ => 0,
+    }
+}
+
+// Whether a line's answers are those of the proved functions. A bad line has none that are.
+fn same(line: Line, numbers: &[u64], bytes: &[u8], spans: &[usize]) -> bool
+    requires { ⌜ line .numbers ≤ length (now numbers) ⌝ }
+{
+    let kind = line.kind;
+    let count = line.numbers;
+    if !line.good {
+        return false;
+    }
+    if line.strings != strings_of(kind) {
+        return false;
+    }
+    let given = &numbers[0..count];
+    let store = vectors::string(bytes, spans, 0);
+    let mut out = [cases::MARK; 16384];
+    match kind {
+        b's' => cases::same_store(given, store, &mut out),
+        b'h' => cases::same_large(given, &mut out),
+        b'i' => cases::same_id(given, store),
+        b'u' => cases::same_unknown(given),
+        b'o' => cases::same_ordinal(given, store),
+        _ => false,
+    }
+}
+
+// The tallies with one case more: a row for each kind, and behind them all cases.
+fn counted(tallies: [Tally; 6], kind: u8, is_same: bool) -> [Tally; 6] {
+    let mut rows = tallies;
+    let row = row_of(kind);
+    if row < 5 {
+        let tally = rows[row];
+        rows[row] = tally.with(is_same);
+    }
+    let all = rows[5];
+    rows[5] = all.with(is_same);
+    rows
+}
+
+// The tallies of all lines of the list.
+fn replay(text: &[u8], numbers: &mut [u64], bytes: &mut [u8], spans: &mut [usize]) -> [Tally; 6] {
+    let none = Tally {
+        compared: 0,
+        differ: 0,
+    };
+    let mut tallies = [none; 6];
+    let mut at: usize = 0;
+    while at < text.len() {
+        let line = vectors::parse(text, at, numbers, bytes, spans);
+        if line.kind != b'#' {
+            let is_same = same(line, numbers, bytes, spans);
+            let next = counted(tallies, line.kind, is_same);
+            tallies = next;
+        }
+        at = line.next;
+    }
+    tallies
+}
+
+fn print_tally(tally: Tally) {
+    io::print_decimal(STDOUT_FILENO, tally.compared);
+    io::write_all(STDOUT_FILENO, b" compared, ");
+    io::print_decimal(STDOUT_FILENO, tally.differ);
+    io::write_all(STDOUT_FILENO, b" differ\n");
+}
+
+fn print_row(name: &[u8], tally: Tally) {
+    io::write_all(STDOUT_FILENO, name);
+    io::write_all(STDOUT_FILENO, b": ");
+    print_tally(tally);
+}
+
+fn print_all(tallies: [Tally; 6]) {
+    print_row(b"stores", tallies[0]);
+    print_row(b"large stores", tallies[1]);
+    print_row(b"ids", tallies[2]);
+    print_row(b"unknown ids", tallies[3]);
+    print_row(b"ordinals", tallies[4]);
+    print_tally(tallies[5]);
+}
+
+fn main() {
+    let mut text = [0u8; 327680];
+    let n = io::read_full(STDIN_FILENO, &mut text);
+    if n == 327680 {
+        io::write_all(STDOUT_FILENO, b"too long\n");
+        return;
+    }
+    let mut numbers = [0u64; 256];
+    let mut bytes = [0u8; 4096];
+    let mut spans = [0usize; 8];
+    print_all(replay(&text[..n], &mut numbers, &mut bytes, &mut spans));
+}
