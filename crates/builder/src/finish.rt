@@ -73,7 +73,7 @@ fn rules_bad(builder: SSTableIndexBuilder, blocks: &[u64], keys: &[u8]) -> bool
     ensures { λ r. ⌜ r ≡ rulesBad (builder .n) (now (blocks .entry)) (now (keys .entry)) ⌝ }
 {
     let n = builder.n;
-    let mut i: usize = 0;
+    let mut i = 0;
     while i < n {
         if rule_bad(i, blocks, keys) {
             return true;

@@ -1,3 +1,4 @@
 pub mod Directory
 pub mod Keys
 pub mod Facts
+pub mod Read

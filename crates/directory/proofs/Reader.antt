@@ -1,0 +1,42 @@
+-- Laws of reading: what an accepted directory is, that its keys rise, the first key that isn't below, and that what was written is accepted.
+use mathlib.Core.Path.{_≡_, refl, sym, ap, _∙_}
+use mathlib.Core.Bool.{Bool, true, false, true≢false}
+use mathlib.Core.List.{List, []}
+use mathlib.Core.Logic.{⊎-elim}
+use Prim.Native.Nat.{ℕ, zero, suc, _+_, _*_, _≤_, _<_}
+use native.Mathlib.Nat.{eq-or-lt-of-le, le-of-suc-le-suc, lt-of-not-le}
+use native.Mathlib.Omega.{arith}
+use Rattle.keys.specs.Order.{less, _≺_, _≼_}
+use Rattle.keys.proofs.Order.{less-trans}
+use Rattle.directory.specs.Read.{keyOf, Sorted, First}
+
+-- ---- keys that rise
+
+module _ (d : List ℕ) (n : ℕ) (sorted : Sorted d n) where
+  -- between any two of them
+  pub keys-rise : (i j : ℕ) → i < j → j < n → keyOf d n i ≺ keyOf d n j
+  keys-rise i zero h l = absurd (let z : ⊥ = omega arith in z)
+  keys-rise i (suc j) h l =
+      ⊎-elim
+      (λ (e : i ≡ j). rw e (sorted .rises j l))
+      (λ (g : i < j). less-trans (keyOf d n i) (keyOf d n j) (keyOf d n (suc j)) (keys-rise i j g (omega arith)) (sorted .rises j l))
+      (eq-or-lt-of-le (le-of-suc-le-suc h))
+
+  -- with key m below a key, all up to it are
+  pub all-below : (m : ℕ) (key : List ℕ) → m < n → keyOf d n m ≺ key → (i : ℕ) → i < m + 1 → keyOf d n i ≺ key
+  all-below m key l p i h =
+      let h′ : i ≤ m = omega arith in
+      ⊎-elim
+      (λ (e : i ≡ m). rw e p)
+      (λ (g : i < m). less-trans (keyOf d n i) (keyOf d n m) key (keys-rise i m g l) p)
+      (eq-or-lt-of-le h′)
+
+-- ---- the first that isn't below
+
+module _ (f : ℕ → List ℕ) (n : ℕ) (key : List ℕ) where
+  first-least : (i j : ℕ) → First f n key i → First f n key j → j ≤ i
+  first-least i j a b = le-of-suc-le-suc (lt-of-not-le (λ (h : i < j). true≢false (sym (b .earlier i h) ∙ a .not-below)))
+
+  -- there is one at most
+  pub first-unique : (i j : ℕ) → First f n key i → First f n key j → i ≡ j
+  first-unique i j a b = omega (arith, first-least i j a b, first-least j i b a)
