@@ -1,3 +1,4 @@
 pub mod Store
 pub mod Read
 pub mod Facts
+pub mod Answers

@@ -4,6 +4,12 @@ pub mod write;
 
 use group::BlockAddr;
 
+// The length of a store that was written, or that the output is shorter (row 9).
+pub enum Serialized {
+    Len(usize),
+    Short,
+}
+
 // A block that was looked up, or a group that breaks its rules.
 pub enum Got {
     Block(BlockAddr),

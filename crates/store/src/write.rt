@@ -7,7 +7,9 @@ ghost use Rattle.slope.specs.Slope.{bestSlope};
 ghost use Rattle.group.specs.Blocks.{blocksAt};
 ghost use Rattle.group.specs.Facts.{GroupArea};
 ghost use Rattle.store.specs.Store.{groupCount, groupRecord, groupAddrs, addrs, storeBytes};
+ghost use Rattle.store.specs.Answers.{storeAnswer, storeOut};
 ghost use Rattle.store.specs.Facts.{GroupLen, StoreArea};
+use crate::Serialized;
 
 // The bytes of a group record.
 const META_LEN: usize = 36;
@@ -101,4 +103,22 @@ pub fn serialize(area: &[u64], stride: usize, n: usize, group_len: usize, out: &
         first += count;
     }
     addrs + offset
+}
+
+// Writes the store from the front of `out` on; an output that is shorter than the store stays as it is.
+pub fn write_store(
+    area: &[u64],
+    stride: usize,
+    n: usize,
+    group_len: usize,
+    out: &mut [u8],
+) -> Serialized
+    requires { ⌜ StoreArea (now area) stride n × GroupLen «group_len» ⌝ }
+    ensures { λ r. ⌜ (r ≡ storeAnswer (now (out .entry)) (storeBytes bestSlope «group_len» (blocksAt (now (area .entry)) stride 0 n))) × (now (out .exit) ≡ storeOut (now (out .entry)) (storeBytes bestSlope «group_len» (blocksAt (now (area .entry)) stride 0 n))) ⌝ }
+{
+    let len = store_len(area, stride, n, group_len);
+    if out.len() < len {
+        return Serialized::Short;
+    }
+    Serialized::Len(serialize(area, stride, n, group_len, out))
 }
