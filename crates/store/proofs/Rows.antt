@@ -1,6 +1,6 @@
 -- Rows 15 and 16 over a whole store, as tests and as facts: a store that has no number keeps the rules, and one that keeps them has none.
 use mathlib.Core.Path.{_≡_, refl, sym, _∙_}
-use mathlib.Core.Bool.{Bool, true, false, _||_, cond, true≢false}
+use mathlib.Core.Bool.{Bool, true, false, _||_, cond}
 use mathlib.Core.List.{List}
 use mathlib.Core.Logic.{⊎-elim}
 use Prim.Native.Nat.{ℕ, zero, suc, _≤_, _<_}

@@ -11,7 +11,7 @@ use Rattle.group.specs.declared.BlockAddrBlockMetadata.{BlockAddrBlockMetadata}
 use Rattle.group.specs.Read.{groupBad}
 use Rattle.store.specs.Read.{groupMeta, groupLen}
 use Rattle.store.specs.Check.{groupsBad}
-use Rattle.store.proofs.Groups.{group-first-lt, group-count-le}
+use Rattle.store.proofs.Groups.{group-first-lt}
 use Rattle.store.proofs.Rows.{refused, groups-kept}
 use Rattle.store.proofs.check.groups_bad.Statement.{statement}
 use Rattle.store.proofs.check.groups_bad.Tie as tie

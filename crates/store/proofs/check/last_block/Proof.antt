@@ -1,47 +1,40 @@
 -- `store::check::last_block` meets its contract: starts and ordinals that rise to a last block in range make every block legal.
 use borrow.Author.Needs.{needs}
 use mathlib.Core.Path.{_≡_, refl, sym, ap, _∙_}
-use mathlib.Core.Bool.{true, false, cond, true≢false}
+use mathlib.Core.Bool.{true, false, true≢false}
 use mathlib.Core.Logic.{⊎-elim}
 use Prim.Native.Nat.{ℕ, zero, suc, _+_, _-_, _≤_, _<_}
 use native.Mathlib.Nat.{eq-or-lt-of-le, le-of-suc-le-suc}
 use native.Mathlib.Numerals.{add-one}
 use native.Mathlib.Omega.{arith}
-use lib.ListN.{length}
 use Rattle.serialize.specs.Digits.{leVal}
-use Rattle.group.specs.declared.BlockAddr.{BlockAddr}
 use Rattle.group.specs.declared.BlockAddrBlockMetadata.{BlockAddrBlockMetadata}
-use Rattle.group.specs.Legal.{NumbersOk, Follows, Legal}
+use Rattle.group.specs.Legal.{NumbersOk, Legal}
 use Rattle.group.specs.Rows.{numbersBad}
 use Rattle.group.specs.Read.{rangeRead, ordinalRead, blockRead}
 use Rattle.group.proofs.Legal.{numbers-ok, numbers-good}
 use Rattle.store.specs.Check.{blocksBad}
-use Rattle.store.specs.declared.Got.{Got}
 use Rattle.store.specs.declared.Got.the-variants.{Block, Broken}
 use Rattle.store.proofs.Rows.{refused, blocks-kept, blocks-keep}
+use Rattle.store.proofs.Passed.{lastOf}
 use Rattle.store.proofs.check.last_block.Statement.{statement}
 use Rattle.store.proofs.check.last_block.Tie as tie
 
 module _ (m : BlockAddrBlockMetadata) (N : ℕ) where
-  -- the first i blocks rise to the one behind them
-  record Rising (i : ℕ) : Type 0 where
-    starts : (j : ℕ) → j < i → rangeRead m N j ≤ rangeRead m N (suc j)
-    ordinals : (j : ℕ) → j < i → ordinalRead m N j < ordinalRead m N (suc j)
+  -- block j's start and ordinal against the next one's
+  record Rises (j : ℕ) : Type 0 where
+    start : rangeRead m N j ≤ rangeRead m N (suc j)
+    ordinal : ordinalRead m N j < ordinalRead m N (suc j)
 
-  rising-none : Rising 0
-  rising-none = record { starts = λ j h. absurd (let z : ⊥ = omega arith in z); ordinals = λ j h. absurd (let z : ⊥ = omega arith in z) }
+  abbrev Rising : ℕ → Type 0
+  Rising i = (j : ℕ) → j < i → Rises j
 
   rising-turn : (i : ℕ) → Rising i → rangeRead m N i ≤ rangeRead m N (i + 1) → ordinalRead m N i < ordinalRead m N (i + 1) → Rising (i + 1)
-  rising-turn i up s o = record {
-    starts = λ j h. ⊎-elim
-        (λ (e : j ≡ i). rw (e, ← (add-one i)) s)
-        (λ (l : j < i). up .starts j l)
-        (eq-or-lt-of-le (le-of-suc-le-suc (rw (add-one i) at h)));
-    ordinals = λ j h. ⊎-elim
-        (λ (e : j ≡ i). rw (e, ← (add-one i)) o)
-        (λ (l : j < i). up .ordinals j l)
-        (eq-or-lt-of-le (le-of-suc-le-suc (rw (add-one i) at h)));
-  }
+  rising-turn i up s o j h =
+      ⊎-elim
+      (λ (e : j ≡ i). rw e (record { start = rw (add-one i) at s; ordinal = rw (add-one i) at o }))
+      (λ (l : j < i). up j l)
+      (eq-or-lt-of-le (le-of-suc-le-suc (rw (add-one i) at h)))
 
   module _ (last : ℕ) (up : Rising last) (ok : NumbersOk (blockRead m N last)) where
     -- block j, k before the last
@@ -51,32 +44,29 @@ module _ (m : BlockAddrBlockMetadata) (N : ℕ) where
     numbers-up (suc k) j e =
         let next = numbers-up k (suc j) (omega arith) in
         record {
-          ordered = up .starts j (omega arith);
+          ordered = up j (omega arith) .start;
           end-small = omega (arith, next .ordered, next .end-small);
-          ordinal-small = omega (arith, up .ordinals j (omega arith), next .ordinal-small);
+          ordinal-small = omega (arith, up j (omega arith) .ordinal, next .ordinal-small);
         }
 
     all-legal : Legal (blockRead m N) (last + 1)
     unfolding blockRead
     all-legal = record {
       numbers = λ j h. numbers-up (last - j) j (omega arith);
-      follows = λ j h. record { touches = refl; rises = up .ordinals j (omega arith) };
+      follows = λ j h. record { touches = refl; rises = up j (omega arith) .ordinal };
     }
 
   -- the answers
   module _ (last : ℕ) where
-    abbrev answer : Got
-    answer = cond (blocksBad (blockRead m N) (last + 1)) Broken (Block (blockRead m N last))
-
-    broken : (Legal (blockRead m N) (last + 1) → ⊥) → Broken ≡ answer
+    broken : (Legal (blockRead m N) (last + 1) → ⊥) → Broken ≡ lastOf (blockRead m N) last
     broken h = rw (← (refused (blocksBad (blockRead m N) (last + 1)) (λ e. h (blocks-kept (blockRead m N) (last + 1) e))))
 
     module _ (i start ordinal : ℕ) (s : start ≡ rangeRead m N i) (o : ordinal ≡ ordinalRead m N i) where
-      start-falls : (end : ℕ) → i < last → end ≡ rangeRead m N (i + 1) → end < start → Broken ≡ answer
+      start-falls : (end : ℕ) → i < last → end ≡ rangeRead m N (i + 1) → end < start → Broken ≡ lastOf (blockRead m N) last
       unfolding blockRead
       start-falls end h e l = broken (λ legal. omega (arith, legal .numbers i (omega arith) .ordered, ap (rangeRead m N) (add-one i)))
 
-      ordinal-stays : (next : ℕ) → i < last → next ≡ ordinalRead m N (i + 1) → next ≤ ordinal → Broken ≡ answer
+      ordinal-stays : (next : ℕ) → i < last → next ≡ ordinalRead m N (i + 1) → next ≤ ordinal → Broken ≡ lastOf (blockRead m N) last
       unfolding blockRead
       ordinal-stays next h e l = broken (λ legal. omega (arith, legal .follows i (omega arith) .rises, ap (ordinalRead m N) (add-one i)))
 
@@ -85,11 +75,11 @@ module _ (m : BlockAddrBlockMetadata) (N : ℕ) where
         unfolding blockRead
         last-is = rw (s, o, e, whole, add-one last) refl
 
-        last-broken : numbersBad (record { start = start; end = end; «first_ordinal» = ordinal }) ≡ true → Broken ≡ answer
+        last-broken : numbersBad (record { start = start; end = end; «first_ordinal» = ordinal }) ≡ true → Broken ≡ lastOf (blockRead m N) last
         last-broken b = broken (λ legal. true≢false (sym b ∙ ap numbersBad last-is ∙ numbers-good (blockRead m N last) (legal .numbers last (omega arith))))
 
         last-kept : Rising i → numbersBad (record { start = start; end = end; «first_ordinal» = ordinal }) ≡ false
-            → Block (record { start = start; end = end; «first_ordinal» = ordinal }) ≡ answer
+            → Block (record { start = start; end = end; «first_ordinal» = ordinal }) ≡ lastOf (blockRead m N) last
         last-kept up b =
             let ok = numbers-ok (blockRead m N last) (sym (ap numbersBad last-is) ∙ b) in
             rw (blocks-keep (blockRead m N) (last + 1) (all-legal last (rw whole at up) ok), last-is)
@@ -106,7 +96,7 @@ cast-last c = search needs
 
 loop-holds : tie.Need-loop-holds Inv-loop μ-loop
 unfolding rangeRead ordinalRead
-loop-holds c = (omega arith, refl, refl, rising-none _ _)
+loop-holds c = (omega arith, refl, refl, λ j h. absurd (let z : ⊥ = omega arith in z))
 
 add-range-start : tie.Need-add-range-start Inv-loop μ-loop
 add-range-start c = search needs

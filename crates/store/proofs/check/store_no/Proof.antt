@@ -1,10 +1,7 @@
 -- `store::check::store_no` meets its contract: row 15 of all groups, then row 16 of groups that keep it.
 use borrow.Author.Needs.{needs}
-use mathlib.Core.Path.{_≡_, sym, _∙_}
-use mathlib.Core.Bool.{true, false, _||_}
-use Rattle.store.specs.Store.{groupCount}
-use Rattle.store.specs.Read.{storeBlock}
-use Rattle.store.specs.Check.{groupsBad, firstsBad, blocksBad, storeNo}
+use mathlib.Core.Path.{sym, _∙_}
+use Rattle.store.specs.Check.{storeNo}
 use Rattle.store.proofs.check.store_no.Statement.{statement}
 use Rattle.store.proofs.check.store_no.Tie as tie
 
