@@ -1,7 +1,8 @@
 -- Both keys are run over their common prefix; behind it each test that fails leaves one kind of string less to look for.
 use mathlib.Core.Path.{_≡_}
+use mathlib.Core.List.{List}
 use mathlib.Core.Logic.{inl, inr, _↔_}
-use Prim.Native.Nat.{_+_, _≤_}
+use Prim.Native.Nat.{ℕ, _+_, _≤_}
 use native.Mathlib.Omega.{arith}
 use borrow.Author.Needs.{needs}
 use borrow.Author.Tests.{not-true}
@@ -28,24 +29,39 @@ within c =
 bytes : (c : tie.After-common-prefix-len) → Bytes (c .before .before .before .before .args .start-key .now)
 bytes c = bytes-of (c .before .before .before .before .args .start-key .now) (λ i. omega (arith, c .before .before .shared-slice-known2 .given i))
 
--- what is left to look for where the start's next byte isn't above the end's
-mid : (c : tie.Else4)
-    → Between (c .before .before .before .before .before .before .before .before .before .before .before .before .args .table .now) 0 (c .before .before .before .before .before .before .before .before .before .before .before .before .args .start-key .now) (c .before .before .before .before .before .before .before .before .before .before .before .before .args .end-key .now)
-    ↔ Parted (c .before .before .before .before .before .before .before .before .before .before .before .before .args .table .now) (c .before .before .before .before .before .before .accept-prefix .result) (getD (c .before .before .before .before .before .before .before .before .before .before .before .before .args .start-key .now) (c .before .before .before .before .before .before .before .before .common-prefix-len .result) 0) (getD (c .before .before .before .before .before .before .before .before .before .before .before .before .args .end-key .now) (c .before .before .before .before .before .before .before .before .common-prefix-len .result) 0) (drop (c .before .before .before .before .before .before .before .before .common-prefix-len .result + 1) (c .before .before .before .before .before .before .before .before .before .before .before .before .args .start-key .now)) (drop (c .before .before .before .before .before .before .before .before .common-prefix-len .result + 1) (c .before .before .before .before .before .before .before .before .before .before .before .before .args .end-key .now))
+-- behind the common prefix: the keys, its length and state, and the next bytes
+abbrev table : tie.Else4 → List ℕ
+table c = c .before .before .before .before .before .before .before .before .before .before .before .before .args .table .now
+
+abbrev start-key : tie.Else4 → List ℕ
+start-key c = c .before .before .before .before .before .before .before .before .before .before .before .before .args .start-key .now
+
+abbrev end-key : tie.Else4 → List ℕ
+end-key c = c .before .before .before .before .before .before .before .before .before .before .before .before .args .end-key .now
+
+abbrev len : tie.Else4 → ℕ
+len c = c .before .before .before .before .before .before .before .before .common-prefix-len .result
+
+abbrev base : tie.Else4 → ℕ
+base c = c .before .before .before .before .before .before .accept-prefix .result
+
+abbrev start-range : tie.Else4 → ℕ
+start-range c = getD (start-key c) (len c) 0
+
+abbrev end-range : tie.Else4 → ℕ
+end-range c = getD (end-key c) (len c) 0
+
+-- what is left to look for there, and what the calls tell of its parts
+mid : (c : tie.Else4) → Between (table c) 0 (start-key c) (end-key c) ↔ Parted (table c) (base c) (start-range c) (end-range c) (drop (len c + 1) (start-key c)) (drop (len c + 1) (end-key c))
 mid c =
-    let a = c .before .before .before .before .before .before .before .before .before .before .before .before .args in
-    let n = c .before .before .before .before .before .before .before .before .common-prefix-len in
     let w = within (c .before .before .before .before .before .before .before .before) in
-    common-lower (a .table .now) 0 (a .start-key .now) (a .end-key .now) (n .ensures) (bytes (c .before .before .before .before .before .before .before .before)) (c .before .before .before .before .before .before .accept-prefix .ensures .0) (omega arith) (omega arith) (omega (arith, c .before .shared-slice-known5 .given (n .result))) (omega arith)
+    common-lower (table c) 0 (start-key c) (end-key c) (c .before .before .before .before .before .before .before .before .common-prefix-len .ensures) (bytes (c .before .before .before .before .before .before .before .before)) (c .before .before .before .before .before .before .accept-prefix .ensures .0)
+    (omega arith) (omega arith) (omega (arith, c .before .shared-slice-known5 .given (len c))) (omega arith)
 
-above : (c : tie.After-match-range-start)
-    → Exactly (c .match-range-start .result) (After (c .before .before .before .before .before .before .before .before .before .before .before .before .before .before .before .before .before .args .table .now) (next (c .before .before .before .before .before .before .before .before .before .before .before .before .before .before .before .before .before .args .table .now) (c .before .before .before .before .before .before .before .before .before .before .before .accept-prefix .result) (getD (c .before .before .before .before .before .before .before .before .before .before .before .before .before .before .before .before .before .args .start-key .now) (c .before .before .before .before .before .before .before .before .before .before .before .before .before .common-prefix-len .result) 0)) (drop (c .before .before .before .before .before .before .before .before .before .before .before .before .before .common-prefix-len .result + 1) (c .before .before .before .before .before .before .before .before .before .before .before .before .before .before .before .before .before .args .start-key .now)))
-above c =
-    let e = part-rest (c .before .before .before .before .before .before .before .before .before .before .before .before .before .before .before .before .before .args .start-key .now) (c .before .before .before .before .before .before .before .before .before .before .before .before .before .common-prefix-len .result + 1) in
-    rw (c .before .accept .ensures .0, e) at (c .match-range-start .ensures)
+above : (c : tie.After-match-range-start) → let d = c .before .before .before .before .before in Exactly (c .match-range-start .result) (After (table d) (next (table d) (base d) (start-range d)) (drop (len d + 1) (start-key d)))
+above c = let e = part-rest (start-key (c .before .before .before .before .before)) (len (c .before .before .before .before .before) + 1) in rw (c .before .accept .ensures .0, e) at (c .match-range-start .ensures)
 
-here : (c : tie.After-is-match)
-    → Exactly (c .is-match .result) (flag (c .before .before .before .before .before .before .before .before .before .before .before .before .before .before .before .before .before .before .before .before .args .table .now) (next (c .before .before .before .before .before .before .before .before .before .before .before .before .before .before .before .before .before .before .before .before .args .table .now) (c .before .before .before .before .before .before .before .before .before .before .before .before .before .before .accept-prefix .result) (getD (c .before .before .before .before .before .before .before .before .before .before .before .before .before .before .before .before .before .before .before .before .args .end-key .now) (c .before .before .before .before .before .before .before .before .before .before .before .before .before .before .before .before .common-prefix-len .result) 0)) ≡ 1)
+here : (c : tie.After-is-match) → let d = c .before .before .before .before .before .before .before .before in Exactly (c .is-match .result) (flag (table d) (next (table d) (base d) (end-range d)) ≡ 1)
 here c = rw (c .before .accept2 .ensures .0) at (c .is-match .ensures)
 
 common-prefix-len-requires : tie.Need-common-prefix-len-requires
@@ -159,11 +175,11 @@ match-range-end-requires-2 c κs = search needs
 
 returns-8 : tie.Need-returns-8
 returns-8 c =
-    let a = c .before .before .before .before .before .before .before .before .before .before .before .before .before .before .before .before .before .before .before .before .before .before .before .args in
-    let r₁ = past (mid (c .before .before .before .before .before .before .before .before .before .before .before)) (when-false (c .before .before .before .before .before .before .before .before .before .before .any-byte .ensures) (c .before .before .before .before .before .before .before .before .before .if5 .left)) in
+    let d = c .before .before .before .before .before .before .before .before .before .before .before in
+    let r₁ = past (mid d) (when-false (c .before .before .before .before .before .before .before .before .before .before .any-byte .ensures) (c .before .before .before .before .before .before .before .before .before .if5 .left)) in
     let r₂ = past r₁ (when-false (above (c .before .before .before .before .before .before)) (c .before .before .before .before .before .if6 .left)) in
     let r₃ = past r₂ (when-false (here (c .before .before .before)) (c .before .before .if7 .left)) in
-    let e = part-rest (a .end-key .now) (c .before .before .before .before .before .before .before .before .before .before .before .before .before .before .before .before .before .before .before .common-prefix-len .result + 1) in
+    let e = part-rest (end-key d) (len d + 1) in
     exactly-map (c .match-range-end2 .result) (r₃ .1) (r₃ .0) (rw (c .before .before .before .before .accept2 .ensures .0, e) at (c .match-range-end2 .ensures))
 
 pub can-block-match-automaton-with-start-spec : {M : Type 1} → statement M
