@@ -1,5 +1,4 @@
 // The address store: `BlockAddrStoreWriter` and `BlockAddrStore` of src/index/v3.rs.
-pub mod check;
 pub mod read;
 pub mod write;
 

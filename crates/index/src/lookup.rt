@@ -1,0 +1,175 @@
+// The lookups in an opened index, whose record and bytes may not belong together.
+ghost use mathlib.Core.Path.{_≡_};
+ghost use Prim.Native.Nat.{_+_, _≤_, _<_};
+ghost use lib.Dec.{ltb};
+ghost use lib.ListN.{length};
+ghost use Rattle.store.specs.Facts.{GroupLen};
+ghost use Rattle.index.specs.Parts.{blockIn, separatorIn};
+ghost use Rattle.index.specs.Opening.{Opens};
+ghost use Rattle.index.specs.Answers.{byIdNo, byIdAddr, locatedNo, locatedId, locatedAddr, idNo, idOf};
+ghost use Rattle.index.specs.Lookups.{openedBad, OpenedFits, ByIdAllowed, ByIdExact, LocatedAllowed, ByOrdExact, ByKeyAllowed, ByKeyExact, AddrByKeyExact, placeDef};
+use crate::BlockById;
+use crate::Located;
+use crate::LocatedId;
+use crate::Place;
+use crate::SSTableIndexV3;
+use directory::read::Found;
+use store::Got;
+
+const MAX_BLOCKS: usize = 65536;
+
+const META_LEN: usize = 36;
+
+const PAIR_LEN: usize = 8;
+
+// Whether a part lies outside `len` bytes.
+fn part_outside(offset: usize, part_len: usize, len: usize) -> bool
+    ensures { λ r. ⌜ r ≡ ltb len (offset + «part_len») ⌝ }
+{
+    if offset > len {
+        return true;
+    }
+    part_len > len - offset
+}
+
+// Row 20 for the record: whether it can't be one of `len` bytes.
+pub fn opened_bad(opened: SSTableIndexV3, len: usize, group_len: usize) -> bool
+    requires { ⌜ GroupLen «group_len» ⌝ }
+    ensures { λ r. ⌜ r ≡ openedBad «group_len» opened len ⌝ }
+{
+    if opened.n < 1 {
+        return true;
+    }
+    if opened.n > MAX_BLOCKS {
+        return true;
+    }
+    if part_outside(opened.directory, opened.directory_len, len) {
+        return true;
+    }
+    if part_outside(opened.metas, opened.metas_len, len) {
+        return true;
+    }
+    if part_outside(opened.addrs, opened.addrs_len, len) {
+        return true;
+    }
+    opened.metas_len < META_LEN * store::write::group_count(opened.n, group_len)
+}
+
+// The address of block `block_id`.
+pub fn get_block(opened: SSTableIndexV3, data: &[u8], group_len: usize, block_id: u64) -> BlockById
+    requires { ⌜ GroupLen «group_len» × OpenedFits «group_len» opened (length (now «data»)) ⌝ }
+    ensures { λ r. ⌜ ByIdAllowed (opened .n) «block_id» (byIdNo r) (byIdAddr r) ⌝ }
+    ensures { λ r. ⌜ (Opens «group_len» (now («data» .entry)) opened → ByIdExact (blockIn «group_len» (now («data» .entry))) (opened .n) «block_id» (byIdNo r) (byIdAddr r)) ⌝ }
+{
+    if block_id >= opened.n as u64 {
+        return BlockById::Refused(17);
+    }
+    let metas = opened.metas + opened.metas_len;
+    let addrs = opened.addrs + opened.addrs_len;
+    let Got::Block(block) = store::read::get(
+        &data[opened.metas..metas],
+        &data[opened.addrs..addrs],
+        opened.n,
+        group_len,
+        block_id as usize,
+    ) else {
+        return BlockById::Refused(20);
+    };
+    BlockById::Block(block)
+}
+
+// The last block whose first ordinal is at or below `ord`.
+pub fn locate_with_ord(opened: SSTableIndexV3, data: &[u8], group_len: usize, ord: u64) -> Located
+    requires { ⌜ GroupLen «group_len» × OpenedFits «group_len» opened (length (now «data»)) ⌝ }
+    ensures { λ r. ⌜ LocatedAllowed 18 (opened .n) (locatedNo r) (locatedId r) (locatedAddr r) ⌝ }
+    ensures { λ r. ⌜ (Opens «group_len» (now («data» .entry)) opened → ByOrdExact (blockIn «group_len» (now («data» .entry))) (opened .n) ord (locatedNo r) (locatedId r) (locatedAddr r)) ⌝ }
+{
+    let metas = opened.metas + opened.metas_len;
+    let addrs = opened.addrs + opened.addrs_len;
+    match store::read::binary_search_ord(
+        &data[opened.metas..metas],
+        &data[opened.addrs..addrs],
+        opened.n,
+        group_len,
+        ord,
+    ) {
+        store::Located::At(id, block) => Located::At(id, block),
+        store::Located::Below => Located::Refused(18),
+        store::Located::Unsound => Located::Refused(20),
+    }
+}
+
+// The first block whose separator isn't below `key`.
+pub fn locate_with_key(
+    opened: SSTableIndexV3,
+    data: &[u8],
+    group_len: usize,
+    key: &[u8],
+) -> LocatedId
+    requires { ⌜ GroupLen «group_len» × OpenedFits «group_len» opened (length (now «data»)) ⌝ }
+    ensures { λ r. ⌜ ByKeyAllowed (opened .n) (idNo r) (idOf r) ⌝ }
+    ensures { λ r. ⌜ (Opens «group_len» (now («data» .entry)) opened → ByKeyExact (separatorIn (now («data» .entry))) (opened .n) (now (key .entry)) (idNo r) (idOf r)) ⌝ }
+{
+    let end = opened.directory + opened.directory_len;
+    match directory::read::locate_with_key(&data[opened.directory..end], opened.n, key) {
+        Found::At(id) => LocatedId::Id(id),
+        Found::Above => LocatedId::Refused(19),
+        Found::Outside => LocatedId::Refused(20),
+    }
+}
+
+// The number of an answer without a block.
+fn refusal(found: LocatedId) -> u32
+    ensures { λ r. ⌜ r ≡ idNo found ⌝ }
+{
+    match found {
+        LocatedId::Id(_) => 0,
+        LocatedId::Refused(no) => no,
+    }
+}
+
+// The first block whose separator isn't below `key`, with its address.
+pub fn get_block_with_key(
+    opened: SSTableIndexV3,
+    data: &[u8],
+    group_len: usize,
+    key: &[u8],
+) -> Located
+    requires { ⌜ GroupLen «group_len» × OpenedFits «group_len» opened (length (now «data»)) ⌝ }
+    ensures { λ r. ⌜ LocatedAllowed 19 (opened .n) (locatedNo r) (locatedId r) (locatedAddr r) ⌝ }
+    ensures { λ r. ⌜ (Opens «group_len» (now («data» .entry)) opened → AddrByKeyExact (separatorIn (now («data» .entry))) (blockIn «group_len» (now («data» .entry))) (opened .n) (now (key .entry)) (locatedNo r) (locatedId r) (locatedAddr r)) ⌝ }
+{
+    let found = locate_with_key(opened, data, group_len, key);
+    let LocatedId::Id(id) = found else {
+        return Located::Refused(refusal(found));
+    };
+    let BlockById::Block(block) = get_block(opened, data, group_len, id as u64) else {
+        return Located::Refused(20);
+    };
+    Located::At(id, block)
+}
+
+// Where the separator of block `block_id` stands.
+pub fn separator_place(
+    opened: SSTableIndexV3,
+    data: &[u8],
+    group_len: usize,
+    block_id: u64,
+) -> Place
+    requires { ⌜ GroupLen «group_len» × OpenedFits «group_len» opened (length (now «data»)) ⌝ }
+    ensures { λ r. ⌜ r ≡ placeDef «group_len» opened (now («data» .entry)) «block_id» ⌝ }
+{
+    if block_id >= opened.n as u64 {
+        return Place::Missing;
+    }
+    let id = block_id as usize;
+    let end = opened.directory + opened.directory_len;
+    let keys = &data[opened.directory..end];
+    if directory::read::key_outside(keys, opened.n, id) {
+        return Place::Missing;
+    }
+    let pair = 4 + PAIR_LEN * id;
+    let offset = serialize::deserialize_u32(keys, pair) as usize;
+    let len = serialize::deserialize_u32(keys, pair + 4) as usize;
+    Place::Part(opened.directory + 4 + PAIR_LEN * opened.n + offset, len)
+}
