@@ -1,4 +1,5 @@
 pub mod Fits
 pub mod OpenFacts
+pub mod Places
+pub mod Answered
 pub mod LookupLaws
-pub mod Separators
