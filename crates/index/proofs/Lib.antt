@@ -3,3 +3,4 @@ pub mod OpenFacts
 pub mod Places
 pub mod Answered
 pub mod LookupLaws
+pub mod Unique
