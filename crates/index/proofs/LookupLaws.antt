@@ -1,0 +1,53 @@
+-- Laws of bytes and record of one opening: its blocks are legal, and a separator's place holds the separator.
+use mathlib.Core.Path.{_≡_, refl, sym, ap, _∙_}
+use mathlib.Core.Bool.{false}
+use mathlib.Core.List.{List, [], _∷_}
+use Prim.Native.Nat.{ℕ, zero, suc, _+_, _*_, _≤_, _<_}
+use native.Mathlib.Omega.{arith}
+use lib.ListN.{take, drop, length-take}
+use lib.Seq.{take-take}
+use Rattle.group.specs.Legal.{Legal}
+use Rattle.directory.specs.Read.{keyOffset, keyLength, keyOutside}
+use Rattle.directory.proofs.Rules.{is-inside, length-place}
+use Rattle.index.specs.declared.SSTableIndexV3.{SSTableIndexV3}
+use Rattle.index.specs.declared.Place.the-variants.{Part}
+use Rattle.index.specs.Parts.{directoryLen, directoryPart, blocksIn, blockIn, separatorIn}
+use Rattle.index.specs.Opening.{openedOf}
+use Rattle.index.specs.Answers.{partAt}
+use Rattle.index.specs.Lookups.{placeDef}
+use Rattle.index.proofs.OpenFacts.{OpenFacts}
+use Rattle.index.proofs.Places.{place-read}
+
+-- w bytes at p of the first n are those of the whole
+part-of-front : (l : List ℕ) (n p w : ℕ) → p + w ≤ n → take w (drop p (take n l)) ≡ take w (drop p l)
+part-of-front l n zero w h = take-take w n l (omega arith)
+part-of-front l zero (suc p) w h = absurd (let z : ⊥ = omega arith in z)
+part-of-front [] (suc n) (suc p) w h = refl
+part-of-front (x ∷ l) (suc n) (suc p) w h = part-of-front l n p w (omega arith)
+
+module _ (L : ℕ) (f : List ℕ) (opened : SSTableIndexV3) (facts : OpenFacts L f opened) where
+  pub opened-legal : Legal (blockIn L f) (opened .n)
+  unfolding blockIn
+  opened-legal = rw (facts .count) (facts .ok .legal)
+
+  begins : opened .directory ≡ 0
+  unfolding openedOf
+  begins = ap (λ (x : SSTableIndexV3). x .directory) (facts .is)
+
+  module _ (id : ℕ) where
+    inside : id < opened .n → keyOutside (directoryPart f) (blocksIn f) id ≡ false
+    inside h = facts .sorted .inside id (rw (facts .count) at h)
+
+    pub place-known : id < opened .n
+        → placeDef L opened f id ≡ Part (4 + 8 * blocksIn f + keyOffset (directoryPart f) id) (keyLength (directoryPart f) id)
+    place-known h =
+        let named = place-read L opened f id (facts .fits) h (directoryPart f) (sym (facts .directory)) (rw (facts .count) (inside h)) _ _ refl refl in
+        sym named ∙ rw (begins, facts .count, length-place (directoryPart f) (blocksIn f) id)
+
+    -- the part that stands there is the block's separator
+    pub place-separator : id < opened .n → partAt f (placeDef L opened f id) ≡ separatorIn f id
+    unfolding separatorIn
+    place-separator h =
+        rw (place-known h)
+        (sym (part-of-front f (directoryLen f) (4 + 8 * blocksIn f + keyOffset (directoryPart f) id) (keyLength (directoryPart f) id)
+        (omega (arith, is-inside (directoryPart f) (blocksIn f) id (inside h) .bytes, length-take (directoryLen f) f))))
