@@ -1,0 +1,4 @@
+pub mod IndexOpens
+pub mod OpeningJoined
+pub mod OpeningRows
+pub mod WrittenIndex
