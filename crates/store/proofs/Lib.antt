@@ -1,4 +1,5 @@
 pub mod Groups
 pub mod Lookup
+pub mod Rows
 pub mod Stored
 pub mod ReadBack
