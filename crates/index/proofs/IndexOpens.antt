@@ -1,24 +1,20 @@
 -- A written index opens, and what its record says: n, and the places of the directory, the group records and the address bytes.
 use Prim.Native.Nat.{ℕ, _+_, _-_, _*_}
-use mathlib.Core.Path.{_≡_, sym, _∙_}
+use mathlib.Core.Path.{_≡_, sym}
 use mathlib.Core.List.{List}
 use native.Mathlib.Omega.{arith}
 use lib.ListN.{length}
 use Rattle.group.specs.declared.BlockAddr.{BlockAddr}
 use Rattle.store.specs.Store.{groupCount, addrs, storeBytes}
-use Rattle.store.specs.Check.{storeNo}
 use Rattle.store.proofs.Rows.{store-keeps}
 use Rattle.store.proofs.Stored.{length-storeBytes}
 use Rattle.store.proofs.ReadBack.{read-back}
 use Rattle.directory.specs.Directory.{directoryBytes}
-use Rattle.directory.specs.Read.{directoryNo}
 use Rattle.directory.proofs.Lengths.{length-directoryBytes}
 use Rattle.directory.proofs.Opened.{directory-opens}
 use Rattle.builder.specs.Index.{indexBytes}
 use Rattle.builder.proofs.IndexBytes.{length-indexBytes}
-use Rattle.index.specs.Parts.{directoryPart, storeLen, recordsPart, addrsPart, blocksIn}
 use Rattle.index.specs.Opening.{openedOf, Opens}
-use Rattle.index.specs.declared.SSTableIndexV3.{SSTableIndexV3}
 use Rattle.index.proofs.OpeningRows.{OpenOk, footer-good, records-good, open-none, open-taken}
 use Rattle.index.proofs.WrittenIndex.{IndexOk, index-parts, index-recordsLen, index-storeLen, index-blocks}
 

@@ -9,7 +9,6 @@ use borrow.Author.Tests.{lt-ltb, le-ltb, eq-eqb, ne-eqb, ltb-false, eqb-true, eq
 use lib.Dec.{eqb, ltb}
 use lib.ListN.{length, take, drop, length-drop}
 use lib.Seq.{length-take-le, take-take}
-use Rattle.keys.proofs.Order.{by-test}
 use Rattle.serialize.specs.Digits.{leVal}
 use Rattle.store.specs.Store.{groupCount}
 use Rattle.store.specs.Facts.{Records}
@@ -19,9 +18,8 @@ use Rattle.directory.proofs.Rules.{DirectoryOk, directory-kept}
 use Rattle.directory.proofs.Opened.{opened-good}
 use Rattle.builder.proofs.Views.{or-false}
 use Rattle.index.specs.Parts.{directoryLen, directoryPart, storeLen, recordsLen, recordsPart, addrsPart, blocksIn}
-use Rattle.index.specs.Opening.{footerNo, recordsBad, orElse, openNo, openedOf, openStep, openDef}
+use Rattle.index.specs.Opening.{footerNo, recordsBad, orElse, openNo, openedOf, openDef}
 use Rattle.index.specs.declared.SSTableIndexV3.{SSTableIndexV3}
-use Rattle.index.specs.declared.Loaded.{Loaded}
 use Rattle.index.specs.declared.Loaded.the-variants.{Opened, Refused}
 
 -- a chain of rows that hits none

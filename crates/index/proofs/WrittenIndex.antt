@@ -4,7 +4,7 @@ use mathlib.Core.Path.{_≡_, sym, ap, _∙_}
 use mathlib.Core.List.{List, [], _++_, append-assoc}
 use native.Mathlib.Nat.{le-of-eq}
 use native.Mathlib.Omega.{arith}
-use lib.ListN.{length, getD, take, drop, length-append}
+use lib.ListN.{length, getD, drop, length-append}
 use lib.Seq.{take-all, drop-drop, take-append-seam, drop-append-seam, take-at, drop-at}
 use Rattle.keys.specs.Order.{_≺_}
 use Rattle.serialize.specs.Digits.{leVal, leBytes}

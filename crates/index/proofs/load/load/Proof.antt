@@ -1,10 +1,9 @@
 -- `index::load::load` meets its contract: rows 10 and 11, rows 12 and 13 of the directory's part, then the store.
 use borrow.Author.Needs.{needs}
-use mathlib.Core.Path.{_≡_, sym, ap, _∙_}
+use mathlib.Core.Path.{_≡_, sym, _∙_}
 use native.Mathlib.Omega.{arith}
-use lib.ListN.{take}
 use Rattle.directory.specs.Read.{directoryNo}
-use Rattle.index.specs.Parts.{directoryLen, directoryPart}
+use Rattle.index.specs.Parts.{directoryPart}
 use Rattle.index.specs.Opening.{footerNo}
 use Rattle.index.proofs.OpeningRows.{FooterOk, footer-ok, length-directoryPart, open-footer, open-directory, open-refused}
 use Rattle.index.proofs.load.load.Statement.{statement}

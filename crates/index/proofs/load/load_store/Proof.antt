@@ -9,8 +9,7 @@ use lib.ListN.{length}
 use Rattle.store.specs.Check.{storeNo}
 use Rattle.directory.proofs.Rules.{DirectoryOk}
 use Rattle.index.specs.Parts.{directoryPart, recordsPart, addrsPart, blocksIn}
-use Rattle.index.specs.Opening.{recordsBad, openNo, openedOf}
-use Rattle.index.specs.declared.SSTableIndexV3.{SSTableIndexV3}
+use Rattle.index.specs.Opening.{recordsBad, openNo}
 use Rattle.index.specs.declared.Loaded.the-variants.{Opened}
 use Rattle.index.proofs.OpeningRows.{FooterOk, footer-ok, directory-ok, count-front, records-ok, addrs-inside, metas-part, addrs-part, metas-enough, opened-is, open-records, open-store, open-refused, open-taken}
 use Rattle.index.proofs.load.load_store.Statement.{statement}
@@ -95,10 +94,12 @@ store-no-requires c κs =
     let read = c .before .before in
     let s = read .before .before .before .before .before in
     let a = s .args in
-    let n = read .before .before .before in
-    (s .pre .0, metas-enough (a .group-len) (a .«data» .now) (a .directory-len) (read .deserialize-u64 .result) (footer s) (s .pre .2)
-    (records-ok (a .group-len) (a .«data» .now) (good (read .before))) (read .deserialize-u64 .ensures) (n .deserialize-u32 .result) (count n)
-    (omega (arith, count n, kept s .some)) (omega (arith, count n, kept s .few)))
+    let n = read .before .before .before in (
+      s .pre .0,
+      metas-enough (a .group-len) (a .«data» .now) (a .directory-len) (read .deserialize-u64 .result) (footer s) (s .pre .2)
+          (records-ok (a .group-len) (a .«data» .now) (good (read .before))) (read .deserialize-u64 .ensures) (n .deserialize-u32 .result) (count n)
+          (omega (arith, count n, kept s .some)) (omega (arith, count n, kept s .few)),
+    )
 
 -- the number of rows 15 and 16 is the opening's
 number : (c : tie.After-store-no) → let a = c .before .before .before .before .before .before .before .before .args in
