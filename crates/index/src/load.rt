@@ -1,6 +1,6 @@
 // Opening: rows 10 to 16.
 ghost use mathlib.Core.Path.{_≡_};
-ghost use Prim.Native.Nat.{_+_, _-_, _≤_};
+ghost use Prim.Native.Nat.{_+_, _≤_};
 ghost use lib.ListN.{length};
 ghost use Rattle.store.specs.Facts.{GroupLen};
 ghost use Rattle.directory.specs.Read.{directoryNo};

@@ -16,11 +16,11 @@ returns : tie.Need-returns
 returns c =
     let a = c .before .before .before .args in
     let no = c .before .footer-no in
-    open-refused (a .group-len) (a .«data» .now) (no .result) (no .ensures ∙ open-footer (a .group-len) (a .«data» .now) (λ e. c .if1 .taken (no .ensures ∙ e))) (c .if1 .taken)
+    open-refused (a .group-len) (a .«data» .now) (no .result) (no .ensures ∙ open-footer (a .group-len) (a .«data» .now) (λ z. omega arith)) (λ z. omega arith)
 
 -- rows 10 and 11 aren't hit
 passes : (c : tie.Else1) → footerNo (c .before .before .before .args .«data» .now) ≡ 0
-passes c = sym (c .before .footer-no .ensures) ∙ c .if1 .left
+passes c = omega arith
 
 footer : (c : tie.Else1) → FooterOk (c .before .before .before .args .«data» .now)
 footer c = footer-ok (c .before .before .before .args .«data» .now) (passes c)
@@ -42,9 +42,7 @@ directory-no-requires c κs = search needs
 
 -- the number of rows 12 and 13 is that of the directory's part
 number : (c : tie.After-directory-no) → c .directory-no .result ≡ directoryNo (directoryPart (c .before .before .before .before .before .before .args .«data» .now))
-number c =
-    let f = c .before .before .before .before .before .before .args .«data» .now in
-    c .directory-no .ensures ∙ rw (c .before .before .deserialize-u64 .ensures)
+number c = c .directory-no .ensures ∙ rw (c .before .before .deserialize-u64 .ensures)
 
 returns-2 : tie.Need-returns-2
 returns-2 c =
@@ -52,13 +50,13 @@ returns-2 c =
     let a = e .before .before .before .args in
     let no = c .before .directory-no in
     open-refused (a .group-len) (a .«data» .now) (no .result)
-    (number (c .before) ∙ open-directory (a .group-len) (a .«data» .now) (passes e) (λ z. c .if2 .taken (number (c .before) ∙ z))) (c .if2 .taken)
+    (number (c .before) ∙ open-directory (a .group-len) (a .«data» .now) (passes e) (λ z. omega (arith, number (c .before)))) (λ z. omega arith)
 
 load-store-requires : tie.Need-load-store-requires
 load-store-requires c κs =
     let e = c .before .before .before .before in
     let s = e .before .before .before in
-    (s .pre, passes e, c .before .before .before .deserialize-u64 .ensures, sym (number (c .before)) ∙ c .if2 .left)
+    (s .pre, passes e, c .before .before .before .deserialize-u64 .ensures, omega (arith, number (c .before)))
 
 returns-3 : tie.Need-returns-3
 returns-3 c = search needs

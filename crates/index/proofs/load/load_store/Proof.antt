@@ -81,10 +81,10 @@ part-store-no-end : tie.Need-part-store-no-end
 part-store-no-end c = omega (arith, inside c)
 
 sub-store-no-2 : tie.Need-sub-store-no-2
-sub-store-no-2 c = inside (c .before)
+sub-store-no-2 c = omega (arith, inside (c .before))
 
 part-store-no-start-2 : tie.Need-part-store-no-start-2
-part-store-no-start-2 c = inside (c .before)
+part-store-no-start-2 c = omega (arith, inside (c .before))
 
 part-store-no-end-2 : tie.Need-part-store-no-end-2
 part-store-no-end-2 c = search needs
@@ -123,10 +123,10 @@ number c =
 returns-2 : tie.Need-returns-2
 returns-2 c =
     let a = c .before .before .before .before .before .before .before .before .before .args in
-    open-refused (a .group-len) (a .«data» .now) (c .before .store-no .result) (number (c .before)) (c .if2 .taken)
+    open-refused (a .group-len) (a .«data» .now) (c .before .store-no .result) (number (c .before)) (λ z. omega arith)
 
 sub-t13 : tie.Need-sub-t13
-sub-t13 c = inside (c .before .before .before .before)
+sub-t13 c = omega (arith, inside (c .before .before .before .before))
 
 returns-3 : tie.Need-returns-3
 returns-3 c =
@@ -137,7 +137,7 @@ returns-3 c =
     let n = read .before .before .before in
     ap Opened (opened-is (a .group-len) f (a .directory-len) (read .deserialize-u64 .result) (footer s) (s .pre .2)
     (records-ok (a .group-len) f (good (read .before))) (read .deserialize-u64 .ensures) (n .deserialize-u32 .result) (count n))
-    ∙ open-taken (a .group-len) f (sym (number (c .before)) ∙ c .if2 .left)
+    ∙ open-taken (a .group-len) f (omega (arith, number (c .before)))
 
 pub load-store-spec : {M : Type 1} → statement M
 load-store-spec =

@@ -22,7 +22,7 @@ returns c =
     let groups = c .before .before .group-count in
     let s = c .before .before .before .before in
     records-other (s .args .group-len) (s .args .«data» .now) (s .args .directory-len) (s .args .n) (groups .result) (c .before .deserialize-u64 .result)
-    (s .pre .1) (s .pre .3) (groups .ensures) (c .before .deserialize-u64 .ensures) (c .if1 .taken)
+    (s .pre .1) (s .pre .3) (groups .ensures) (c .before .deserialize-u64 .ensures) (λ e. omega arith)
 
 sub-result : tie.Need-sub-result
 sub-result c = search needs
@@ -31,14 +31,16 @@ sub-result-2 : tie.Need-sub-result-2
 sub-result-2 c = search needs
 
 add-result : tie.Need-add-result
-add-result c = search needs
+add-result c =
+    let s = c .before .before .before .before in
+    omega (arith, group-count-le (s .pre .0 .some) (s .args .n))
 
 returns-2 : tie.Need-returns-2
 returns-2 c =
     let groups = c .before .before .group-count in
     let s = c .before .before .before .before in
     records-same (s .args .group-len) (s .args .«data» .now) (s .args .directory-len) (s .args .n) (groups .result) (c .before .deserialize-u64 .result)
-    (s .pre .1) (s .pre .3) (groups .ensures) (c .before .deserialize-u64 .ensures) (c .if1 .left)
+    (s .pre .1) (s .pre .3) (groups .ensures) (c .before .deserialize-u64 .ensures) (omega arith)
 
 pub records-bad-spec : {M : Type 1} → statement M
 records-bad-spec =
