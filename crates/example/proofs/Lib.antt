@@ -1,2 +1,5 @@
 pub mod Levels
 pub mod Shortest
+pub mod Bounds
+pub mod Found
+pub mod Walks

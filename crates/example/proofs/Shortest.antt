@@ -37,10 +37,10 @@ module _ {t d : List ℕ} (x : Distances t d) where
       let m = x .near (next t s b) (wf .closed s b hs hb) (omega arith) in
       omega (arith, m .good, x .least s (b ∷ m .word) hs (hits-cons s b hb (m .hits)))
 
--- ---- a byte stored behind a run of stores
-pub sets-more : (d a : List ℕ) (i b : ℕ) → set (sets d i a) (i + length a) b ≡ sets d i (a ++ (b ∷ []))
-sets-more d [] i b = ap (λ (n : ℕ). set d n b) (add-zero i)
-sets-more d (x ∷ a) i b = ap (λ (n : ℕ). set (sets (set d i x) (suc i) a) n b) (omega arith) ∙ sets-more (set d i x) a (suc i) b
+-- ---- a run of stores behind another
+pub sets-append : (d a b : List ℕ) (i : ℕ) → sets (sets d i a) (i + length a) b ≡ sets d i (a ++ b)
+sets-append d [] b i = ap (λ (n : ℕ). sets d n b) (add-zero i)
+sets-append d (x ∷ a) b i = ap (λ (n : ℕ). sets (sets (set d i x) (suc i) a) n b) (omega arith) ∙ sets-append (set d i x) a b (suc i)
 
 bytes-more : (w : List ℕ) (b : ℕ) → Bytes w → b < 256 → Bytes (w ++ (b ∷ []))
 bytes-more [] b h l = (l, tt)
@@ -73,7 +73,7 @@ module _ {t d old : List ℕ} where
           small = wf .closed s b (z .small) h;
           ends = omega (arith, z .ends);
           left = omega (arith, z .left);
-          put = rw (z .put, z .ends) (sets-more old (z .word) at b);
+          put = rw (z .put, z .ends) (sets-append old (z .word) (b ∷ []) at);
         }
 
     pub sofar-done : Distances t d → getD d s 0 ≡ 0 → Word t state (λ w. (length w ≡ getD d state 0) × (new ≡ sets old at w))

@@ -1,6 +1,7 @@
 // A string that a block's pattern finds: some accepted string of an interval of keys.
 pub mod distance;
 mod tail;
+mod walk;
 
 ghost use lib.ListN.{length};
 ghost use Rattle.pruning.specs.Interval.{startOf};
