@@ -3,3 +3,5 @@ pub mod Shortest
 pub mod Bounds
 pub mod Found
 pub mod Walks
+pub mod Split
+pub mod Answered

@@ -22,10 +22,10 @@ module _ (key : List ℕ) (i : ℕ) where
   front = subst (λ (x : List ℕ). take i key ≼ x) (take-append-drop i key) (prefix-≼ (take i key) (drop i key))
 
   module _ (h : i < length key) where
-    take-more : take (i + 1) key ≡ take i key ++ (getD key i 0 ∷ [])
+    pub take-more : take (i + 1) key ≡ take i key ++ (getD key i 0 ∷ [])
     take-more = rw add-one (take-suc key i 0 h)
 
-    split : take i key ++ (getD key i 0 ∷ drop (i + 1) key) ≡ key
+    pub split : take i key ++ (getD key i 0 ∷ drop (i + 1) key) ≡ key
     split = rw (← (drop-byte key i h)) (take-append-drop i key)
 
 -- ---- not above the key: the strings from m on, of which those below the first i bytes and low are passed

@@ -3,13 +3,14 @@ use crate::tail::write_tail;
 use automaton::table::accept;
 ghost use mathlib.Core.Path.{_≡_};
 ghost use mathlib.Core.List.{[], _∷_, _++_};
-ghost use Prim.Native.Nat.{_+_, _≤_, _<_};
+ghost use Prim.Native.Nat.{_+_, _≤_, _<_, max};
 ghost use lib.ListN.{length, take, getD};
 ghost use lib.Seq.{sets};
 ghost use Rattle.keys.specs.Order.{_≺_, _≼_};
 ghost use Rattle.automaton.specs.Table.{WellFormed, states, next};
 ghost use Rattle.automaton.specs.Words.{run, Word};
 ghost use Rattle.automaton.specs.Live.{Byte};
+ghost use Rattle.pruning.specs.Interval.{Between};
 ghost use Rattle.example.specs.Distance.{Distances};
 
 // The first byte from lo on and below hi that leads to a state that can match; hi or more where there is none.
@@ -120,4 +121,58 @@ pub fn write_range_end(
         low = 0;
     }
     0
+}
+
+// The state after the first n bytes of a key.
+fn accept_prefix(table: &[u8], key: &[u8], n: usize) -> usize
+    requires { ⌜ WellFormed (now table) × (n ≤ length (now key)) ⌝ }
+    ensures { λ r. ⌜ (r ≡ run (now (table .entry)) 0 (take n (now (key .entry)))) × (r < states (now (table .entry))) ⌝ }
+{
+    let mut state: usize = 0;
+    let mut i: usize = 0;
+    while i < n {
+        state = accept(table, state, key[i]);
+        i += 1;
+    }
+    state
+}
+
+// Writes a string above the start key and not above the end key.
+pub fn write_between(
+    table: &[u8],
+    distances: &[u8; 64],
+    start_key: &[u8],
+    end_key: &[u8],
+    out: &mut [u8],
+) -> usize
+    requires { ⌜ WellFormed (now table) × Distances (now table) (now distances) × (max (length (now «start_key»)) (length (now «end_key»)) + 64 ≤ length (now out)) ⌝ }
+    ensures { λ r. ⌜ (r ≡ 0 → (now (out .exit) ≡ now (out .entry)) × (Between (now (table .entry)) 0 (now («start_key» .entry)) (now («end_key» .entry)) → ⊥)) ⌝ }
+    ensures { λ r. ⌜ (0 < r → (r ≤ max (length (now («start_key» .entry))) (length (now («end_key» .entry))) + 64) × Word (now (table .entry)) 0 (λ w. (now («start_key» .entry) ≺ w) × (w ≼ now («end_key» .entry)) × (r ≡ length w) × (now (out .exit) ≡ sets (now (out .entry)) 0 w))) ⌝ }
+{
+    let n = keys::common_prefix_len(start_key, end_key);
+    if n == end_key.len() {
+        return 0;
+    }
+    let base = accept_prefix(table, end_key, n);
+    if n == start_key.len() {
+        return write_range_end(table, distances, end_key, n, base, 0, out);
+    }
+    let start_range = start_key[n];
+    if end_key[n] < start_range {
+        return 0;
+    }
+    let state = accept(table, base, start_range);
+    let len = write_range_start(table, distances, start_key, n + 1, state, out);
+    if len != 0 {
+        return len;
+    }
+    write_range_end(
+        table,
+        distances,
+        end_key,
+        n,
+        base,
+        start_range as usize + 1,
+        out,
+    )
 }
