@@ -1,4 +1,4 @@
--- The answer for the length of what is written, 0 for nothing, and the room that rows 24 asks for.
+-- The answer for the length of what is written, 0 for nothing, and the room that row 24 asks for.
 use mathlib.Core.Path.{_≡_, refl, sym, subst}
 use mathlib.Core.List.{List, [], _∷_}
 use mathlib.Core.Bool.{Bool, true, false}

@@ -62,7 +62,7 @@ fn write_leaving(
 }
 
 // Writes a string above the key that begins with its first n bytes, which lead to the state.
-pub fn write_range_start(
+fn write_range_start(
     table: &[u8],
     distances: &[u8; 64],
     key: &[u8],

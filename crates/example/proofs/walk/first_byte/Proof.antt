@@ -1,5 +1,5 @@
 -- The loop keeps: no byte passed leads to a state that can match.
-use mathlib.Core.Path.{sym, subst}
+use mathlib.Core.Path.{sym, ap, subst}
 use Prim.Native.Nat.{ℕ, _-_, _≤_, _<_}
 use native.Mathlib.Omega.{arith}
 use borrow.Author.Needs.{needs}
@@ -33,7 +33,8 @@ returns c =
     let s = c .before .before .before .before .before .before in
     let l = c .before .before .before .before .loop in
     let to = c .before .before .accept in
-    (λ h. (l .inv .0, subst (λ (q : ℕ). getD (s .args .distances .now) q 0 < 64) (to .ensures .0) (c .if1 .taken)), λ h. absurd (omega arith))
+    let e = ap (λ (q : ℕ). getD (s .args .distances .now) q 0) (to .ensures .0) in
+    (λ h. (l .inv .0, omega (arith, e, c .if1 .taken)), λ h. absurd (omega arith))
 
 add-byte : tie.Need-add-byte Inv-loop μ-loop
 add-byte c = search needs

@@ -89,7 +89,7 @@ returns-2 c =
       λ z. absurd (omega (arith, tail .ensures .0)),
       λ h. (
         omega (arith, tail .ensures .0, near-state acc, s .pre .1),
-        subst (λ (r : ℕ). Found t (λ w. (take (a .len) (a .key .now) ++ (a .lo ∷ [])) ≼ w) (λ w. w ≺ (take (a .len) (a .key .now) ++ (a .hi ∷ []))) (a .out .now) (tail .last .1 .1 .1 .0) r) (sym (tail .ensures .0))
+        subst (λ (r : ℕ). Found t (λ w. (take (a .len) (a .key .now) ++ (a .lo ∷ [])) ≼ w) (λ w. w ≺ (take (a .len) (a .key .now) ++ (a .hi ∷ []))) (a .out .now) (tail .last .1 .1 .1 .0) r) {x = a .len + 1 + getD d to 0} (sym (tail .ensures .0))
             (found-leaving t (a .key .now) (a .out .now) (copy .last .1 .0) (a .len) (s .pre .1 .0) (omega (arith, s .pre .1)) (bytes-of (a .key .now) (λ i. omega (arith, acc .before .before .before .before .before .before .before .before .before .shared-slice-known2 .given i))) (copy .ensures .1)
             (byte .result) (a .lo) (a .hi) (getD d to 0) (byte .ensures .0 below .0) below (omega (arith, s .pre .1 .2))
             (subst (λ (q : ℕ). Word t q (λ v. (length v ≡ getD d to 0) × (tail .last .1 .1 .1 .0 ≡ sets (set (copy .last .1 .0) (a .len) (byte .result)) (a .len + 1) v))) e (tail .ensures .1))),
