@@ -1,8 +1,9 @@
 -- The listing call (document 01, rows 20 to 24), for all inputs.
-use Prim.Native.Nat.{ℕ, zero, suc}
+use Prim.Native.Nat.{ℕ, zero, suc, _<_}
 use mathlib.Core.Path.{_≡_}
 use mathlib.Core.List.{List}
 use mathlib.Core.Bool.{Bool, false, _||_, cond}
+use mathlib.Core.Logic.{_⊎_}
 use lib.Dec.{ltb}
 use lib.ListN.{length}
 use lib.Seq.{sets}
@@ -37,12 +38,16 @@ pub record Listing (t : List ℕ) (separator : ℕ → List ℕ) (n : ℕ) (mark
   pub counted : count ≡ ones list
   pub bytes : written ≡ sets marks 0 list
 
--- document 01's number for each answer
-abbrev pub number : Listed → ℕ
-number (Count count) = 0
-number (Refused k) = k
+-- document 01's number and count for each answer; a refusal has all else zero
+abbrev pub listedNo : Listed → ℕ
+listedNo (Count count) = 0
+listedNo (Refused k) = k
 
--- what the call leaves in the marks: the listing, or what was there
-abbrev pub Leaves : List ℕ → (ℕ → List ℕ) → ℕ → List ℕ → List ℕ → Listed → Type 0
-Leaves t separator n marks written (Count count) = Listing t separator n marks written count
-Leaves t separator n marks written (Refused k) = written ≡ marks
+abbrev pub listedCount : Listed → ℕ
+listedCount (Count count) = count
+listedCount (Refused k) = 0
+
+-- what a call with number k leaves in the marks: the listing, or what was there
+abbrev pub Leaves : List ℕ → (ℕ → List ℕ) → ℕ → List ℕ → List ℕ → ℕ → ℕ → Type 0
+Leaves t separator n marks written k count =
+    ((k ≡ 0) × Listing t separator n marks written count) ⊎ ((0 < k) × (count ≡ 0) × (written ≡ marks))

@@ -7,7 +7,7 @@ ghost use Rattle.automaton.specs.Table.{WellFormed};
 ghost use Rattle.automaton.specs.Words.{Reach};
 ghost use Rattle.automaton.specs.Live.{Live};
 ghost use Rattle.directory.specs.Read.{keyOf, keyOutside};
-ghost use Rattle.listing.specs.Listing.{keysOutside, listNo, separatorAt, Listing, number, Leaves};
+ghost use Rattle.listing.specs.Listing.{keysOutside, listNo, separatorAt, Listing, listedNo, listedCount, Leaves};
 use index::SSTableIndexV3;
 use index::lookup::opened_bad;
 
@@ -71,8 +71,8 @@ pub fn get_block_for_automaton(
     table: &[u8],
     marks: &mut [u8],
 ) -> Listed
-    ensures { λ r. ⌜ number r ≡ listNo 128 opened (now («data» .entry)) (now (table .entry)) (length (now (marks .entry))) ⌝ }
-    ensures { λ r. ⌜ Leaves (now (table .entry)) (separatorAt opened (now («data» .entry))) (opened .n) (now (marks .entry)) (now (marks .exit)) r ⌝ }
+    ensures { λ r. ⌜ listedNo r ≡ listNo 128 opened (now («data» .entry)) (now (table .entry)) (length (now (marks .entry))) ⌝ }
+    ensures { λ r. ⌜ Leaves (now (table .entry)) (separatorAt opened (now («data» .entry))) (opened .n) (now (marks .entry)) (now (marks .exit)) (listedNo r) (listedCount r) ⌝ }
 {
     if opened_bad(opened, data.len(), STORE_BLOCK_LEN) {
         return Listed::Refused(20);
