@@ -3,7 +3,7 @@ use mathlib.Core.Path.{_≡_, sym, subst, subst₂, _∙_}
 use mathlib.Core.List.{List, [], _∷_, _++_}
 use mathlib.Core.Bool.{false, false≢true}
 use mathlib.Core.Option.{none, some}
-use mathlib.Core.Logic.{_⊎_, inl, inr, ⊎-elim, _↔_}
+use mathlib.Core.Logic.{_⊎_, inl, inr, ⊎-elim, _↔_, Iff·rfl, Iff·trans}
 use Prim.Native.Nat.{ℕ, _+_, _≤_, _<_, zero-le}
 use native.Mathlib.Omega.{arith}
 use native.Mathlib.Numerals.{add-one}
@@ -51,6 +51,10 @@ not-≺-nil a h = false≢true (sym (prefix-≼ [] a) ∙ h)
 
 pub not-cons-≼-nil : (x : ℕ) (a : List ℕ) → (x ∷ a) ≼ [] → ⊥
 not-cons-≼-nil x a h = false≢true (sym h ∙ prefix-≺ [] x a)
+
+-- what is left of two, where the first isn't
+pub past : {P Q R : Type 0} → P ↔ (Q ⊎ R) → (Q → ⊥) → P ↔ R
+past i n = (λ p. ⊎-elim (λ q. absurd (n q)) (λ r. r) (i .0 p), λ r. i .1 (inr r))
 
 -- the string w after the byte b, where b is k
 from : {t w : List ℕ} (s : ℕ) (P : List ℕ → Type 0) (b k : ℕ) → b ≡ k → Hits t (next t s b) w → P w → Word t (next t s k) P
@@ -153,11 +157,9 @@ between-lower t s x y a b l hy = (
 -- the run over a common prefix
 pub between-prefix : (t : List ℕ) (s : ℕ) (p a b : List ℕ) → Bytes p → Between t s (p ++ a) (p ++ b) ↔ Between t (run t s p) a b
 unfolding run
-between-prefix t s [] a b h = (λ m. m, λ m. m)
+between-prefix t s [] a b h = Iff·rfl
 between-prefix t s (x ∷ p) a b h =
-    let i = between-same t s x (p ++ a) (p ++ b) (h .0) in
-    let j = between-prefix t (next t s x) p a b (h .1) in
-    (λ m. j .0 (i .0 m), λ m. i .1 (j .1 m))
+    Iff·trans (between-same t s x (p ++ a) (p ++ b) (h .0)) (between-prefix t (next t s x) p a b (h .1))
 
 -- ---- the interval of a block
 pub marked-none : (t end : List ℕ) → Marked t none end ↔ ((flag t 0 ≡ 1) ⊎ Between t 0 [] end)
@@ -168,7 +170,7 @@ marked-none t end =
     )
 
 pub marked-some : (t a end : List ℕ) → Marked t (some a) end ↔ Between t 0 a end
-marked-some t a end = (λ m. m, λ m. m)
+marked-some t a end = Iff·rfl
 
 -- ---- a key from its byte i on
 pub drop-byte : (key : List ℕ) (i : ℕ) → i < length key → drop i key ≡ getD key i 0 ∷ drop (i + 1) key
@@ -216,5 +218,4 @@ module _ (t : List ℕ) (s : ℕ) (a b : List ℕ) {n : ℕ} (e : n ≡ commonPr
     common-lower ha hb hy h =
         let l : getD a n 0 < getD b n 0 = lt-of-le-ne h (subst (λ (k : ℕ). getD a k 0 ≡ getD b k 0 → ⊥) (sym e) (commonPrefixLen-differ a b (omega arith) (omega arith))) in
         let i : Between t s a b ↔ Between t base (getD a n 0 ∷ drop (n + 1) a) (getD b n 0 ∷ drop (n + 1) b) = rw (drop-byte a n ha, drop-byte b n hb) at common-run in
-        let j = between-lower t base (getD a n 0) (getD b n 0) (drop (n + 1) a) (drop (n + 1) b) l hy in
-        (λ m. j .0 (i .0 m), λ m. i .1 (j .1 m))
+        Iff·trans i (between-lower t base (getD a n 0) (getD b n 0) (drop (n + 1) a) (drop (n + 1) b) l hy)
