@@ -9,10 +9,8 @@ ghost use Rattle.automaton.specs.Live.{Live};
 ghost use Rattle.directory.specs.Read.{keyOf, keyOutside};
 ghost use Rattle.listing.specs.Listing.{keysOutside, listNo, separatorAt, Listing, listedNo, listedCount, Leaves};
 use index::SSTableIndexV3;
+use index::STORE_BLOCK_LEN;
 use index::lookup::opened_bad;
-
-// The blocks of a group.
-const STORE_BLOCK_LEN: usize = 128;
 
 // How many blocks are marked, or a row's number.
 pub enum Listed {
