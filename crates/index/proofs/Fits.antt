@@ -1,17 +1,14 @@
 -- Row 20 for the record, as a test and as facts: a test that fails is the facts, and the facts make the test fail.
-use mathlib.Core.Path.{_≡_, refl, sym, _∙_}
-use mathlib.Core.Bool.{Bool, true, false, _||_, true≢false}
+use mathlib.Core.Path.{_≡_, sym, _∙_}
+use mathlib.Core.Bool.{true, false, true≢false}
 use Prim.Native.Nat.{ℕ, _+_, _*_, _≤_}
 use lib.Dec.{ltb}
 use borrow.Author.Tests.{ltb-false, le-ltb}
 use Rattle.keys.proofs.Order.{by-test}
 use Rattle.store.specs.Store.{groupCount}
+use Rattle.store.proofs.Lookup.{neither}
 use Rattle.index.specs.declared.SSTableIndexV3.{SSTableIndexV3}
 use Rattle.index.specs.Lookups.{openedBad, OpenedFits}
-
-pub neither : (a b : Bool) → a || b ≡ false → (a ≡ false) × (b ≡ false)
-neither true b e = absurd (true≢false e)
-neither false b e = (refl, e)
 
 module _ (L : ℕ) (opened : SSTableIndexV3) (len : ℕ) where
   pub opened-fits : openedBad L opened len ≡ false → OpenedFits L opened len

@@ -25,7 +25,7 @@ use Rattle.directory.specs.declared.read.Found.the-variants.{At, Above, Outside
 use Rattle.directory.proofs.read.Found as found
 use Rattle.directory.proofs.Reader.{first-unique}
 use Rattle.index.specs.declared.SSTableIndexV3.{SSTableIndexV3}
-use Rattle.index.specs.Parts.{recordsPart, addrsPart, blocksIn, blockIn, separatorIn}
+use Rattle.index.specs.Parts.{recordsPart, addrsPart, directoryPart, blocksIn, blockIn, separatorIn}
 use Rattle.index.specs.Opening.{Opens}
 use Rattle.index.specs.Lookups.{openedBad, OpenedFits, directoryAt, metasAt, addrsAt, ByIdExact, ByOrdExact, ByKeyExact, Refuses, AddrByKeyExact}
 use Rattle.index.proofs.Fits.{bad-unfit}
@@ -95,29 +95,34 @@ key-above separator n key Outside k h other p = absurd p
 -- ---- bytes and record of one opening
 
 module _ (L : ℕ) (f : List ℕ) (opened : SSTableIndexV3) (facts : OpenFacts L f opened) where
-  -- by id
-  pub got-as : (id : ℕ) (g : Got) → id < opened .n → g ≡ storeGet L (metasAt opened f) (addrsAt opened f) (opened .n) id → g ≡ Block (blockIn L f id)
-  unfolding blockIn
-  got-as id g h e =
-      e
-      ∙ rw (facts .metas, facts .addrs, facts .count)
-      (get-block L (recordsPart f) (addrsPart f) (blocksIn f) id (facts .group .some) (facts .ok) (rw (facts .count) at h))
+  module _ (recs addr : List ℕ) (p : recs ≡ metasAt opened f) (q : addr ≡ addrsAt opened f) where
+    recs-are : recs ≡ recordsPart f
+    recs-are = p ∙ facts .metas
 
-  -- by ordinal
-  pub located-as : (recs addr : List ℕ) → recs ≡ metasAt opened f → addr ≡ addrsAt opened f → (ord : ℕ) (r : Located)
-      → (StoreOk L recs addr (opened .n) → LocatedAs (storeBlock L recs addr) (opened .n) ord r) → LocatedAs (blockIn L f) (opened .n) ord r
-  unfolding blockIn
-  located-as recs addr p q ord r h =
-      let records : recs ≡ recordsPart f = p ∙ facts .metas in
-      let bytes : addr ≡ addrsPart f = q ∙ facts .addrs in
-      rw (records, bytes) at (h (rw (records, bytes, facts .count) (facts .ok)))
+    addr-are : addr ≡ addrsPart f
+    addr-are = q ∙ facts .addrs
+
+    -- by id
+    pub got-as : (id : ℕ) (g : Got) → id < opened .n → g ≡ storeGet L recs addr (opened .n) id → g ≡ Block (blockIn L f id)
+    unfolding blockIn
+    got-as id g h e =
+        e
+        ∙ rw (recs-are, addr-are, facts .count)
+        (get-block L (recordsPart f) (addrsPart f) (blocksIn f) id (facts .group .some) (facts .ok) (rw (facts .count) at h))
+
+    -- by ordinal
+    pub located-as : (ord : ℕ) (r : Located)
+        → (StoreOk L recs addr (opened .n) → LocatedAs (storeBlock L recs addr) (opened .n) ord r) → LocatedAs (blockIn L f) (opened .n) ord r
+    unfolding blockIn
+    located-as ord r h = rw (recs-are, addr-are) at (h (rw (recs-are, addr-are, facts .count) (facts .ok)))
 
   -- by key
-  pub found-as : (key : List ℕ) (r : Found)
-      → (Sorted (directoryAt opened f) (opened .n) → FoundAs (keyOf (directoryAt opened f) (opened .n)) (opened .n) key r)
-      → FoundAs (separatorIn f) (opened .n) key r
+  pub found-as : (d : List ℕ) → d ≡ directoryAt opened f → (key : List ℕ) (r : Found)
+      → (Sorted d (opened .n) → FoundAs (keyOf d (opened .n)) (opened .n) key r) → FoundAs (separatorIn f) (opened .n) key r
   unfolding separatorIn
-  found-as key r h = rw (facts .count) (rw (facts .directory, facts .count) at (h (rw (facts .directory, facts .count) (facts .sorted))))
+  found-as d e key r h =
+      let same : d ≡ directoryPart f = e ∙ facts .directory in
+      rw (facts .count) (rw (same, facts .count) at (h (rw (same, facts .count) (facts .sorted))))
 
   pub opened-legal : Legal (blockIn L f) (opened .n)
   unfolding blockIn

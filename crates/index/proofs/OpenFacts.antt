@@ -11,8 +11,9 @@ use lib.ListN.{length}
 use borrow.Author.Tests.{ltb-false, eqb-true, eqb-false, not-false}
 use Rattle.store.specs.Store.{groupCount}
 use Rattle.store.specs.Read.{StoreOk}
-use Rattle.store.specs.Check.{storeNo}
 use Rattle.store.specs.Facts.{GroupLen}
+use Rattle.store.proofs.Lookup.{neither}
+use Rattle.store.proofs.Rows.{store-kept}
 use Rattle.directory.specs.Read.{directoryNo, Sorted}
 use Rattle.directory.proofs.Rules.{DirectoryOk, directory-kept}
 use Rattle.directory.proofs.Opened.{opened-good, opened-sorted}
@@ -21,7 +22,6 @@ use Rattle.index.specs.declared.Loaded.the-variants.{Opened}
 use Rattle.index.specs.Parts.{directoryLen, directoryPart, storeLen, recordsLen, recordsPart, addrsPart, blocksIn}
 use Rattle.index.specs.Opening.{footerNo, recordsBad, orElse, openNo, openedOf, openStep, openDef, Opens}
 use Rattle.index.specs.Lookups.{directoryAt, metasAt, addrsAt, OpenedFits}
-use Rattle.index.proofs.Fits.{neither}
 
 pub record OpenFacts (L : ℕ) (f : List ℕ) (opened : SSTableIndexV3) : Type 0 where
   pub group : GroupLen L
@@ -75,9 +75,6 @@ module _ (f : List ℕ) where
 
 -- ---- the facts
 
-store-kept : (L : ℕ) (recs addr : List ℕ) (n : ℕ) → 1 ≤ L → 1 ≤ n → storeNo L recs addr n ≡ 0 → StoreOk L recs addr n
-store-kept = ?
-
 module _ (L : ℕ) (f : List ℕ) (len : GroupLen L) where
   accepted-facts : openNo L f ≡ 0 → OpenFacts L f (openedOf f)
   unfolding openNo openedOf
@@ -120,3 +117,7 @@ unfolding openDef
 opens-facts L f opened len e =
     let a = opens-no f (openNo L f) opened e in
     rw (a .1) (accepted-facts L f len (a .0))
+
+-- bytes open to one record
+pub opens-unique : (L : ℕ) (f : List ℕ) (a b : SSTableIndexV3) → Opens L f a → Opens L f b → a ≡ b
+opens-unique L f a b p q = cc

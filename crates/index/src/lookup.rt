@@ -4,12 +4,13 @@ ghost use Prim.Native.Nat.{_+_, _≤_, _<_};
 ghost use lib.Dec.{ltb};
 ghost use lib.ListN.{length, take, drop};
 ghost use Rattle.store.specs.Facts.{GroupLen};
-ghost use Rattle.store.specs.Read.{storeGet};
-ghost use Rattle.directory.specs.Read.{keyOf, Sorted, FoundIn, FoundAs};
+ghost use Rattle.group.specs.declared.BlockAddr.{BlockAddr};
+ghost use Rattle.group.specs.Legal.{NumbersOk};
+ghost use Rattle.directory.specs.Read.{FoundIn, FoundAs};
 ghost use Rattle.index.specs.Parts.{blockIn, separatorIn};
 ghost use Rattle.index.specs.Opening.{Opens};
 ghost use Rattle.index.specs.Answers.{byIdNo, byIdAddr, locatedNo, locatedId, locatedAddr, idNo, idOf};
-ghost use Rattle.index.specs.Lookups.{openedBad, OpenedFits, directoryAt, metasAt, addrsAt, ByIdAllowed, ByIdExact, LocatedAllowed, ByOrdExact, ByKeyAllowed, ByKeyExact, AddrByKeyExact, placeDef};
+ghost use Rattle.index.specs.Lookups.{openedBad, OpenedFits, ByIdAllowed, ByIdExact, LocatedAllowed, ByOrdExact, ByKeyAllowed, ByKeyExact, AddrByKeyExact, placeDef};
 use crate::BlockById;
 use crate::Located;
 use crate::LocatedId;
@@ -69,7 +70,8 @@ pub fn opened_bad(opened: SSTableIndexV3, len: usize, group_len: usize) -> bool
 // Block `id` as the store gives it.
 fn get(opened: SSTableIndexV3, data: &[u8], group_len: usize, id: usize) -> Got
     requires { ⌜ GroupLen «group_len» × OpenedFits «group_len» opened (length (now «data»)) × (id < opened .n) ⌝ }
-    ensures { λ r. ⌜ r ≡ storeGet «group_len» (metasAt opened (now («data» .entry))) (addrsAt opened (now («data» .entry))) (opened .n) id ⌝ }
+    ensures { λ r. ⌜ ((block : BlockAddr) → r ≡ Got.Block block → NumbersOk block) ⌝ }
+    ensures { λ r. ⌜ (Opens «group_len» (now («data» .entry)) opened → r ≡ Got.Block (blockIn «group_len» (now («data» .entry)) id)) ⌝ }
 {
     store::read::get(
         part(data, opened.metas, opened.metas_len),
@@ -81,10 +83,10 @@ fn get(opened: SSTableIndexV3, data: &[u8], group_len: usize, id: usize) -> Got
 }
 
 // The first separator that isn't below `key`, as the directory gives it.
-fn find(opened: SSTableIndexV3, data: &[u8], key: &[u8]) -> Found
-    requires { ⌜ (1 ≤ opened .n) × (opened .n ≤ 65536) × (opened .directory + opened .«directory_len» ≤ length (now «data»)) ⌝ }
+fn find(opened: SSTableIndexV3, data: &[u8], group_len: usize, key: &[u8]) -> Found
+    requires { ⌜ GroupLen «group_len» × OpenedFits «group_len» opened (length (now «data»)) ⌝ }
     ensures { λ r. ⌜ FoundIn (opened .n) r ⌝ }
-    ensures { λ r. ⌜ (Sorted (directoryAt opened (now («data» .entry))) (opened .n) → FoundAs (keyOf (directoryAt opened (now («data» .entry))) (opened .n)) (opened .n) (now (key .entry)) r) ⌝ }
+    ensures { λ r. ⌜ (Opens «group_len» (now («data» .entry)) opened → FoundAs (separatorIn (now («data» .entry))) (opened .n) (now (key .entry)) r) ⌝ }
 {
     let keys = part(data, opened.directory, opened.directory_len);
     directory::read::locate_with_key(keys, opened.n, key)
@@ -146,7 +148,7 @@ pub fn locate_with_key(
     ensures { λ r. ⌜ ByKeyAllowed (opened .n) (idNo r) (idOf r) ⌝ }
     ensures { λ r. ⌜ (Opens «group_len» (now («data» .entry)) opened → ByKeyExact (separatorIn (now («data» .entry))) (opened .n) (now (key .entry)) (idNo r) (idOf r)) ⌝ }
 {
-    let found = find(opened, data, key);
+    let found = find(opened, data, group_len, key);
     let Found::At(id) = found else {
         return LocatedId::Refused(refusal(found));
     };
@@ -164,7 +166,7 @@ pub fn get_block_with_key(
     ensures { λ r. ⌜ LocatedAllowed 19 (opened .n) (locatedNo r) (locatedId r) (locatedAddr r) ⌝ }
     ensures { λ r. ⌜ (Opens «group_len» (now («data» .entry)) opened → AddrByKeyExact (separatorIn (now («data» .entry))) (blockIn «group_len» (now («data» .entry))) (opened .n) (now (key .entry)) (locatedNo r) (locatedId r) (locatedAddr r)) ⌝ }
 {
-    let found = find(opened, data, key);
+    let found = find(opened, data, group_len, key);
     let Found::At(id) = found else {
         return Located::Refused(refusal(found));
     };
