@@ -46,38 +46,38 @@ pub record OpenedFits (L : ℕ) (opened : SSTableIndexV3) (len : ℕ) : Type 0 w
 
 -- a refusal: the call's own row, or 20
 abbrev pub Refuses : ℕ → ℕ → Type 0
-Refuses row no = (no ≡ row) ⊎ (no ≡ 20)
+Refuses row k = (k ≡ row) ⊎ (k ≡ 20)
 
 -- by id
 abbrev pub ByIdAllowed : ℕ → ℕ → ℕ → BlockAddr → Type 0
-ByIdAllowed n id no addr = ((no ≡ 0) × (id < n) × NumbersOk addr) ⊎ (Refuses 17 no × (addr ≡ noBlock))
+ByIdAllowed n id k addr = ((k ≡ 0) × (id < n) × NumbersOk addr) ⊎ (Refuses 17 k × (addr ≡ noBlock))
 
 abbrev pub ByIdExact : (ℕ → BlockAddr) → ℕ → ℕ → ℕ → BlockAddr → Type 0
-ByIdExact block n id no addr = ((no ≡ 0) × (id < n) × (addr ≡ block id)) ⊎ ((no ≡ 17) × (n ≤ id) × (addr ≡ noBlock))
+ByIdExact block n id k addr = ((k ≡ 0) × (id < n) × (addr ≡ block id)) ⊎ ((k ≡ 17) × (n ≤ id) × (addr ≡ noBlock))
 
 -- an id with its address; `row` is the call's own
 abbrev pub LocatedAllowed : ℕ → ℕ → ℕ → ℕ → BlockAddr → Type 0
-LocatedAllowed row n no id addr = ((no ≡ 0) × (id < n) × NumbersOk addr) ⊎ (Refuses row no × (id ≡ 0) × (addr ≡ noBlock))
+LocatedAllowed row n k id addr = ((k ≡ 0) × (id < n) × NumbersOk addr) ⊎ (Refuses row k × (id ≡ 0) × (addr ≡ noBlock))
 
 -- by ordinal: the last block whose first ordinal is at or below it; one below the first gets 18
 abbrev pub ByOrdExact : (ℕ → BlockAddr) → ℕ → ℕ → ℕ → ℕ → BlockAddr → Type 0
-ByOrdExact block n ord no id addr =
-    ((no ≡ 0) × Last (λ j. block j .«first_ordinal») n ord id × (addr ≡ block id))
-    ⊎ ((no ≡ 18) × (id ≡ 0) × (addr ≡ noBlock) × (ord < block 0 .«first_ordinal»))
+ByOrdExact block n ord k id addr =
+    ((k ≡ 0) × Last (λ j. block j .«first_ordinal») n ord id × (addr ≡ block id))
+    ⊎ ((k ≡ 18) × (id ≡ 0) × (addr ≡ noBlock) × (ord < block 0 .«first_ordinal»))
 
 -- by key: the first block whose separator isn't below it; one above the last separator gets 19
 abbrev pub ByKeyAllowed : ℕ → ℕ → ℕ → Type 0
-ByKeyAllowed n no id = ((no ≡ 0) × (id < n)) ⊎ (Refuses 19 no × (id ≡ 0))
+ByKeyAllowed n k id = ((k ≡ 0) × (id < n)) ⊎ (Refuses 19 k × (id ≡ 0))
 
 abbrev pub ByKeyExact : (ℕ → List ℕ) → ℕ → List ℕ → ℕ → ℕ → Type 0
-ByKeyExact separator n key no id =
-    ((no ≡ 0) × First separator n key id) ⊎ ((no ≡ 19) × (id ≡ 0) × ((i : ℕ) → i < n → separator i ≺ key))
+ByKeyExact separator n key k id =
+    ((k ≡ 0) × First separator n key id) ⊎ ((k ≡ 19) × (id ≡ 0) × ((i : ℕ) → i < n → separator i ≺ key))
 
 -- an address by key: the block for the key, and its address
 abbrev pub AddrByKeyExact : (ℕ → List ℕ) → (ℕ → BlockAddr) → ℕ → List ℕ → ℕ → ℕ → BlockAddr → Type 0
-AddrByKeyExact separator block n key no id addr =
-    ((no ≡ 0) × First separator n key id × (addr ≡ block id))
-    ⊎ ((no ≡ 19) × (id ≡ 0) × (addr ≡ noBlock) × ((i : ℕ) → i < n → separator i ≺ key))
+AddrByKeyExact separator block n key k id addr =
+    ((k ≡ 0) × First separator n key id × (addr ≡ block id))
+    ⊎ ((k ≡ 19) × (id ≡ 0) × (addr ≡ noBlock) × ((i : ℕ) → i < n → separator i ≺ key))
 
 -- the place of the separator of block id; an unknown id or a hit on row 20 is a miss
 unfoldable pub placeDef : ℕ → SSTableIndexV3 → List ℕ → ℕ → Place

@@ -2,8 +2,11 @@
 ghost use mathlib.Core.Path.{_≡_};
 ghost use Prim.Native.Nat.{_+_, _≤_, _<_};
 ghost use lib.Dec.{ltb};
-ghost use lib.ListN.{length};
+ghost use lib.ListN.{length, take, drop};
 ghost use Rattle.store.specs.Facts.{GroupLen};
+ghost use Rattle.group.specs.declared.BlockAddr.{BlockAddr};
+ghost use Rattle.group.specs.Legal.{NumbersOk};
+ghost use Rattle.directory.specs.Read.{FoundIn, FoundAs};
 ghost use Rattle.index.specs.Parts.{blockIn, separatorIn};
 ghost use Rattle.index.specs.Opening.{Opens};
 ghost use Rattle.index.specs.Answers.{byIdNo, byIdAddr, locatedNo, locatedId, locatedAddr, idNo, idOf};
@@ -32,6 +35,15 @@ fn part_outside(offset: usize, part_len: usize, len: usize) -> bool
     part_len > len - offset
 }
 
+// The `len` bytes from `offset` on.
+fn part(data: &[u8], offset: usize, len: usize) -> &[u8]
+    requires { ⌜ offset + len ≤ length (now «data») ⌝ }
+    ensures { λ r. ⌜ now r ≡ take len (drop offset (now («data» .entry))) ⌝ }
+{
+    let end = offset + len;
+    &data[offset..end]
+}
+
 // Row 20 for the record: whether it can't be one of `len` bytes.
 pub fn opened_bad(opened: SSTableIndexV3, len: usize, group_len: usize) -> bool
     requires { ⌜ GroupLen «group_len» ⌝ }
@@ -55,6 +67,42 @@ pub fn opened_bad(opened: SSTableIndexV3, len: usize, group_len: usize) -> bool
     opened.metas_len < META_LEN * store::write::group_count(opened.n, group_len)
 }
 
+// Block `id` as the store gives it.
+fn get(opened: SSTableIndexV3, data: &[u8], group_len: usize, id: usize) -> Got
+    requires { ⌜ GroupLen «group_len» × OpenedFits «group_len» opened (length (now «data»)) × (id < opened .n) ⌝ }
+    ensures { λ r. ⌜ ((block : BlockAddr) → r ≡ Got.Block block → NumbersOk block) ⌝ }
+    ensures { λ r. ⌜ (Opens «group_len» (now («data» .entry)) opened → r ≡ Got.Block (blockIn «group_len» (now («data» .entry)) id)) ⌝ }
+{
+    store::read::get(
+        part(data, opened.metas, opened.metas_len),
+        part(data, opened.addrs, opened.addrs_len),
+        opened.n,
+        group_len,
+        id,
+    )
+}
+
+// The first separator that isn't below `key`, as the directory gives it.
+fn find(opened: SSTableIndexV3, data: &[u8], group_len: usize, key: &[u8]) -> Found
+    requires { ⌜ GroupLen «group_len» × OpenedFits «group_len» opened (length (now «data»)) ⌝ }
+    ensures { λ r. ⌜ FoundIn (opened .n) r ⌝ }
+    ensures { λ r. ⌜ (Opens «group_len» (now («data» .entry)) opened → FoundAs (separatorIn (now («data» .entry))) (opened .n) (now (key .entry)) r) ⌝ }
+{
+    let keys = part(data, opened.directory, opened.directory_len);
+    directory::read::locate_with_key(keys, opened.n, key)
+}
+
+// The row that a search without a block hits.
+fn refusal(found: Found) -> u32
+    ensures { λ r. ⌜ (found ≡ Found.Above → r ≡ 19) × (found ≡ Found.Outside → r ≡ 20) ⌝ }
+{
+    match found {
+        Found::At(_) => 0,
+        Found::Above => 19,
+        Found::Outside => 20,
+    }
+}
+
 // The address of block `block_id`.
 pub fn get_block(opened: SSTableIndexV3, data: &[u8], group_len: usize, block_id: u64) -> BlockById
     requires { ⌜ GroupLen «group_len» × OpenedFits «group_len» opened (length (now «data»)) ⌝ }
@@ -64,15 +112,7 @@ pub fn get_block(opened: SSTableIndexV3, data: &[u8], group_len: usize, block_id
     if block_id >= opened.n as u64 {
         return BlockById::Refused(17);
     }
-    let metas = opened.metas + opened.metas_len;
-    let addrs = opened.addrs + opened.addrs_len;
-    let Got::Block(block) = store::read::get(
-        &data[opened.metas..metas],
-        &data[opened.addrs..addrs],
-        opened.n,
-        group_len,
-        block_id as usize,
-    ) else {
+    let Got::Block(block) = get(opened, data, group_len, block_id as usize) else {
         return BlockById::Refused(20);
     };
     BlockById::Block(block)
@@ -84,11 +124,9 @@ pub fn locate_with_ord(opened: SSTableIndexV3, data: &[u8], group_len: usize, or
     ensures { λ r. ⌜ LocatedAllowed 18 (opened .n) (locatedNo r) (locatedId r) (locatedAddr r) ⌝ }
     ensures { λ r. ⌜ (Opens «group_len» (now («data» .entry)) opened → ByOrdExact (blockIn «group_len» (now («data» .entry))) (opened .n) ord (locatedNo r) (locatedId r) (locatedAddr r)) ⌝ }
 {
-    let metas = opened.metas + opened.metas_len;
-    let addrs = opened.addrs + opened.addrs_len;
     match store::read::binary_search_ord(
-        &data[opened.metas..metas],
-        &data[opened.addrs..addrs],
+        part(data, opened.metas, opened.metas_len),
+        part(data, opened.addrs, opened.addrs_len),
         opened.n,
         group_len,
         ord,
@@ -110,22 +148,11 @@ pub fn locate_with_key(
     ensures { λ r. ⌜ ByKeyAllowed (opened .n) (idNo r) (idOf r) ⌝ }
     ensures { λ r. ⌜ (Opens «group_len» (now («data» .entry)) opened → ByKeyExact (separatorIn (now («data» .entry))) (opened .n) (now (key .entry)) (idNo r) (idOf r)) ⌝ }
 {
-    let end = opened.directory + opened.directory_len;
-    match directory::read::locate_with_key(&data[opened.directory..end], opened.n, key) {
-        Found::At(id) => LocatedId::Id(id),
-        Found::Above => LocatedId::Refused(19),
-        Found::Outside => LocatedId::Refused(20),
-    }
-}
-
-// The number of an answer without a block.
-fn refusal(found: LocatedId) -> u32
-    ensures { λ r. ⌜ r ≡ idNo found ⌝ }
-{
-    match found {
-        LocatedId::Id(_) => 0,
-        LocatedId::Refused(no) => no,
-    }
+    let found = find(opened, data, group_len, key);
+    let Found::At(id) = found else {
+        return LocatedId::Refused(refusal(found));
+    };
+    LocatedId::Id(id)
 }
 
 // The first block whose separator isn't below `key`, with its address.
@@ -139,11 +166,11 @@ pub fn get_block_with_key(
     ensures { λ r. ⌜ LocatedAllowed 19 (opened .n) (locatedNo r) (locatedId r) (locatedAddr r) ⌝ }
     ensures { λ r. ⌜ (Opens «group_len» (now («data» .entry)) opened → AddrByKeyExact (separatorIn (now («data» .entry))) (blockIn «group_len» (now («data» .entry))) (opened .n) (now (key .entry)) (locatedNo r) (locatedId r) (locatedAddr r)) ⌝ }
 {
-    let found = locate_with_key(opened, data, group_len, key);
-    let LocatedId::Id(id) = found else {
+    let found = find(opened, data, group_len, key);
+    let Found::At(id) = found else {
         return Located::Refused(refusal(found));
     };
-    let BlockById::Block(block) = get_block(opened, data, group_len, id as u64) else {
+    let Got::Block(block) = get(opened, data, group_len, id) else {
         return Located::Refused(20);
     };
     Located::At(id, block)
@@ -163,8 +190,7 @@ pub fn separator_place(
         return Place::Missing;
     }
     let id = block_id as usize;
-    let end = opened.directory + opened.directory_len;
-    let keys = &data[opened.directory..end];
+    let keys = part(data, opened.directory, opened.directory_len);
     if directory::read::key_outside(keys, opened.n, id) {
         return Place::Missing;
     }

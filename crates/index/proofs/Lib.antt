@@ -1,0 +1,4 @@
+pub mod Fits
+pub mod OpenFacts
+pub mod LookupLaws
+pub mod Separators
