@@ -1,17 +1,18 @@
 // The index over lent bytes: `SSTableIndexV3` of src/index/v3.rs.
+pub mod load;
 pub mod lookup;
 
 ghost use mathlib.Core.Path.{_≡_};
 ghost use Prim.Native.Nat.{_≤_};
 ghost use lib.ListN.{length};
 ghost use Rattle.index.specs.Parts.{blockIn, separatorIn};
-ghost use Rattle.index.specs.Opening.{Opens};
+ghost use Rattle.index.specs.Opening.{openDef, Opens};
 ghost use Rattle.index.specs.Answers.{byIdNo, byIdAddr, locatedNo, locatedId, locatedAddr, idNo, idOf, partAt};
 ghost use Rattle.index.specs.Lookups.{ByIdAllowed, ByIdExact, LocatedAllowed, ByOrdExact, ByKeyAllowed, ByKeyExact, AddrByKeyExact, placeDef};
 use group::BlockAddr;
 
 // The blocks of a group.
-const STORE_BLOCK_LEN: usize = 128;
+pub const STORE_BLOCK_LEN: usize = 128;
 
 // An opened index: how many blocks, and where its parts stand in the bytes.
 pub struct SSTableIndexV3 {
@@ -55,6 +56,13 @@ pub enum Place {
 }
 
 impl SSTableIndexV3 {
+    // Opens the bytes of an index that anyone may have written.
+    pub fn load(data: &[u8]) -> Loaded
+        ensures { λ r. ⌜ r ≡ openDef 128 (now («data» .entry)) ⌝ }
+    {
+        load::load(data, STORE_BLOCK_LEN)
+    }
+
     // The address of block `block_id`.
     pub fn get_block(self, data: &[u8], block_id: u64) -> BlockById
         ensures { λ r. ⌜ ByIdAllowed (self .n) «block_id» (byIdNo r) (byIdAddr r) ⌝ }
