@@ -82,6 +82,12 @@ pub fn separator(opened: SSTableIndexV3, data: &[u8], given: &[u64]) -> bool {
             if given[1] != 0 {
                 return false;
             }
+            if given[2] != 0 {
+                return false;
+            }
+            if given[3] != 0 {
+                return false;
+            }
             part.len() == 0
         }
     }

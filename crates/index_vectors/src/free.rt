@@ -27,12 +27,18 @@ pub fn by_ord(opened: SSTableIndexV3, data: &[u8], given: &[u64]) -> bool {
     answers::is_allowed(got, 18, opened.n as u64)
 }
 
-pub fn by_key(opened: SSTableIndexV3, data: &[u8], key: &[u8]) -> bool {
+pub fn by_key(opened: SSTableIndexV3, data: &[u8], key: &[u8], given: &[u64]) -> bool {
+    if given.len() != 0 {
+        return false;
+    }
     let got = answers::of_id(opened.locate_with_key(data, key));
     answers::is_allowed(got, 19, opened.n as u64)
 }
 
-pub fn block_by_key(opened: SSTableIndexV3, data: &[u8], key: &[u8]) -> bool {
+pub fn block_by_key(opened: SSTableIndexV3, data: &[u8], key: &[u8], given: &[u64]) -> bool {
+    if given.len() != 0 {
+        return false;
+    }
     let got = answers::of_located(opened.get_block_with_key(data, key));
     answers::is_allowed(got, 19, opened.n as u64)
 }

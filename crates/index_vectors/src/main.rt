@@ -95,8 +95,8 @@ fn look_up(kind: u8, state: State, given: &[u64], text: &[u8], file: &[u8]) -> S
         b'p' => exact::separator(opened, data, given),
         b'I' => free::by_id(opened, data, given),
         b'O' => free::by_ord(opened, data, given),
-        b'K' => free::by_key(opened, data, text),
-        b'A' => free::block_by_key(opened, data, text),
+        b'K' => free::by_key(opened, data, text, given),
+        b'A' => free::block_by_key(opened, data, text, given),
         b'P' => free::separator(opened, data, given),
         _ => false,
     };
