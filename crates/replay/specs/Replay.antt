@@ -1,0 +1,143 @@
+-- What replaying a list answers and leaves, from document 01's plain machine and its entries: demand 3 on running code.
+use Prim.Native.Nat.{ℕ, _+_, _*_, _≤_, _<_}
+use mathlib.Core.Path.{_≡_}
+use mathlib.Core.List.{List, [], _∷_, _++_}
+use mathlib.Core.Bool.{Bool, _||_, cond}
+use mathlib.Core.Logic.{_⊎_}
+use lib.Dec.{eqb, ltb}
+use lib.ListN.{length, getD, take, drop}
+use lib.Seq.{sets}
+use Rattle.slope.specs.Slope.{bestSlope}
+use Rattle.group.specs.declared.BlockAddr.{BlockAddr}
+use Rattle.group.specs.Blocks.{blockOf}
+use Rattle.directory.specs.Directory.{directoryBytes}
+use Rattle.builder.specs.Calls.{After}
+use Rattle.builder.specs.Plain.{Call, Entry, Rooms, plainNumbers, plainEnd, blocksOf, separatorsOf, runEnd}
+use Rattle.builder.specs.Index.{indexBytes}
+use Rattle.automaton.specs.Table.{tableNo}
+use Rattle.index.specs.Lookups.{ByIdExact, ByOrdExact, ByKeyExact, AddrByKeyExact}
+use Rattle.listing.specs.Marks.{Marks, ones}
+use Rattle.replay.specs.Format.{Question, byId, byOrdinal, byKey, addressByKey, separatorOf, markOf, calls, questions, callCount, questionCount, listBad}
+
+-- an answer is five numbers
+abbrev pub cells : ℕ → ℕ → ℕ → ℕ → ℕ → List ℕ
+cells no a b c d = no ∷ a ∷ b ∷ c ∷ d ∷ []
+
+-- a call's is its number
+unfoldable pub callCells : List ℕ → List ℕ
+callCells [] = []
+callCells (no ∷ nos) = cells no 0 0 0 0 ++ callCells nos
+
+-- a fresh builder with the lent areas, and the machine's entries behind the list's calls
+abbrev pub freshOf : List ℕ → List ℕ → After
+freshOf B K = record { no = 0; builder = record { n = 0 }; blocks = B; keys = K }
+
+abbrev pub roomsIn : List ℕ → List ℕ → Rooms
+roomsIn B K = record { blocks = length B; keys = length K }
+
+abbrev pub entriesOf : List ℕ → List ℕ → List ℕ → List Entry
+entriesOf s B K = plainEnd (roomsIn B K) (calls s) []
+
+-- block i and separator i of entries
+abbrev pub entryBlock : List Entry → ℕ → BlockAddr
+entryBlock es i = blockOf (blocksOf es) i
+
+abbrev pub entryKey : List Entry → ℕ → List ℕ
+entryKey es i = getD (separatorsOf es) i []
+
+-- the index of entries and its directory; there is none of 0 or 1
+unfoldable pub entriesIndex : List Entry → List ℕ
+entriesIndex es = cond (ltb (length es) 2) [] (indexBytes bestSlope 128 (blocksOf es) (separatorsOf es))
+
+unfoldable pub entriesDirectory : List Entry → List ℕ
+entriesDirectory es = cond (ltb (length es) 2) [] (directoryBytes (separatorsOf es))
+
+-- finish is refused exactly when row 9 holds: its number, total and directory length, and the output that it leaves
+abbrev pub isShort : List Entry → List ℕ → Bool
+isShort es out = ltb (length out) (length (entriesIndex es))
+
+unfoldable pub finishCells : List Entry → List ℕ → List ℕ
+finishCells es out = cond (isShort es out) (cells 9 0 0 0 0) (cells 0 (length (entriesIndex es)) (length (entriesDirectory es)) 0 0)
+
+unfoldable pub finishOut : List Entry → List ℕ → List ℕ
+finishOut es out = cond (isShort es out) out (sets out 0 (entriesIndex es))
+
+-- the first total bytes opened alone: no bytes get 10
+unfoldable pub openNumber : List Entry → List ℕ → ℕ
+openNumber es out = cond (ltb (length es) 2 || isShort es out) 10 0
+
+-- by id: entry i's start, end and ordinal, or 17
+pub record IdAnswer (es : List Entry) (id : ℕ) (cs : List ℕ) : Type 0 where
+  pub no : ℕ
+  pub addr : BlockAddr
+  pub written : cs ≡ cells no 0 (addr .start) (addr .end) (addr .«first_ordinal»)
+  pub right : ByIdExact (entryBlock es) (length es) id no addr
+
+-- by ordinal: the last block whose first ordinal is at or below it, or 18
+pub record OrdAnswer (es : List Entry) (ord : ℕ) (cs : List ℕ) : Type 0 where
+  pub no : ℕ
+  pub id : ℕ
+  pub addr : BlockAddr
+  pub written : cs ≡ cells no id (addr .start) (addr .end) (addr .«first_ordinal»)
+  pub right : ByOrdExact (entryBlock es) (length es) ord no id addr
+
+-- by key: the first block whose separator isn't below it, or 19
+pub record KeyAnswer (es : List Entry) (key : List ℕ) (cs : List ℕ) : Type 0 where
+  pub no : ℕ
+  pub id : ℕ
+  pub written : cs ≡ cells no id 0 0 0
+  pub right : ByKeyExact (entryKey es) (length es) key no id
+
+-- the same with its address
+pub record AddrAnswer (es : List Entry) (key : List ℕ) (cs : List ℕ) : Type 0 where
+  pub no : ℕ
+  pub id : ℕ
+  pub addr : BlockAddr
+  pub written : cs ≡ cells no id (addr .start) (addr .end) (addr .«first_ordinal»)
+  pub right : AddrByKeyExact (entryKey es) (entryBlock es) (length es) key no id addr
+
+-- a separator's place in the index and that it is there, or zeros
+pub record SeparatorAnswer (es : List Entry) (id : ℕ) (cs : List ℕ) : Type 0 where
+  pub offset : ℕ
+  pub len : ℕ
+  pub found : id < length es → (cs ≡ cells 0 offset len 1 0) × (take len (drop offset (entriesIndex es)) ≡ entryKey es id)
+  pub missing : length es ≤ id → cs ≡ cells 0 0 0 0 0
+
+-- a listing of the automaton's blocks: its number, or the count of ones and mark i
+pub record MarkAnswer (es : List Entry) (i : ℕ) (t : List ℕ) (cs : List ℕ) : Type 0 where
+  pub refused : 0 < tableNo t → cs ≡ cells (tableNo t) 0 0 0 0
+  pub marks : List ℕ
+  pub listed : tableNo t ≡ 0 → Marks t (entryKey es) (length es) marks × (cs ≡ cells 0 (ones marks) (getD marks i 0) 0 0)
+
+abbrev pub AnswerTo : List Entry → Question → List ℕ → Type 0
+AnswerTo es (byId id) cs = IdAnswer es id cs
+AnswerTo es (byOrdinal ord) cs = OrdAnswer es ord cs
+AnswerTo es (byKey key) cs = KeyAnswer es key cs
+AnswerTo es (addressByKey key) cs = AddrAnswer es key cs
+AnswerTo es (separatorOf id) cs = SeparatorAnswer es id cs
+AnswerTo es (markOf i t) cs = MarkAnswer es i t cs
+
+-- a question to an index that opened, or to one that didn't: opening's number
+abbrev pub AnswerIn : ℕ → List Entry → Question → List ℕ → Type 0
+AnswerIn no es q cs = ((no ≡ 0) × AnswerTo es q cs) ⊎ ((0 < no) × (cs ≡ cells no 0 0 0 0))
+
+-- all of them, one behind the other
+pub data Answered (no : ℕ) (es : List Entry) : List Question → List ℕ → Type 0 where
+  none : Answered no es [] []
+  more : {q : Question} {qs : List Question} {c cs : List ℕ} → AnswerIn no es q c → Answered no es qs cs → Answered no es (q ∷ qs) (c ++ cs)
+
+-- 26: the bytes aren't a list; 27: not five numbers of room for each call, finish, opening and each question
+unfoldable pub replayNo : List ℕ → ℕ → ℕ
+replayNo s room = cond (listBad s) 26 (cond (ltb room (5 * (callCount s + 2 + questionCount s))) 27 0)
+
+-- what a list leaves: the areas as its calls leave them, the output as finish does, and the answers
+pub record Replayed (s B K out answers B′ K′ out′ answers′ : List ℕ) : Type 0 where
+  pub blocks : B′ ≡ runEnd (calls s) (freshOf B K) .blocks
+  pub keys : K′ ≡ runEnd (calls s) (freshOf B K) .keys
+  pub output : out′ ≡ finishOut (entriesOf s B K) out
+  pub asked : List ℕ
+  pub answered : Answered (openNumber (entriesOf s B K) out) (entriesOf s B K) (questions s) asked
+  pub written : answers′
+      ≡ sets answers 0
+      (callCells (plainNumbers (roomsIn B K) (calls s) [])
+      ++ (finishCells (entriesOf s B K) out ++ (cells (openNumber (entriesOf s B K) out) 0 0 0 0 ++ asked)))

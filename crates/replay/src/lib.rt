@@ -1,0 +1,2 @@
+// A list of calls, replayed through the real functions.
+pub mod format;
