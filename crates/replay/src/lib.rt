@@ -1,2 +1,0 @@
-// A list of calls, replayed through the real functions.
-pub mod format;
