@@ -11,7 +11,7 @@ use Rattle.serialize.proofs.Stores.{sets-part, sets-outside-take}
 use Rattle.group.specs.declared.BlockAddr.{BlockAddr}
 use Rattle.builder.specs.Area.{stride, keyOffset, keyLen, areaBlock, areaKey, areaView, viewOf}
 use Rattle.builder.specs.Calls.{After}
-use Rattle.builder.specs.Plain.{Entry, Rooms, keyBytesTaken, plainView}
+use Rattle.builder.specs.Plain.{Entry, Rooms, roomsOf, keyBytesTaken, plainView}
 
 -- e is block i, and its key starts at `at`
 pub record Held (e : Entry) (i at : ℕ) (B K : List ℕ) : Type 0 where
@@ -32,10 +32,6 @@ pub record Rep (es : List Entry) (a : After) : Type 0 where
   pub inside : stride * length es ≤ length (a .blocks)
   pub within : keyBytesTaken es ≤ length (a .keys)
   pub holds : Holds es (a .blocks) (a .keys)
-
--- both areas' lengths
-abbrev pub roomsOf : After → Rooms
-roomsOf a = record { blocks = length (a .blocks); keys = length (a .keys) }
 
 -- whatever the areas hold, no block is no entry
 pub fresh : (a : After) → a .builder .n ≡ 0 → Rep [] a

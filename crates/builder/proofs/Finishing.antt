@@ -25,19 +25,16 @@ use Rattle.store.proofs.ReadBack.{Storable}
 use Rattle.builder.specs.Area.{stride, keyOffset, areaBlock, areaKey, areaView}
 use Rattle.builder.specs.Rows.{blockNo, orElse}
 use Rattle.builder.specs.Calls.{After}
-use Rattle.builder.specs.Plain.{Entry, Call, plainEnd, runEnd, blocksOf, separatorsOf}
+use Rattle.builder.specs.Plain.{Entry, Call, roomsOf, plainEnd, runEnd, blocksOf, separatorsOf, SameLists}
 use Rattle.builder.specs.Index.{indexBytes}
-use Rattle.builder.specs.Finish.{offsetsBad, rulesBad, listNo, areaKeys, areaDirectory, areaIndex, finishNo, Finish, finishStep, finishDef}
-use Rattle.builder.proofs.Entries.{Rep, roomsOf, rep-view}
+use Rattle.builder.specs.Finish.{offsetsBad, rulesBad, listNo, areaKeys, areaDirectory, areaIndex, indexOf, finishNo, Finish, finishStep, finishDef}
+use Rattle.builder.proofs.Entries.{Rep, rep-view}
 use Rattle.builder.proofs.Machine.{never-one}
 use Rattle.builder.proofs.Rules.{EntriesOk, run-rules}
 use Rattle.builder.proofs.IndexBytes.{index-inj}
 use Rattle.builder.proofs.Indexed.{held-block, held-key, keys-touch, blocks-keep, entries-legal, separators-short, separators-rise}
 
 -- ---- the entries' index
-
-abbrev pub indexOf : List Entry → List ℕ
-indexOf es = indexBytes bestSlope 128 (blocksOf es) (separatorsOf es)
 
 pub length-oldest : {X : Type 0} (f : Entry → X) (es : List Entry) → length (reverse (map f es)) ≡ length es
 length-oldest f es = length-reverse (map f es) ∙ length-map es f
@@ -202,11 +199,6 @@ pub finish-fresh : (cs : List Call) (a : After) → a .builder .n ≡ 0 → (out
 finish-fresh cs a e out =
     let both = run-rules cs a e in
     rep-finish (plainEnd (roomsOf a) cs []) (runEnd cs a) (both .0 .rep) (both .1) out
-
--- blocks and separators are equal
-pub record SameLists (es es′ : List Entry) : Type 0 where
-  pub blocks : blocksOf es ≡ blocksOf es′
-  pub separators : separatorsOf es ≡ separatorsOf es′
 
 pub same-index : (es es′ : List Entry) → SameLists es es′ → indexOf es ≡ indexOf es′
 same-index es es′ s = ap₂ (indexBytes bestSlope 128) (s .blocks) (s .separators)

@@ -14,9 +14,9 @@ use Rattle.group.specs.Legal.{NumbersOk, Follows, Legal}
 use Rattle.builder.specs.Area.{View, keyOffset, areaBlock, areaKey, areaView}
 use Rattle.builder.specs.Rows.{blockNo}
 use Rattle.builder.specs.Calls.{After}
-use Rattle.builder.specs.Plain.{Entry, Rooms, keyBytesTaken, plainView, blocksOf, separatorsOf}
+use Rattle.builder.specs.Plain.{Entry, Rooms, roomsOf, keyBytesTaken, plainView, blocksOf, separatorsOf}
 use Rattle.builder.proofs.Numbers.{BlockOk, block-good}
-use Rattle.builder.proofs.Entries.{Holds, Rep, roomsOf, rep-view, plain-next}
+use Rattle.builder.proofs.Entries.{Holds, Rep, rep-view, plain-next}
 use Rattle.builder.proofs.Rules.{EntryOk, Behind, EntriesOk, none, first, more}
 
 -- ---- entries oldest first

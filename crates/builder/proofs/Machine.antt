@@ -16,10 +16,10 @@ use Rattle.group.specs.Rows.{numbersBad, joinBad, ordinalBad}
 use Rattle.builder.specs.Area.{View, stride, viewOf}
 use Rattle.builder.specs.Rows.{areaBad, keyLong, keyBad, roomBad, blockNo, orElse, addNo, shortenNo}
 use Rattle.builder.specs.Calls.{After, addStep, addDef, shortBlocks, shortKeys, shortenStep, shortenDef}
-use Rattle.builder.specs.Plain.{Entry, Call, add, shortenLast, keyBytesTaken, plainView, callNo, taken, plainNext, plainNumbers, plainEnd, callDef, runNumbers, runEnd}
+use Rattle.builder.specs.Plain.{Entry, Call, add, shortenLast, roomsOf, keyBytesTaken, plainView, callNo, taken, plainNext, plainNumbers, plainEnd, callDef, runNumbers, runEnd}
 use Rattle.builder.proofs.Views.{area-good}
 use Rattle.builder.proofs.Numbers.{AddOk, add-ok}
-use Rattle.builder.proofs.Entries.{Rep, roomsOf, fresh, rep-held, rep-view, plain-n, plain-next, plain-room, five, holds-added, holds-shortened}
+use Rattle.builder.proofs.Entries.{Rep, fresh, rep-held, rep-view, plain-n, plain-next, plain-room, five, holds-added, holds-shortened}
 
 -- ---- a call
 

@@ -11,9 +11,8 @@ use Rattle.keys.proofs.Shorten.{shorten-not-below, shorten-length}
 use Rattle.group.specs.declared.BlockAddr.{BlockAddr}
 use Rattle.group.specs.Legal.{NumbersOk, Follows}
 use Rattle.builder.specs.Calls.{After}
-use Rattle.builder.specs.Plain.{Entry, Call, add, shortenLast, Rooms, plainView, callNo, taken, plainNext, plainEnd}
+use Rattle.builder.specs.Plain.{Entry, Call, add, shortenLast, Rooms, roomsOf, plainView, callNo, taken, plainNext, plainEnd}
 use Rattle.builder.proofs.Numbers.{BlockOk, add-ok}
-use Rattle.builder.proofs.Entries.{roomsOf}
 use Rattle.builder.proofs.Machine.{Run, run-fresh}
 
 -- rows 2 and 3: an entry by itself

@@ -12,6 +12,7 @@ use Rattle.directory.specs.Directory.{directoryBytes}
 use Rattle.directory.specs.Keys.{keysAt}
 use Rattle.builder.specs.Area.{View, stride, keyOffset, areaBlock, areaKey, areaView, viewOf}
 use Rattle.builder.specs.Rows.{areaBad, blockNo, orElse}
+use Rattle.builder.specs.Plain.{Entry, blocksOf, separatorsOf}
 use Rattle.builder.specs.Index.{indexBytes}
 use Rattle.builder.specs.declared.SSTableIndexBuilder.{SSTableIndexBuilder}
 use Rattle.builder.specs.declared.Finished.{Finished}
@@ -42,6 +43,10 @@ areaDirectory b B K = cond (ltb (b .n) 2) [] (directoryBytes (areaKeys b B K))
 
 unfoldable pub areaIndex : SSTableIndexBuilder → List ℕ → List ℕ → List ℕ
 areaIndex b B K = cond (ltb (b .n) 2) [] (indexBytes bestSlope 128 (blocksAt B stride 0 (b .n)) (areaKeys b B K))
+
+-- the index of the plain machine's entries
+abbrev pub indexOf : List Entry → List ℕ
+indexOf es = indexBytes bestSlope 128 (blocksOf es) (separatorsOf es)
 
 -- row 9: output shorter than the result
 unfoldable pub finishNo : SSTableIndexBuilder → List ℕ → List ℕ → List ℕ → ℕ

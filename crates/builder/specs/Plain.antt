@@ -1,6 +1,7 @@
 -- Document 01's plain machine: it keeps entries, first none; it is fed the calls' arguments and both areas' lengths,
 -- never the builder or the areas' contents. Entries stand newest first.
 use Prim.Native.Nat.{ℕ, zero, suc, _+_}
+use mathlib.Core.Path.{_≡_}
 use mathlib.Core.List.{List, [], _∷_, map, reverse}
 use lib.ListN.{length}
 use Rattle.keys.specs.Shorten.{shorten}
@@ -22,6 +23,9 @@ pub data Call : Type 0 where
 pub record Rooms : Type 0 where
   pub blocks : ℕ
   pub keys : ℕ
+
+abbrev pub roomsOf : After → Rooms
+roomsOf a = record { blocks = length (a .blocks); keys = length (a .keys) }
 
 -- the key bytes taken are its keys' lengths added up
 unfoldable pub keyBytesTaken : List Entry → ℕ
@@ -79,6 +83,11 @@ blocksOf es = reverse (map (λ (e : Entry). e .block) es)
 
 abbrev pub separatorsOf : List Entry → List (List ℕ)
 separatorsOf es = reverse (map (λ (e : Entry). e .key) es)
+
+-- two lists of entries have equal blocks and separators
+pub record SameLists (es es′ : List Entry) : Type 0 where
+  pub blocks : blocksOf es ≡ blocksOf es′
+  pub separators : separatorsOf es ≡ separatorsOf es′
 
 -- the same calls on the builder with its areas, each with the builder that the last one returned and the areas as it left them
 unfoldable pub callDef : Call → After → After
