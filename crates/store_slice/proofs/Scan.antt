@@ -2,9 +2,12 @@
 use mathlib.Core.Path.{_≡_, refl, sym, _∙_, ap}
 use mathlib.Core.Bool.{Bool, true, false, _||_, _&&_, or-assoc, or-false}
 use mathlib.Core.List.{List, [], _∷_}
-use Prim.Native.Nat.{ℕ}
-use lib.ListN.{length}
+use Prim.Native.Nat.{ℕ, _+_, _≤_, _<_}
+use native.Mathlib.Numerals.{add-one}
+use lib.ListN.{length, drop, drop-of-length-le}
+use lib.Seq.{drop-cons}
 use Rattle.group.specs.declared.BlockAddr.{BlockAddr}
+use Rattle.group.specs.Blocks.{blockOf}
 use Rattle.group.specs.Rows.{numbersBad, joinBad, ordinalBad}
 use Rattle.store_slice.specs.declared.rows.Seen.{Seen}
 use Rattle.store_slice.specs.Slice.{anyBad, pairBad, recordsNo}
@@ -29,6 +32,18 @@ module _ (bad : BlockAddr → BlockAddr → Bool) (hit : Seen → Bool) (step : 
   seen-from-none [] e = e
   seen-from-none (b ∷ bs) e =
       seen-pairs (seenWith seenNone b) bs refl ∙ ap (λ (t : Bool). t || pairBad bad (b ∷ bs)) (step seenNone b ∙ or-false (hit seenNone) ∙ e)
+
+-- ---- one record after the other
+
+pub seen-next : (s : Seen) (bs : List BlockAddr) (i : ℕ) → i < length bs → seenAll s (drop i bs) ≡ seenAll (seenWith s (blockOf bs i)) (drop (i + 1) bs)
+unfolding seenAll
+seen-next s bs i h = rw (add-one i, drop-cons bs i (record { start = 0; end = 0; «first_ordinal» = 0 }) h) refl
+
+pub seen-last : (s : Seen) (bs : List BlockAddr) (i : ℕ) → length bs ≤ i → seenAll s (drop i bs) ≡ s
+unfolding seenAll
+seen-last s bs i h = rw (drop-of-length-le bs {i = i} h) refl
+
+-- ---- all of them
 
 pub seen-no : (bs : List BlockAddr) → seenNo (seenAll seenNone bs) (length bs) ≡ recordsNo bs
 unfolding seenNo recordsNo seenWith
