@@ -1,4 +1,4 @@
--- What the store's writer answers and leaves for records that hit no row is what a slice's store does (row 9).
+-- What a slice's store answers and leaves: for records that hit a row, and for others as the store's writer (row 9).
 use mathlib.Core.Path.{_≡_, refl, sym, ap}
 use mathlib.Core.Bool.{Bool, true, false, cond}
 use mathlib.Core.List.{List}
@@ -7,6 +7,7 @@ use native.Mathlib.Omega.{arith}
 use lib.Dec.{ltb}
 use lib.ListN.{length}
 use lib.Seq.{sets}
+use borrow.Author.Tests.{lt-ltb}
 use Rattle.slope.specs.Slope.{bestSlope}
 use Rattle.group.specs.declared.BlockAddr.{BlockAddr}
 use Rattle.store.specs.declared.Serialized.{Serialized}
@@ -50,3 +51,13 @@ module _ (bs : List BlockAddr) (out : List ℕ) (none : recordsNo bs ≡ 0) wher
   pub stored-out : storeOut out bytes ≡ sliceOut bs out
   unfolding storeOut
   stored-out = rw only-nine (out-by (ltb (length out) (length bytes)))
+
+-- records that hit a row
+hit-no : (bs : List BlockAddr) (room k : ℕ) → recordsNo bs ≡ suc k → sliceNo bs room ≡ suc k
+unfolding sliceNo
+hit-no bs room k e = simp (e, lt-ltb 0 (suc k) (omega arith))
+
+pub stored-refused : (bs : List BlockAddr) (out : List ℕ) (no : ℕ) → recordsNo bs ≡ no → (no ≡ 0 → ⊥) → (record { no = no; len = 0 } ≡ sliceStored bs out) × (out ≡ sliceOut bs out)
+unfolding storedStep outStep
+stored-refused bs out zero e hit = absurd (hit refl)
+stored-refused bs out (suc k) e hit = (rw (hit-no bs (length out) k e) refl, rw (hit-no bs (length out) k e) refl)

@@ -51,8 +51,8 @@ blocks-behind front rest (b ∷ bs) i e =
     let l : List ℕ = own ++ (numbersOf bs ++ rest) in
     let here : blockAt (front ++ l) 3 i ≡ b = rw (behind front l (3 * i) 0 (omega arith), behind front l (3 * i + 1) 1 (omega arith), behind front l (3 * i + 2) 2 (omega arith)) refl in
     let later : blocksAt (front ++ l) 3 (suc i) (length bs) ≡ bs =
-        ap (λ (area : List ℕ). blocksAt area 3 (suc i) (length bs)) (sym (append-assoc front own (numbersOf bs ++ rest)))
-        ∙ blocks-behind (front ++ own) rest bs (suc i) (omega (arith, length-append front own)) in
+    ap (λ (area : List ℕ). blocksAt area 3 (suc i) (length bs)) (sym (append-assoc front own (numbersOf bs ++ rest)))
+    ∙ blocks-behind (front ++ own) rest bs (suc i) (omega (arith, length-append front own)) in
     rw (here, later) refl
 
 pub copied : (zs : List ℕ) (bs : List BlockAddr) → 3 * length bs ≤ length zs → blocksAt (sets zs 0 (numbersOf bs)) 3 0 (length bs) ≡ bs

@@ -3,4 +3,3 @@ pub mod Copied
 pub mod Kept
 pub mod Scan
 pub mod Sized
-pub mod Walk

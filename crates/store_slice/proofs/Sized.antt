@@ -14,7 +14,7 @@ use base.Logic.{SProp, ent, sep, via, id⊢, guardI}
 use base.Fml.{Lft, GName, Share, Fml, fsep, ftrue, fat, froom, flft, flent}
 use prog.Memory.{Memory}
 use prog.Routine.{Routine}
-use prog.Wp.{Heap, Env, Spot, spotOf, Calls, Loops, WpFn}
+use prog.Wp.{Heap, Env, Spot, spotOf, Calls, Loops, WpFn, Tables}
 use ghost.Atoms.{Atoms, sem}
 use contract.Monad.{Fun, fact}
 use types.Kit.{Given, Item, Post as Post′, Step, step, runs, ‵, raw, _⊛_, some, later, ⋆, _$_, _∵_, !, qed, by, move, keep, use1, use2, use3, drop, split, join, pick, rewrite, fsplit, fjoin, fpick, fpack, feqL, feqI, suffices, frame, await, done}
@@ -23,7 +23,7 @@ use types.Part.{agg, rep, whole, sub, look-in}
 use types.Run.{Opd, look, init, forget, stop, hop, fld, from, load, lit, of-opd, addr, Finds, and-then, no-more, assigns, land, returns, enter, alloc1, alloc0, params1, pass1, pass0, free1, free0}
 use types.SemTy.{cells, Arr}
 use types.Share.{arr-parts}
-use sound.WpLaws.{FmC}
+use sound.WpLaws.{FmC, fmOf, WpFn-mono}
 use denote.RattleType.{owns}
 use denote.Laws.{Is, shows}
 use denote.Memory.{cellAt, pointee, partAt, mem as mem′, shares, partOf}
@@ -32,7 +32,7 @@ use denote.Array.{Array, arrayVal, array-repeat, array-lawful}
 use denote.ArrayMemory.{array-apart, array-whole}
 use denote.Builtin.{u8, u64, usize, unit}
 use denote.Ref.{RefT}
-use denote.Slice.{sliceTy, sliceVal, ShrSlice, MutSlice, Room, finally, shr-slice-copy}
+use denote.Slice.{sliceTy, sliceVal, ShrSlice, MutSlice, Room, finally, slice-vals, shr-slice-tells, mut-slice-tells, shr-slice-copy}
 use denote.Lend.{Held, lends-slice, slice-back, lends-shr-slice}
 use denote.Index.{row, whole-in, whole-out}
 use denote.Signature.{plain}
@@ -40,10 +40,10 @@ use denote.Steps.{nothing, owned, peeks, heard}
 use denote.Struct.Laws as LL
 use denote.Triple.Statement.{Contract, Triple}
 use denote.Triple.Call.{calls-at}
-use denote.Triple.Clauses.{ensured, lasts}
+use denote.Triple.Clauses.{Clauses, closing, ensured, lasts}
 use denote.Triple.Entry.{Vals, onEntry}
-use denote.Triple.Spec.{tripleOf}
-use denote.Triple.Walked.{says, Stays, stay-none-slice, gave-slice, walkOf, ends-at}
+use denote.Triple.Spec.{Spec, Meets, tripleOf}
+use denote.Triple.Walked.{says, needs, Stays, stay-none-slice, gave-slice, walkOf, Walks, ends-at, walked, goes-none-slice, goes-gave-slice, walk-meets}
 use denote.Exit.{yes}
 use Rattle.group.specs.declared.BlockAddr.{BlockAddr}
 use Rattle.group.specs.Blocks.{blocksAt}
@@ -146,6 +146,13 @@ module _ {M : Type 1} (𝓤 : URA M) (H : Heap 𝓤) (A : Atoms 𝓤) (mem : Mem
   abbrev pub WriteArea : Contract 𝓤
   WriteArea = tripleOf 𝓤 H A write-area.signature (write-area.spec 𝓤 H A mem run)
 
+  -- what `serialize` ensures, of records of which φ holds
+  abbrev asking : (List BlockAddr → Type 0) → Clauses 𝓤 f.ended
+  asking φ κs a = record { ghost = Unit {0}; requires = λ g. fact 𝓤 (φ (a .0 .now)); ensures = f.clauses 𝓤 H A mem run κs a .ensures }
+
+  abbrev pub asked : (List BlockAddr → Type 0) → Spec 𝓤 f.signature
+  asked φ = closing 𝓤 H A f.ended (asking φ)
+
 module _ {M : Type 1} (𝓤 : URA M) (H : Heap 𝓤) (A : Atoms 𝓤) (W : Given 𝓤 H A) (mem : Memory → SProp 𝓤) (run : Routine → Fun 𝓤) (κ₀ κ₁ : Lft) (q₀ q₁ : Share) (b o : ℕ) (γ : GName) (ys : List BlockAddr) (c p : ℕ) (δ : GName) (outs : List ℕ) where
   abbrev n : ℕ
   n = length ys
@@ -234,7 +241,7 @@ module _ {M : Type 1} (𝓤 : URA M) (H : Heap 𝓤) (A : Atoms 𝓤) (W : Given
     Written r zs = (r ≡ sliceStored (blocksAt filled 3 0 n) outs) × (zs ≡ sliceOut (blocksAt filled 3 0 n) outs)
 
     module _ (C : Calls 𝓤 H) (Λ : Loops 𝓤 H) (fm : FmC 𝓤 H (W .laws) C) (known-copy : Triple 𝓤 (C #copy-out) (CopyOut 𝓤 H A mem run)) (known-write : Triple 𝓤 (C #write-area) (WriteArea 𝓤 H A mem run)) where
-      pub walk : Room B.the-row n → Room u8 m → ent 𝓤 (onEntry 𝓤 H A f.signature (κ₀, (κ₁, tt)) (q₀, (q₁, tt)) x at) (WpFn 𝓤 H C Λ (sized N) (sliceVal (b, o) n ∷ sliceVal (c, p) m ∷ []) Post)
+      walk : Room B.the-row n → Room u8 m → ent 𝓤 (onEntry 𝓤 H A f.signature (κ₀, (κ₁, tt)) (q₀, (q₁, tt)) x at) (WpFn 𝓤 H C Λ (sized N) (sliceVal (b, o) n ∷ sliceVal (c, p) m ∷ []) Post)
       walk gn gm =
           qed W ((‵ (flft κ₀ q₀) ⊛ (‵ (flft κ₁ q₁) ⊛ ‵ ftrue)) ∷ ‵ (owns (ShrSlice (named 0) κ₀ B.the-row ∷ MutSlice (named 1) κ₁ u8 ∷ []) x at) ∷ []) ∵ enter ! C Λ (sized N) (sliceVal (b, o) n ∷ sliceVal (c, p) m ∷ []) _ $
           alloc1 ! (λ l₀. alloc1 ! (λ l₁. alloc1 ! (λ l₂. alloc1 ! (λ l₃. alloc1 ! (λ l₄. alloc1 ! (λ l₅. alloc1 ! (λ l₆. alloc1 ! (λ l₇. alloc1 ! (λ l₈. alloc1 ! (λ l₉. alloc1 ! (λ l₁₀. alloc1 ! (λ l₁₁. alloc0 ! $ params1 ! $
@@ -293,3 +300,17 @@ module _ {M : Type 1} (𝓤 : URA M) (H : Heap 𝓤) (A : Atoms 𝓤) (W : Given
             h .0 ∙ ap (λ (bs : List BlockAddr). sliceStored bs outs) blocks-filled,
             h .1 ∙ ap (λ (bs : List BlockAddr). sliceOut bs outs) blocks-filled,
           ) same))))))))))))))))))))))))))))
+
+module _ {M : Type 1} (𝓤 : URA M) (H : Heap 𝓤) (A : Atoms 𝓤) (W : Given 𝓤 H A) (mem : Memory → SProp 𝓤) (run : Routine → Fun 𝓤) (𝓣 : Tables 𝓤 H) (known-copy : Triple 𝓤 (𝓣 .C #copy-out) (CopyOut 𝓤 H A mem run)) (known-write : Triple 𝓤 (𝓣 .C #write-area) (WriteArea 𝓤 H A mem run)) where
+  module _ (N : ℕ) (room : Room u64 N) (φ : List BlockAddr → Type 0) (fit : (ys : List BlockAddr) → φ ys → (3 * length ys ≤ N) × (recordsNo ys ≡ 0)) where
+    walks : Walks 𝓤 H A f.ended stayed (WpFn 𝓤 H (𝓣 .C) (𝓣 .Λ) (sized N)) (asking 𝓤 H A mem run φ)
+    walks = walked 𝓤 H A f.ended stayed (asking 𝓤 H A mem run φ) (WpFn 𝓤 H (𝓣 .C) (𝓣 .Λ) (sized N)) (λ κs. (slice-vals, (slice-vals, tt)))
+        (λ κs. (shr-slice-tells (named 0) (κs .0) B.the-row, (mut-slice-tells (named 1) (κs .1 .0) u8, tt)))
+        (λ κs qs bounds a g are. needs 𝓤 _ _ (λ h. let both = fit (a .0 .now) h in
+        walk 𝓤 H A W mem run (κs .0) (κs .1 .0) (qs .0) (qs .1 .0) (a .0 .ptr .0) (a .0 .ptr .1) (a .0 .name) (a .0 .now) (a .1 .0 .ptr .0) (a .1 .0 .ptr .1) (a .1 .0 .name) (a .1 .0 .now)
+        N room (both .0) (both .1) (𝓣 .C) (𝓣 .Λ) (fmOf 𝓤 H (W .laws) 𝓣) known-copy known-write (are .0 .0 .1) (are .1 .0 .0 .1)))
+
+    -- a function whose MIR is the one at N
+    pub sized-meets : (fn : Fn) → fn ≡ sized N → Meets 𝓤 H A f.signature (WpFn 𝓤 H (𝓣 .C) (𝓣 .Λ) fn) (asked 𝓤 H A mem run φ)
+    sized-meets fn same = walk-meets 𝓤 H A f.ended stayed W (goes-none-slice 𝓤 H A W 2 (0 ∷ []) tt (plain (λ _. B.the-row)) yes, (goes-gave-slice 𝓤 H A W 2 1 tt (plain (λ _. u8)), tt)) (asking 𝓤 H A mem run φ)
+        (WpFn 𝓤 H (𝓣 .C) (𝓣 .Λ) fn) (WpFn-mono 𝓤 H (W .laws) 𝓣 fn) (subst (λ (g : Fn). Walks 𝓤 H A f.ended stayed (WpFn 𝓤 H (𝓣 .C) (𝓣 .Λ) g) (asking 𝓤 H A mem run φ)) (sym same) walks)

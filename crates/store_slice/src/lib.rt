@@ -3,6 +3,7 @@ ghost use mathlib.Core.Path.{_≡_};
 ghost use Prim.Native.Nat.{_≤_};
 ghost use lib.ListN.{length};
 ghost use Rattle.store_slice.specs.Slice.{recordsNo, sliceStored, sliceOut};
+
 pub mod area;
 pub mod rows;
 
