@@ -4,8 +4,8 @@ ghost use Prim.Native.Nat.{_≤_};
 ghost use lib.ListN.{length};
 ghost use Rattle.store_slice.specs.Slice.{recordsNo, sliceStored, sliceOut};
 
-pub mod area;
-pub mod rows;
+mod area;
+mod rows;
 
 use group::BlockAddr;
 
