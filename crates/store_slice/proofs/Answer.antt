@@ -1,5 +1,5 @@
 -- What a slice's store answers and leaves: for records that hit a row, and for others as the store's writer (row 9).
-use mathlib.Core.Path.{_≡_, refl, sym, ap}
+use mathlib.Core.Path.{_≡_, refl, ap}
 use mathlib.Core.Bool.{Bool, true, false, cond}
 use mathlib.Core.List.{List}
 use Prim.Native.Nat.{ℕ, zero, suc}
@@ -10,11 +10,9 @@ use lib.Seq.{sets}
 use borrow.Author.Tests.{lt-ltb}
 use Rattle.slope.specs.Slope.{bestSlope}
 use Rattle.group.specs.declared.BlockAddr.{BlockAddr}
-use Rattle.store.specs.declared.Serialized.{Serialized}
 use Rattle.store.specs.declared.Serialized.the-variants.{Len, Short}
 use Rattle.store.specs.Store.{storeBytes}
 use Rattle.store.specs.Answers.{storeAnswer, storeOut}
-use Rattle.store_slice.specs.declared.Stored.{Stored}
 use Rattle.store_slice.specs.Slice.{recordsNo, sliceNo, storedStep, outStep, sliceStored, sliceOut}
 
 module _ (bs : List BlockAddr) (out : List ℕ) (none : recordsNo bs ≡ 0) where

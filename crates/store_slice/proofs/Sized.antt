@@ -160,22 +160,22 @@ module _ {M : Type 1} (𝓤 : URA M) (H : Heap 𝓤) (A : Atoms 𝓤) (W : Given
   abbrev m : ℕ
   m = length outs
 
-  abbrev pub x : RefT (List BlockAddr) × (RefT (List ℕ) × Unit {0})
+  abbrev x : RefT (List BlockAddr) × (RefT (List ℕ) × Unit {0})
   x = (record { ptr = (b, o); name = γ; now = ys }, (record { ptr = (c, p); name = δ; now = outs }, tt))
 
-  abbrev pub at : Vals f.signature (κ₀, (κ₁, tt))
+  abbrev at : Vals f.signature (κ₀, (κ₁, tt))
   at = (sliceVal (b, o) n ∷ [], (sliceVal (c, p) m ∷ [], tt))
 
   abbrev bound : walkOf 𝓤 H A f.ended stayed (f.clauses 𝓤 H A mem run) .Ghost
   bound = (((κ₀, (κ₁, tt)), (q₀, (q₁, tt)), tt, x, at), tt)
 
-  abbrev pub Post : Val → SProp 𝓤
+  abbrev Post : Val → SProp 𝓤
   Post = walkOf 𝓤 H A f.ended stayed (f.clauses 𝓤 H A mem run) .post bound
 
-  abbrev pub ownB : Fml
+  abbrev ownB : Fml
   ownB = ShrSlice (named 0) κ₀ B.the-row .own (x .0) (at .0)
 
-  abbrev pub ownO : Fml
+  abbrev ownO : Fml
   ownO = MutSlice (named 1) κ₁ u8 .own (x .1 .0) (at .1 .0)
 
   -- the exit where `out` was passed on

@@ -1,7 +1,7 @@
 -- What is known of records that were seen one after the other, and the numbers that records are copied out to.
 use Prim.Native.Nat.{ℕ}
 use mathlib.Core.List.{List, [], _∷_}
-use mathlib.Core.Bool.{Bool, true, false, _||_, _&&_, cond}
+use mathlib.Core.Bool.{true, false, _||_, _&&_, cond}
 use lib.Dec.{ltb}
 use Rattle.group.specs.declared.BlockAddr.{BlockAddr}
 use Rattle.group.specs.Rows.{numbersBad, joinBad, ordinalBad}

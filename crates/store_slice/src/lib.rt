@@ -9,7 +9,7 @@ mod rows;
 
 use group::BlockAddr;
 
-// How many records are few: their area is small.
+// As many records take the small area, so that a short list doesn't clear the large one.
 const FEW: usize = 1_024;
 
 // A row's number, 0 where the store was written, and its length.
@@ -28,7 +28,7 @@ fn serialize_few(blocks: &[BlockAddr], out: &mut [u8]) -> Stored
     area::write_area(&area, blocks.len(), out)
 }
 
-// Records that hit no row, copied out to an area for as many as a store has.
+// Records that hit no row, copied out to an area for as many as a store has: 1.5 MB of stack.
 fn serialize_many(blocks: &[BlockAddr], out: &mut [u8]) -> Stored
     requires { ⌜ recordsNo (now blocks) ≡ 0 ⌝ }
     ensures { λ r. ⌜ (r ≡ sliceStored (now (blocks .entry)) (now (out .entry))) × (now (out .exit) ≡ sliceOut (now (blocks .entry)) (now (out .entry))) ⌝ }

@@ -188,143 +188,142 @@ module _ {M : Type 1} (𝓤 : URA M) (H : Heap 𝓤) (A : Atoms 𝓤) (W : Given
     abbrev Λ : Loops 𝓤 H
     Λ = 𝓣 .Λ
 
-    module _ (l₀ l₁ l₂ l₃ l₄ l₅ l₆ l₇ l₈ : ℕ) (q′ : Share) where
+    module _ (l₀ l₁ l₂ l₃ l₄ l₅ l₆ l₇ l₈ : ℕ) where
       abbrev En : Env 𝓤 H
       En = (tyInt w32, l₀) ∷ (sliceB, l₁) ∷ (S′.mir, l₂) ∷ (word, l₃) ∷ (word, l₄) ∷ (tyBool, l₅) ∷ (tyPtr, l₆) ∷ (B′.mir, l₇) ∷ (word, l₈) ∷ []
 
-      -- what no turn touches, from entry 7 on
-      abbrev Frame : List (Item 𝓤)
-      Frame = ‵ (fat fullShare sliceB l₁ 0 (sliceVal (b, o) n)) ∷ ‵ (froom (tyInt w32) l₀ 0) ∷ ‵ (froom word l₈ 0)
-          ∷ ‵ (fobor κ q (arr-parts (shares B.the-row) n .part q′ ys b o)) ∷ ‵ (fshr-bor κ (λ s. arr-parts (shares B.the-row) n .part s ys b o)) ∷ ‵ (fres γ (codedHoleys B.the-row .code (heres B.the-row ys)))
-          ∷ ‵ (fdies (tyInt w32) l₀) ∷ ‵ (fdies sliceB l₁) ∷ ‵ (fdies S′.mir l₂) ∷ ‵ (fdies word l₃) ∷ ‵ (fdies word l₄) ∷ ‵ (fdies tyBool l₅) ∷ ‵ (fdies tyPtr l₆) ∷ ‵ (fdies B′.mir l₇) ∷ ‵ (fdies word l₈) ∷ []
+      -- ---- the loop
+      module _ (q′ : Share) where
+        -- what no turn touches, from entry 7 on
+        abbrev Frame : List (Item 𝓤)
+        Frame = ‵ (fat fullShare sliceB l₁ 0 (sliceVal (b, o) n)) ∷ ‵ (froom (tyInt w32) l₀ 0) ∷ ‵ (froom word l₈ 0)
+            ∷ ‵ (fobor κ q (arr-parts (shares B.the-row) n .part q′ ys b o)) ∷ ‵ (fshr-bor κ (λ s. arr-parts (shares B.the-row) n .part s ys b o)) ∷ ‵ (fres γ (codedHoleys B.the-row .code (heres B.the-row ys)))
+            ∷ ‵ (fdies (tyInt w32) l₀) ∷ ‵ (fdies sliceB l₁) ∷ ‵ (fdies S′.mir l₂) ∷ ‵ (fdies word l₃) ∷ ‵ (fdies word l₄) ∷ ‵ (fdies tyBool l₅) ∷ ‵ (fdies tyPtr l₆) ∷ ‵ (fdies B′.mir l₇) ∷ ‵ (fdies word l₈) ∷ []
 
-      -- where a turn begins: the next record is i, and what was seen of those before lies as w
-      abbrev At : ℕ → Val → List (Item 𝓤)
-      At i w = ‵ (row B.the-row q′ ys b o) ∷ ‵ (fat fullShare word l₃ 0 (vint w64 i)) ∷ ‵ (fat fullShare S′.mir l₂ 0 w) ∷ ‵ (froom word l₄ 0) ∷ ‵ (froom tyBool l₅ 0) ∷ ‵ (froom tyPtr l₆ 0) ∷ ‵ (froom B′.mir l₇ 0) ∷ Frame
+        -- where a turn begins: the next record is i, and what was seen of those before lies as w
+        abbrev At : ℕ → Val → List (Item 𝓤)
+        At i w = ‵ (row B.the-row q′ ys b o) ∷ ‵ (fat fullShare word l₃ 0 (vint w64 i)) ∷ ‵ (fat fullShare S′.mir l₂ 0 w) ∷ ‵ (froom word l₄ 0) ∷ ‵ (froom tyBool l₅ 0) ∷ ‵ (froom tyPtr l₆ 0) ∷ ‵ (froom B′.mir l₇ 0) ∷ Frame
 
-      abbrev Facts : ℕ → ℕ → Seen → Val → Type 0
-      Facts t i s w = (i + t ≡ n) × (seenAll s (dropped i ys) ≡ seenAll seenNone ys) × Is S.the-row s (w ∷ [])
+        abbrev Facts : ℕ → ℕ → Seen → Val → Type 0
+        Facts t i s w = (i + t ≡ n) × (seenAll s (dropped i ys) ≡ seenAll seenNone ys) × Is S.the-row s (w ∷ [])
 
-      -- the invariant, where t records are left
-      abbrev Inv : ℕ → SProp 𝓤
-      Inv t = ex 𝓤 (λ (i : ℕ). ex 𝓤 (λ (s : Seen). ex 𝓤 (λ (w : Val). guard 𝓤 (Facts t i s w) (⋆ 𝓤 H A (At i w)))))
+        -- the invariant, where t records are left
+        abbrev Inv : ℕ → SProp 𝓤
+        Inv t = ex 𝓤 (λ (i : ℕ). ex 𝓤 (λ (s : Seen). ex 𝓤 (λ (w : Val). guard 𝓤 (Facts t i s w) (⋆ 𝓤 H A (At i w)))))
 
-      abbrev Below : ℕ → SProp 𝓤
-      Below t = ex 𝓤 (λ (t′ : ℕ). guard 𝓤 (t′ < t) (Inv t′))
+        abbrev Below : ℕ → SProp 𝓤
+        Below t = ex 𝓤 (λ (t′ : ℕ). guard 𝓤 (t′ < t) (Inv t′))
 
-      abbrev Left : Out → SProp 𝓤
-      Left = afterBlock 𝓤 H (afterSeq 𝓤 H (Wp 𝓤 H C Λ En mir.t-4 (atReturn 𝓤 H En Post)) (atReturn 𝓤 H En Post))
+        abbrev Left : Out → SProp 𝓤
+        Left = afterBlock 𝓤 H (afterSeq 𝓤 H (Wp 𝓤 H C Λ En mir.t-4 (atReturn 𝓤 H En Post)) (atReturn 𝓤 H En Post))
 
-      -- a turn that sees one record
-      more : (i : ℕ) (s : Seen) (w : Val) (X : SProp 𝓤) → i < n → Is S.the-row s (w ∷ [])
-          → ((r : Seen) (v : Val) → r ≡ seenWith s (blockOf ys i) → Is S.the-row r (v ∷ []) → ent 𝓤 (⋆ 𝓤 H A (At (i + 1) v)) X)
-          → ent 𝓤 (⋆ 𝓤 H A (At i w)) (Wp 𝓤 H C Λ En mir.turn-1 (afterTurn 𝓤 H X Left))
-      unfolding afterTurn
-      more i s w X small is next =
-          qed W (At i w) ∵ exec ! C Λ En mir.turn-1 (anyQ (afterTurn 𝓤 H X Left)) $
-          assigns ! (of-opd ! (load ! (from ! (fld ! refl (stop !))) (look-in ! 7 (sub ! 1 refl (whole !))))) (from ! (stop !)) (init ! 3 refl (tt, record { fits = gn .0 })) $
-          assigns ! (bin ! (load ! (from ! (stop !)) (look ! 1 refl)) (load ! (from ! (stop !)) (look ! 3 refl)) tt) (from ! (stop !)) (init ! 4 refl (tt, tt)) $
-          rewrite ! 4 (λ (t : Bool). ‵ (fat fullShare tyBool l₅ 0 (vbool t))) (lt-ltb i n small) refl $
-          stays ! (load ! (from ! (stop !)) (look ! 4 refl)) $
-          -- the record is copied
-          assigns ! (bin ! (load ! (from ! (stop !)) (look ! 1 refl)) (lit ! tt) (record { fits = fit-i })) (from ! (stop !)) (store ! 3 refl (tt, record { fits = fit-i })) $
-          assigns ! (bin ! (load ! (from ! (fld ! refl (stop !))) (look-in ! 7 (sub ! 0 refl (whole !)))) (load ! (from ! (stop !)) (look ! 3 refl)) tt) (from ! (stop !)) (init ! 5 refl (tt, tt)) $
-          rewrite ! 5 (λ (p : ℕ). ‵ (fat fullShare tyPtr l₆ 0 (vptr b p))) (sym (place-is 24 o i)) refl $
-          elem-out ! B.the-row (Is B.the-row) (shows 𝓤 H A B.the-row) (LL.vals B.the-type B′.the-laws) (LL.tells B.the-type B′.the-laws) q′ ys i past b o small (λ g.
-          assigns ! (of-opd ! (load ! (from ! (hop ! (look ! 7 refl) (stop !))) (look-raw ! 0 refl))) (from ! (stop !)) (init ! 8 refl (LL.lawful B.the-type B′.the-laws 𝓤 H A W .typed (blockOf ys i) (B′.lowered (blockOf ys i) ∷ []) g .0)) $
-          elem-back ! B.the-row q′ ys i past (B′.lowered (blockOf ys i) ∷ []) b o small $
-          -- and seen
-          owned ! B.the-row (Is B.the-row) (LL.makes B.the-type B′.the-plain 𝓤 H A) (blockOf ys i) (B′.lowered (blockOf ys i) ∷ []) g $
-          owned ! S.the-row (Is S.the-row) (LL.makes S.the-type S′.the-plain 𝓤 H A) s (w ∷ []) is $
-          use2 W (raw (With 𝓤 H A mem run .pre (to-with 𝓤 H A mem run s w (blockOf ys i)))) (goes-with 𝓤 H A mem run W s w (blockOf ys i)) $
-          calls-at ! fm (With 𝓤 H A mem run) known-with (to-with 𝓤 H A mem run s w (blockOf ys i)) (and-then ! (load ! (from ! (stop !)) (look ! 3 refl)) (and-then ! (load ! (from ! (stop !)) (look ! 7 refl)) (no-more !))) (λ v.
-          use1 W (later (some (λ (r : Seen). (‵ ftrue ⊛ ‵ (S.the-row .own r (v ∷ []))) ⊛ raw (ensured 𝓤 H A with′.ended (with′.clauses 𝓤 H A mem run) tt (s, (blockOf ys i, tt)) tt r)))) (id⊢ 𝓤 _) $ await ! tt $ pick ! (λ r.
-          split ! $ move ! (1 ∷ []) $ use1 W (raw (fact 𝓤 (r ≡ seenWith s (blockOf ys i)))) (with-of 𝓤 H A mem run s (blockOf ys i) r) $ heard ! (r ≡ seenWith s (blockOf ys i)) (λ e. split ! $ drop ! $
-          peeks ! S.the-row (Is S.the-row) (shows 𝓤 H A S.the-row) r (v ∷ []) (λ is′.
-          land ! (from ! (stop !)) (store ! 3 refl (LL.lawful S.the-type S′.the-laws 𝓤 H A W .typed r _ is′ .0)) $ drop ! $
-          -- the next record
-          assigns-last ! (bin ! (load ! (from ! (stop !)) (look ! 1 refl)) (lit ! tt) (record { fits = fit-n })) (from ! (stop !)) (store ! 1 refl (tt, record { fits = fit-n })) $
-          forget ! 3 refl $ forget ! 4 refl $ forget ! 5 refl $ forget ! 6 refl $ by ! (next r v e is′))))))
-        where
-          fit-i : i * 24 < 2 ^ 64
-          fit-i = omega (arith, small, gn .1)
+        -- a turn that sees one record
+        more : (i : ℕ) (s : Seen) (w : Val) (X : SProp 𝓤) → i < n → Is S.the-row s (w ∷ [])
+            → ((r : Seen) (v : Val) → r ≡ seenWith s (blockOf ys i) → Is S.the-row r (v ∷ []) → ent 𝓤 (⋆ 𝓤 H A (At (i + 1) v)) X)
+            → ent 𝓤 (⋆ 𝓤 H A (At i w)) (Wp 𝓤 H C Λ En mir.turn-1 (afterTurn 𝓤 H X Left))
+        unfolding afterTurn
+        more i s w X small is next =
+            qed W (At i w) ∵ exec ! C Λ En mir.turn-1 (anyQ (afterTurn 𝓤 H X Left)) $
+            assigns ! (of-opd ! (load ! (from ! (fld ! refl (stop !))) (look-in ! 7 (sub ! 1 refl (whole !))))) (from ! (stop !)) (init ! 3 refl (tt, record { fits = gn .0 })) $
+            assigns ! (bin ! (load ! (from ! (stop !)) (look ! 1 refl)) (load ! (from ! (stop !)) (look ! 3 refl)) tt) (from ! (stop !)) (init ! 4 refl (tt, tt)) $
+            rewrite ! 4 (λ (t : Bool). ‵ (fat fullShare tyBool l₅ 0 (vbool t))) (lt-ltb i n small) refl $
+            stays ! (load ! (from ! (stop !)) (look ! 4 refl)) $
+            -- the record is copied
+            assigns ! (bin ! (load ! (from ! (stop !)) (look ! 1 refl)) (lit ! tt) (record { fits = fit-i })) (from ! (stop !)) (store ! 3 refl (tt, record { fits = fit-i })) $
+            assigns ! (bin ! (load ! (from ! (fld ! refl (stop !))) (look-in ! 7 (sub ! 0 refl (whole !)))) (load ! (from ! (stop !)) (look ! 3 refl)) tt) (from ! (stop !)) (init ! 5 refl (tt, tt)) $
+            rewrite ! 5 (λ (p : ℕ). ‵ (fat fullShare tyPtr l₆ 0 (vptr b p))) (sym (place-is 24 o i)) refl $
+            elem-out ! B.the-row (Is B.the-row) (shows 𝓤 H A B.the-row) (LL.vals B.the-type B′.the-laws) (LL.tells B.the-type B′.the-laws) q′ ys i past b o small (λ g.
+            assigns ! (of-opd ! (load ! (from ! (hop ! (look ! 7 refl) (stop !))) (look-raw ! 0 refl))) (from ! (stop !)) (init ! 8 refl (LL.lawful B.the-type B′.the-laws 𝓤 H A W .typed (blockOf ys i) (B′.lowered (blockOf ys i) ∷ []) g .0)) $
+            elem-back ! B.the-row q′ ys i past (B′.lowered (blockOf ys i) ∷ []) b o small $
+            -- and seen
+            owned ! B.the-row (Is B.the-row) (LL.makes B.the-type B′.the-plain 𝓤 H A) (blockOf ys i) (B′.lowered (blockOf ys i) ∷ []) g $
+            owned ! S.the-row (Is S.the-row) (LL.makes S.the-type S′.the-plain 𝓤 H A) s (w ∷ []) is $
+            use2 W (raw (With 𝓤 H A mem run .pre (to-with 𝓤 H A mem run s w (blockOf ys i)))) (goes-with 𝓤 H A mem run W s w (blockOf ys i)) $
+            calls-at ! fm (With 𝓤 H A mem run) known-with (to-with 𝓤 H A mem run s w (blockOf ys i)) (and-then ! (load ! (from ! (stop !)) (look ! 3 refl)) (and-then ! (load ! (from ! (stop !)) (look ! 7 refl)) (no-more !))) (λ v.
+            use1 W (later (some (λ (r : Seen). (‵ ftrue ⊛ ‵ (S.the-row .own r (v ∷ []))) ⊛ raw (ensured 𝓤 H A with′.ended (with′.clauses 𝓤 H A mem run) tt (s, (blockOf ys i, tt)) tt r)))) (id⊢ 𝓤 _) $ await ! tt $ pick ! (λ r.
+            split ! $ move ! (1 ∷ []) $ use1 W (raw (fact 𝓤 (r ≡ seenWith s (blockOf ys i)))) (with-of 𝓤 H A mem run s (blockOf ys i) r) $ heard ! (r ≡ seenWith s (blockOf ys i)) (λ e. split ! $ drop ! $
+            peeks ! S.the-row (Is S.the-row) (shows 𝓤 H A S.the-row) r (v ∷ []) (λ is′.
+            land ! (from ! (stop !)) (store ! 3 refl (LL.lawful S.the-type S′.the-laws 𝓤 H A W .typed r _ is′ .0)) $ drop ! $
+            -- the next record
+            assigns-last ! (bin ! (load ! (from ! (stop !)) (look ! 1 refl)) (lit ! tt) (record { fits = fit-n })) (from ! (stop !)) (store ! 1 refl (tt, record { fits = fit-n })) $
+            forget ! 3 refl $ forget ! 4 refl $ forget ! 5 refl $ forget ! 6 refl $ by ! (next r v e is′))))))
+          where
+            fit-i : i * 24 < 2 ^ 64
+            fit-i = omega (arith, small, gn .1)
 
-          fit-n : i + 1 < 2 ^ 64
-          fit-n = omega (arith, small, gn .0)
+            fit-n : i + 1 < 2 ^ 64
+            fit-n = omega (arith, small, gn .0)
 
-      -- the turn that leaves the loop, and the rest of the body
-      ends : (s : Seen) (w : Val) (X : SProp 𝓤) → Is S.the-row s (w ∷ []) → seenNo s n ≡ recordsNo ys → ent 𝓤 (⋆ 𝓤 H A (At n w)) (Wp 𝓤 H C Λ En mir.turn-1 (afterTurn 𝓤 H X Left))
-      unfolding afterTurn
-      ends s w X is all =
-          qed W (At n w) ∵ exec ! C Λ En mir.turn-1 (anyQ (afterTurn 𝓤 H X Left)) $
-          assigns ! (of-opd ! (load ! (from ! (fld ! refl (stop !))) (look-in ! 7 (sub ! 1 refl (whole !))))) (from ! (stop !)) (init ! 3 refl (tt, record { fits = gn .0 })) $
-          assigns ! (bin ! (load ! (from ! (stop !)) (look ! 1 refl)) (load ! (from ! (stop !)) (look ! 3 refl)) tt) (from ! (stop !)) (init ! 4 refl (tt, tt)) $
-          rewrite ! 4 (λ (t : Bool). ‵ (fat fullShare tyBool l₅ 0 (vbool t))) (le-ltb n n (le-refl n)) refl $
-          leaves-loop ! (load ! (from ! (stop !)) (look ! 4 refl)) $ exec ! C Λ En mir.t-4 (atRet En Post) $
-          assigns ! (of-opd ! (load ! (from ! (fld ! refl (stop !))) (look-in ! 7 (sub ! 1 refl (whole !))))) (from ! (stop !)) (init ! 9 refl (tt, record { fits = gn .0 })) $
-          owned ! usize (Is usize) (uint-makes 𝓤 H A W w64) n (vint w64 n ∷ []) (refl, gn .0) $
-          owned ! S.the-row (Is S.the-row) (LL.makes S.the-type S′.the-plain 𝓤 H A) s (w ∷ []) is $
-          use2 W (raw (No 𝓤 H A mem run .pre (to-no 𝓤 H A mem run s w n))) (goes-no 𝓤 H A mem run W s w n) $
-          calls-at ! fm (No 𝓤 H A mem run) known-no (to-no 𝓤 H A mem run s w n) (and-then ! (load ! (from ! (stop !)) (look ! 3 refl)) (and-then ! (load ! (from ! (stop !)) (look ! 10 refl)) (no-more !))) (λ v.
-          use1 W (later (some (λ (r : ℕ). (‵ ftrue ⊛ ‵ (u32 .own r (v ∷ []))) ⊛ raw (ensured 𝓤 H A no.ended (no.clauses 𝓤 H A mem run) tt (s, (n, tt)) tt r)))) (id⊢ 𝓤 _) $ await ! tt $ pick ! (λ r.
-          split ! $ move ! (1 ∷ []) $ use1 W (raw (fact 𝓤 (r ≡ seenNo s n))) (no-of 𝓤 H A mem run s n r) $ heard ! (r ≡ seenNo s n) (λ e. split ! $ drop ! $
-          peeks ! u32 (Is u32) (shows 𝓤 H A u32) r (v ∷ []) (λ is′.
-          land ! (from ! (stop !)) (init ! 9 refl (uint-lawful 𝓤 H A W w32 .typed r _ is′ .0)) $
-          -- [the result; the records; _3; _2; _4; _5; _6; _7; _1; _0; _8; the open borrow; shr; res; that each local dies]
-          move ! (1 ∷ 11 ∷ []) $ shuts-slice ! tt B.the-row q′ ys b o $
-          -- [κ; the result; _3; _2; _4; _5; _6; _7; _1; _0; _8; shr; res; …]
-          returns ! (look ! 9 refl) $ forget ! 2 refl $ forget ! 3 refl $ forget ! 4 refl $ forget ! 5 refl $ forget ! 8 refl $ forget ! 9 refl $ forget ! 10 refl $
-          move ! (9 ∷ 13 ∷ []) $ free1 ! $ move ! (8 ∷ 12 ∷ []) $ free1 ! $ move ! (3 ∷ 11 ∷ []) $ free1 ! $ move ! (2 ∷ 10 ∷ []) $ free1 ! $ move ! (2 ∷ 9 ∷ []) $ free1 ! $ move ! (2 ∷ 8 ∷ []) $ free1 ! $
-          move ! (2 ∷ 7 ∷ []) $ free1 ! $ move ! (2 ∷ 6 ∷ []) $ free1 ! $ move ! (2 ∷ 5 ∷ []) $ free1 ! $ free0 ! $
-          by ! (exits r v gn (e ∙ all))))))
+        -- the turn that leaves the loop, and the rest of the body
+        ends : (s : Seen) (w : Val) (X : SProp 𝓤) → Is S.the-row s (w ∷ []) → seenNo s n ≡ recordsNo ys → ent 𝓤 (⋆ 𝓤 H A (At n w)) (Wp 𝓤 H C Λ En mir.turn-1 (afterTurn 𝓤 H X Left))
+        unfolding afterTurn
+        ends s w X is all =
+            qed W (At n w) ∵ exec ! C Λ En mir.turn-1 (anyQ (afterTurn 𝓤 H X Left)) $
+            assigns ! (of-opd ! (load ! (from ! (fld ! refl (stop !))) (look-in ! 7 (sub ! 1 refl (whole !))))) (from ! (stop !)) (init ! 3 refl (tt, record { fits = gn .0 })) $
+            assigns ! (bin ! (load ! (from ! (stop !)) (look ! 1 refl)) (load ! (from ! (stop !)) (look ! 3 refl)) tt) (from ! (stop !)) (init ! 4 refl (tt, tt)) $
+            rewrite ! 4 (λ (t : Bool). ‵ (fat fullShare tyBool l₅ 0 (vbool t))) (le-ltb n n (le-refl n)) refl $
+            leaves-loop ! (load ! (from ! (stop !)) (look ! 4 refl)) $ exec ! C Λ En mir.t-4 (atRet En Post) $
+            assigns ! (of-opd ! (load ! (from ! (fld ! refl (stop !))) (look-in ! 7 (sub ! 1 refl (whole !))))) (from ! (stop !)) (init ! 9 refl (tt, record { fits = gn .0 })) $
+            owned ! usize (Is usize) (uint-makes 𝓤 H A W w64) n (vint w64 n ∷ []) (refl, gn .0) $
+            owned ! S.the-row (Is S.the-row) (LL.makes S.the-type S′.the-plain 𝓤 H A) s (w ∷ []) is $
+            use2 W (raw (No 𝓤 H A mem run .pre (to-no 𝓤 H A mem run s w n))) (goes-no 𝓤 H A mem run W s w n) $
+            calls-at ! fm (No 𝓤 H A mem run) known-no (to-no 𝓤 H A mem run s w n) (and-then ! (load ! (from ! (stop !)) (look ! 3 refl)) (and-then ! (load ! (from ! (stop !)) (look ! 10 refl)) (no-more !))) (λ v.
+            use1 W (later (some (λ (r : ℕ). (‵ ftrue ⊛ ‵ (u32 .own r (v ∷ []))) ⊛ raw (ensured 𝓤 H A no.ended (no.clauses 𝓤 H A mem run) tt (s, (n, tt)) tt r)))) (id⊢ 𝓤 _) $ await ! tt $ pick ! (λ r.
+            split ! $ move ! (1 ∷ []) $ use1 W (raw (fact 𝓤 (r ≡ seenNo s n))) (no-of 𝓤 H A mem run s n r) $ heard ! (r ≡ seenNo s n) (λ e. split ! $ drop ! $
+            peeks ! u32 (Is u32) (shows 𝓤 H A u32) r (v ∷ []) (λ is′.
+            land ! (from ! (stop !)) (init ! 9 refl (uint-lawful 𝓤 H A W w32 .typed r _ is′ .0)) $
+            -- [the result; the records; _3; _2; _4; _5; _6; _7; _1; _0; _8; the open borrow; shr; res; that each local dies]
+            move ! (1 ∷ 11 ∷ []) $ shuts-slice ! tt B.the-row q′ ys b o $
+            -- [κ; the result; _3; _2; _4; _5; _6; _7; _1; _0; _8; shr; res; …]
+            returns ! (look ! 9 refl) $ forget ! 2 refl $ forget ! 3 refl $ forget ! 4 refl $ forget ! 5 refl $ forget ! 8 refl $ forget ! 9 refl $ forget ! 10 refl $
+            move ! (9 ∷ 13 ∷ []) $ free1 ! $ move ! (8 ∷ 12 ∷ []) $ free1 ! $ move ! (3 ∷ 11 ∷ []) $ free1 ! $ move ! (2 ∷ 10 ∷ []) $ free1 ! $ move ! (2 ∷ 9 ∷ []) $ free1 ! $ move ! (2 ∷ 8 ∷ []) $ free1 ! $
+            move ! (2 ∷ 7 ∷ []) $ free1 ! $ move ! (2 ∷ 6 ∷ []) $ free1 ! $ move ! (2 ∷ 5 ∷ []) $ free1 ! $ free0 ! $
+            by ! (exits r v gn (e ∙ all))))))
 
-      -- the invariant at t, from its facts
-      holds-at : (t i : ℕ) (s : Seen) (w : Val) → Facts t i s w → ent 𝓤 (⋆ 𝓤 H A (At i w)) (Inv t)
-      holds-at t i s w g =
-          via 𝓤 (guard 𝓤 (Facts t i s w) (⋆ 𝓤 H A (At i w))) (guardI 𝓤 (Facts t i s w) (⋆ 𝓤 H A (At i w)) g)
-          (via 𝓤 (ex 𝓤 (λ (v : Val). guard 𝓤 (Facts t i s v) (⋆ 𝓤 H A (At i v)))) (exI 𝓤 (λ (v : Val). guard 𝓤 (Facts t i s v) (⋆ 𝓤 H A (At i v))) w)
-          (via 𝓤 (ex 𝓤 (λ (r : Seen). ex 𝓤 (λ (v : Val). guard 𝓤 (Facts t i r v) (⋆ 𝓤 H A (At i v))))) (exI 𝓤 (λ (r : Seen). ex 𝓤 (λ (v : Val). guard 𝓤 (Facts t i r v) (⋆ 𝓤 H A (At i v)))) s)
-          (exI 𝓤 (λ (j : ℕ). ex 𝓤 (λ (r : Seen). ex 𝓤 (λ (v : Val). guard 𝓤 (Facts t j r v) (⋆ 𝓤 H A (At j v))))) i)))
+        -- the invariant at t, from its facts
+        holds-at : (t i : ℕ) (s : Seen) (w : Val) → Facts t i s w → ent 𝓤 (⋆ 𝓤 H A (At i w)) (Inv t)
+        holds-at t i s w g =
+            via 𝓤 (guard 𝓤 (Facts t i s w) (⋆ 𝓤 H A (At i w))) (guardI 𝓤 (Facts t i s w) (⋆ 𝓤 H A (At i w)) g)
+            (via 𝓤 (ex 𝓤 (λ (v : Val). guard 𝓤 (Facts t i s v) (⋆ 𝓤 H A (At i v)))) (exI 𝓤 (λ (v : Val). guard 𝓤 (Facts t i s v) (⋆ 𝓤 H A (At i v))) w)
+            (via 𝓤 (ex 𝓤 (λ (r : Seen). ex 𝓤 (λ (v : Val). guard 𝓤 (Facts t i r v) (⋆ 𝓤 H A (At i v))))) (exI 𝓤 (λ (r : Seen). ex 𝓤 (λ (v : Val). guard 𝓤 (Facts t i r v) (⋆ 𝓤 H A (At i v)))) s)
+            (exI 𝓤 (λ (j : ℕ). ex 𝓤 (λ (r : Seen). ex 𝓤 (λ (v : Val). guard 𝓤 (Facts t j r v) (⋆ 𝓤 H A (At j v))))) i)))
 
-      turn-at : (t i : ℕ) (s : Seen) (w : Val) → Facts t i s w → ent 𝓤 (⋆ 𝓤 H A (At i w)) (Wp 𝓤 H C Λ En mir.turn-1 (afterTurn 𝓤 H (Below t) Left))
-      turn-at zero i s w g =
-          subst (λ (j : ℕ). ent 𝓤 (⋆ 𝓤 H A (At j w)) (Wp 𝓤 H C Λ En mir.turn-1 (afterTurn 𝓤 H (Below zero) Left))) (sym last)
-          (ends s w (Below zero) (g .2) (ap (λ (r : Seen). seenNo r n) (sym (seen-last s ys i (omega (arith, last))) ∙ g .1) ∙ seen-no ys))
-        where
-          last : i ≡ n
-          last = sym (add-zero i) ∙ g .0
-      turn-at (suc t) i s w g =
-          more i s w (Below (suc t)) small (g .2) (λ r v e is.
-          via 𝓤 (Inv t) (holds-at t (i + 1) r v (omega (arith, left), ap (λ (z : Seen). seenAll z (dropped (i + 1) ys)) e ∙ sym (seen-next s ys i small) ∙ g .1, is))
-          (via 𝓤 (guard 𝓤 (t < suc t) (Inv t)) (guardI 𝓤 (t < suc t) (Inv t) (omega arith)) (exI 𝓤 (λ (u : ℕ). guard 𝓤 (u < suc t) (Inv u)) t)))
-        where
-          left : i + (t + 1) ≡ n
-          left = ap (λ (k : ℕ). i + k) (add-one t) ∙ g .0
+        turn-at : (t i : ℕ) (s : Seen) (w : Val) → Facts t i s w → ent 𝓤 (⋆ 𝓤 H A (At i w)) (Wp 𝓤 H C Λ En mir.turn-1 (afterTurn 𝓤 H (Below t) Left))
+        turn-at zero i s w g =
+            subst (λ (j : ℕ). ent 𝓤 (⋆ 𝓤 H A (At j w)) (Wp 𝓤 H C Λ En mir.turn-1 (afterTurn 𝓤 H (Below zero) Left))) (sym last)
+            (ends s w (Below zero) (g .2) (ap (λ (r : Seen). seenNo r n) (sym (seen-last s ys i (omega (arith, last))) ∙ g .1) ∙ seen-no ys))
+          where
+            last : i ≡ n
+            last = sym (add-zero i) ∙ g .0
+        turn-at (suc t) i s w g =
+            more i s w (Below (suc t)) small (g .2) (λ r v e is.
+            via 𝓤 (Inv t) (holds-at t (i + 1) r v (omega (arith, left), ap (λ (z : Seen). seenAll z (dropped (i + 1) ys)) e ∙ sym (seen-next s ys i small) ∙ g .1, is))
+            (via 𝓤 (guard 𝓤 (t < suc t) (Inv t)) (guardI 𝓤 (t < suc t) (Inv t) (omega arith)) (exI 𝓤 (λ (u : ℕ). guard 𝓤 (u < suc t) (Inv u)) t)))
+          where
+            left : i + (t + 1) ≡ n
+            left = ap (λ (k : ℕ). i + k) (add-one t) ∙ g .0
 
-          small : i < n
-          small = omega (arith, left)
+            small : i < n
+            small = omega (arith, left)
 
-      turns : (t : ℕ) → ent 𝓤 (Inv t) (Wp 𝓤 H C Λ En mir.turn-1 (afterTurn 𝓤 H (Below t) Left))
-      turns t = exE 𝓤 (λ (i : ℕ). ex 𝓤 (λ (s : Seen). ex 𝓤 (λ (w : Val). guard 𝓤 (Facts t i s w) (⋆ 𝓤 H A (At i w))))) (λ i.
-          exE 𝓤 (λ (s : Seen). ex 𝓤 (λ (w : Val). guard 𝓤 (Facts t i s w) (⋆ 𝓤 H A (At i w)))) (λ s.
-          exE 𝓤 (λ (w : Val). guard 𝓤 (Facts t i s w) (⋆ 𝓤 H A (At i w))) (λ w. guardE 𝓤 (Facts t i s w) (⋆ 𝓤 H A (At i w)) (λ g. turn-at t i s w g))))
+        turns : (t : ℕ) → ent 𝓤 (Inv t) (Wp 𝓤 H C Λ En mir.turn-1 (afterTurn 𝓤 H (Below t) Left))
+        turns t = exE 𝓤 (λ (i : ℕ). ex 𝓤 (λ (s : Seen). ex 𝓤 (λ (w : Val). guard 𝓤 (Facts t i s w) (⋆ 𝓤 H A (At i w))))) (λ i.
+            exE 𝓤 (λ (s : Seen). ex 𝓤 (λ (w : Val). guard 𝓤 (Facts t i s w) (⋆ 𝓤 H A (At i w)))) (λ s.
+            exE 𝓤 (λ (w : Val). guard 𝓤 (Facts t i s w) (⋆ 𝓤 H A (At i w))) (λ w. guardE 𝓤 (Facts t i s w) (⋆ 𝓤 H A (At i w)) (λ g. turn-at t i s w g))))
 
-      loops : (s : Seen) (w : Val) → s ≡ seenNone → Is S.the-row s (w ∷ []) → ent 𝓤 (⋆ 𝓤 H A (At 0 w)) (Wp 𝓤 H C Λ En (loop mir.turn-1) Left)
-      loops s w e is = via 𝓤 (Inv n) (holds-at n 0 s w (omega arith, ap (λ (z : Seen). seenAll z ys) e, is)) (loop-rule 𝓤 H (W .laws) 𝓣 _<_ (Nat·lt-wfRel .wf) En mir.turn-1 Left Inv turns n)
+        loops : (s : Seen) (w : Val) → s ≡ seenNone → Is S.the-row s (w ∷ []) → ent 𝓤 (⋆ 𝓤 H A (At 0 w)) (Wp 𝓤 H C Λ En (loop mir.turn-1) Left)
+        loops s w e is = via 𝓤 (Inv n) (holds-at n 0 s w (omega arith, ap (λ (z : Seen). seenAll z ys) e, is)) (loop-rule 𝓤 H (W .laws) 𝓣 _<_ (Nat·lt-wfRel .wf) En mir.turn-1 Left Inv turns n)
 
-    module _ (l₀ l₁ l₂ l₃ l₄ l₅ l₆ l₇ l₈ : ℕ) where
-      abbrev E₁ : Env 𝓤 H
-      E₁ = (tyInt w32, l₀) ∷ (sliceB, l₁) ∷ (S′.mir, l₂) ∷ (word, l₃) ∷ (word, l₄) ∷ (tyBool, l₅) ∷ (tyPtr, l₆) ∷ (B′.mir, l₇) ∷ (word, l₈) ∷ []
-
+      -- ---- before the loop
       -- local i stands at 2 · (8 - i), and local 2 as z
       abbrev Begun : Fml → List (Item 𝓤)
       Begun z = ‵ (froom word l₈ 0) ∷ ‵ (fdies word l₈) ∷ ‵ (froom B′.mir l₇ 0) ∷ ‵ (fdies B′.mir l₇) ∷ ‵ (froom tyPtr l₆ 0) ∷ ‵ (fdies tyPtr l₆) ∷ ‵ (froom tyBool l₅ 0) ∷ ‵ (fdies tyBool l₅)
           ∷ ‵ (froom word l₄ 0) ∷ ‵ (fdies word l₄) ∷ ‵ (froom word l₃ 0) ∷ ‵ (fdies word l₃) ∷ ‵ z ∷ ‵ (fdies S′.mir l₂)
           ∷ ‵ (fat fullShare sliceB l₁ 0 (sliceVal (b, o) n)) ∷ ‵ (fdies sliceB l₁) ∷ ‵ (froom (tyInt w32) l₀ 0) ∷ ‵ (fdies (tyInt w32) l₀) ∷ (‵ (flft κ q) ⊛ ‵ ftrue) ∷ ‵ (owns (ShrSlice (named 0) κ B.the-row ∷ []) x at) ∷ []
 
-      begins : (s : Seen) (w : Val) → s ≡ seenNone → Is S.the-row s (w ∷ []) → ent 𝓤 (⋆ 𝓤 H A (Begun (fat fullShare S′.mir l₂ 0 w))) (Wp 𝓤 H C Λ E₁ mir.t-2 (atReturn 𝓤 H E₁ Post))
+      begins : (s : Seen) (w : Val) → s ≡ seenNone → Is S.the-row s (w ∷ []) → ent 𝓤 (⋆ 𝓤 H A (Begun (fat fullShare S′.mir l₂ 0 w))) (Wp 𝓤 H C Λ En mir.t-2 (atReturn 𝓤 H En Post))
       begins s w e is =
-          qed W (Begun (fat fullShare S′.mir l₂ 0 w)) ∵ exec ! C Λ E₁ mir.t-2 (atRet E₁ Post) $
+          qed W (Begun (fat fullShare S′.mir l₂ 0 w)) ∵ exec ! C Λ En mir.t-2 (atRet En Post) $
           assigns ! (of-opd ! (lit ! tt)) (from ! (stop !)) (init ! 10 refl (tt, record { fits = lit< tt })) $
           move ! (19 ∷ []) $ fsplit ! $ fsplit ! $ drop ! $ fsplit ! $
           -- [res; shr; true; _8; …; the tokens]
@@ -332,12 +331,12 @@ module _ {M : Type 1} (𝓤 : URA M) (H : Heap 𝓤) (A : Atoms 𝓤) (W : Given
           looks-slice ! tt B.the-row (Is B.the-row) (shows 𝓤 H A B.the-row) (LL.vals B.the-type B′.the-laws) (LL.tells B.the-type B′.the-laws) (LL.copy B.the-type B′.the-copy 𝓤 H A W) ys b o (λ q′.
           -- [the records; the open borrow; shr; true; res; true; _8; …]
           keep ! (0 ∷ 16 ∷ 18 ∷ 14 ∷ 12 ∷ 10 ∷ 8 ∷ 20 ∷ 22 ∷ 6 ∷ 1 ∷ 2 ∷ 4 ∷ 23 ∷ 21 ∷ 19 ∷ 17 ∷ 15 ∷ 13 ∷ 11 ∷ 9 ∷ 7 ∷ []) $
-          by ! (loops l₀ l₁ l₂ l₃ l₄ l₅ l₆ l₇ l₈ q′ s w e is))
+          by ! (loops q′ s w e is))
 
       -- the first call
-      calls : ent 𝓤 (⋆ 𝓤 H A (Begun (froom S′.mir l₂ 0))) (Wp 𝓤 H C Λ E₁ mir.t-1 (atReturn 𝓤 H E₁ Post))
+      calls : ent 𝓤 (⋆ 𝓤 H A (Begun (froom S′.mir l₂ 0))) (Wp 𝓤 H C Λ En mir.t-1 (atReturn 𝓤 H En Post))
       calls =
-          qed W (Begun (froom S′.mir l₂ 0)) ∵ exec ! C Λ E₁ mir.t-1 (atRet E₁ Post) $
+          qed W (Begun (froom S′.mir l₂ 0)) ∵ exec ! C Λ En mir.t-1 (atRet En Post) $
           nothing ! $ use1 W (raw (None 𝓤 H A mem run .pre (to-none 𝓤 H A mem run))) (goes-none 𝓤 H A mem run W) $
           calls-at ! fm (None 𝓤 H A mem run) known-none (to-none 𝓤 H A mem run) (no-more !) (λ w.
           use1 W (later (some (λ (s : Seen). (‵ ftrue ⊛ ‵ (S.the-row .own s (w ∷ []))) ⊛ raw (ensured 𝓤 H A none.ended (none.clauses 𝓤 H A mem run) tt tt tt s)))) (id⊢ 𝓤 _) $ await ! tt $ pick ! (λ s.
