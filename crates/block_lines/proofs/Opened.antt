@@ -14,8 +14,7 @@ use Rattle.index.specs.Opening.{Opens}
 use Rattle.index.specs.Answers.{partAt}
 use Rattle.index.specs.Lookups.{placeDef}
 use Rattle.index.proofs.OpenFacts.{OpenFacts, opens-facts}
-use Rattle.index.proofs.LookupLaws.{opened-legal}
-use Rattle.index.proofs.Separators.{place-separator}
+use Rattle.index.proofs.LookupLaws.{opened-legal, place-separator}
 use Rattle.block_lines.specs.Lines.{line}
 use Rattle.block_lines.proofs.Written.{line-short}
 
