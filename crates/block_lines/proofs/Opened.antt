@@ -6,7 +6,6 @@ use native.Mathlib.Omega.{arith}
 use borrow.Author.Needs.{needs}
 use lib.ListN.{length, drop, length-take}
 use Rattle.group.specs.Legal.{NumbersOk}
-use Rattle.store.specs.Facts.{GroupLen}
 use Rattle.directory.specs.Read.{keyOffset, keyLength}
 use Rattle.index.specs.declared.SSTableIndexV3.{SSTableIndexV3}
 use Rattle.index.specs.Parts.{directoryPart, blocksIn, blockIn, separatorIn}

@@ -1,7 +1,7 @@
 -- What the writers leave: parts one behind the other at the front of the output are the line, which is at most 2,103 bytes long.
-use mathlib.Core.Path.{_≡_, refl, sym, _∙_}
+use mathlib.Core.Path.{_≡_, sym, _∙_}
 use mathlib.Core.List.{List, [], _∷_, _++_, append-assoc}
-use Prim.Native.Nat.{ℕ, _+_, _-_, _*_, _≤_, _<_}
+use Prim.Native.Nat.{ℕ, _+_, _-_, _≤_, _<_}
 use native.Mathlib.Nat.{zero-add, add-zero}
 use native.Mathlib.Numerals.{add-one}
 use native.Mathlib.Omega.{arith}
@@ -11,7 +11,7 @@ use borrow.Rule.Slice.PartMut.{putMid}
 use Rattle.serialize.proofs.Stores.{sets-append, sets-in-part}
 use Rattle.group.specs.declared.BlockAddr.{BlockAddr}
 use Rattle.group.specs.Legal.{limit, NumbersOk}
-use Rattle.block_lines.specs.Lines.{decimal, hex, separatorText, line}
+use Rattle.block_lines.specs.Lines.{decimal, separatorText, line}
 use Rattle.block_lines.proofs.Digits.{length-decimal, length-hex}
 
 -- a text w copied into the output from `at` on

@@ -21,7 +21,7 @@ fn block(opened: SSTableIndexV3, data: &[u8], id: usize) -> BlockAddr
     ensures { λ r. ⌜ r ≡ blockIn 128 (now («data» .entry)) id ⌝ }
 {
     let BlockById::Block(block) = opened.get_block(data, id as u64) else {
-        // A refusal's address is zero.
+        // No block of an opened index is refused; a refusal's address is zero.
         return BlockAddr {
             start: 0,
             end: 0,

@@ -5,7 +5,6 @@ use mathlib.Core.Logic.{inl, inr}
 use Prim.Native.Nat.{ℕ, _<_}
 use native.Mathlib.Omega.{arith}
 use Rattle.group.specs.declared.BlockAddr.{BlockAddr}
-use Rattle.index.specs.declared.BlockById.{BlockById}
 use Rattle.index.specs.Answers.{byIdAddr}
 use Rattle.index.specs.Lookups.{ByIdExact}
 use Rattle.index.specs.Parts.{blockIn}

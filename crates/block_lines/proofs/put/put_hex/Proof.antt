@@ -30,7 +30,7 @@ slice-write-out : tie.Need-slice-write-out Inv-loop μ-loop
 slice-write-out c = search needs
 
 hex-digit-requires-2 : tie.Need-hex-digit-requires-2 Inv-loop μ-loop
-hex-digit-requires-2 c κs = search needs
+hex-digit-requires-2 c κs = omega (arith, c .before .shared-slice-known2 .given (c .before .before .before .loop .i))
 
 add-out : tie.Need-add-out Inv-loop μ-loop
 add-out c = search needs

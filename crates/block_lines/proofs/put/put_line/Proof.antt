@@ -1,12 +1,12 @@
 -- `block_lines::put::put_line` meets its contract: after each part the output's front is the line up to there.
 use borrow.Author.Needs.{needs}
-use mathlib.Core.Path.{_≡_, refl, sym, ap, _∙_}
-use mathlib.Core.List.{List, [], _∷_, _++_}
+use mathlib.Core.Path.{refl, _∙_}
+use mathlib.Core.List.{[], _∷_}
 use Prim.Native.Nat.{_+_, _<_}
 use native.Mathlib.Nat.{zero-add}
 use native.Mathlib.Omega.{arith}
 use lib.ListN.{length, set, length-set}
-use Rattle.block_lines.specs.Lines.{decimal, separatorText, line}
+use Rattle.block_lines.specs.Lines.{decimal, line}
 use Rattle.block_lines.proofs.Written.{Wrote, wrote-next, wrote-length, to-start, to-end, to-ordinal, to-separator, parts-line, Reach, reach, separator-reach}
 use Rattle.block_lines.proofs.put.put_line.Statement.{statement}
 use Rattle.block_lines.proofs.put.put_line.Tie as tie
@@ -90,7 +90,7 @@ add-result : tie.Need-add-result
 add-result c = omega (arith, room (c .before .before))
 
 same-length : tie.Need-same-length
-same-length c = wrote-length (all (c .before .before))
+same-length c = simp length-set (wrote-length (wrote-5 (c .before .before)))
 
 returns : tie.Need-returns
 returns c = let w = all (c .before .before) in (w .end, w .stored)

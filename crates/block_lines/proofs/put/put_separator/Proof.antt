@@ -1,9 +1,8 @@
 -- `block_lines::put::put_separator` meets its contract: a space, and `-` or the separator's hex digits behind it.
 use borrow.Author.Needs.{needs}
-use mathlib.Core.Path.{_≡_, refl, sym, _∙_}
+use mathlib.Core.Path.{_≡_, refl}
 use mathlib.Core.List.{List, [], _∷_}
-use Prim.Native.Nat.{ℕ, _<_}
-use native.Mathlib.Numerals.{add-one}
+use Prim.Native.Nat.{ℕ}
 use native.Mathlib.Omega.{arith}
 use lib.ListN.{length, length-set}
 use Rattle.block_lines.specs.Lines.{hex, separatorText}
