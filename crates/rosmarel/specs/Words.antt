@@ -1,10 +1,7 @@
--- The opened record as seven numbers, and back; the number and the total of `finish_len`.
+-- The opened record as seven numbers, and back.
 use Prim.Native.Nat.{ℕ}
 use mathlib.Core.List.{List, [], _∷_}
-use mathlib.Core.Bool.{Bool, true, false}
 use lib.ListN.{getD}
-use Rattle.builder.specs.declared.FinishLen.{FinishLen}
-use Rattle.builder.specs.declared.FinishLen.the-variants.{Total, Refused}
 use Rattle.index.specs.declared.SSTableIndexV3.{SSTableIndexV3}
 
 -- n, then offset and length of the directory, the group records and the address bytes
@@ -21,16 +18,3 @@ openedAt w = record {
   addrs = getD w 5 0;
   «addrs_len» = getD w 6 0;
 }
-
-abbrev pub lenNo : FinishLen → ℕ
-lenNo (Total total) = 0
-lenNo (Refused k) = k
-
-abbrev pub lenTotal : FinishLen → ℕ
-lenTotal (Total total) = total
-lenTotal (Refused k) = 0
-
--- a truth value as a number
-abbrev pub asNumber : Bool → ℕ
-asNumber true = 1
-asNumber false = 0

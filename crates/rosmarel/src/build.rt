@@ -3,13 +3,14 @@ ghost use mathlib.Core.Path.{_≡_};
 ghost use Rattle.keys.specs.Order.{commonPrefixLen};
 ghost use Rattle.builder.specs.Calls.{addDef, shortenDef};
 ghost use Rattle.builder.specs.Finish.{finishDef, finishLenDef};
-ghost use Rattle.rosmarel.specs.Words.{lenNo, lenTotal};
+ghost use Rattle.rosmarel.specs.Answers.{lenNo, lenTotal};
 use builder::Answer;
 use builder::FinishLen;
 use builder::Finished;
 use builder::SSTableIndexBuilder;
 use group::BlockAddr;
 
+// Adds a block behind the last one. A refusal leaves `n`.
 #[no_mangle]
 pub extern "C" fn rosmarel_add(
     n: &mut u64,
@@ -36,10 +37,14 @@ pub extern "C" fn rosmarel_add(
             *n = next.n as u64;
             0
         }
-        Answer::Refused(no, _) => no,
+        Answer::Refused(no, same) => {
+            *n = same.n as u64;
+            no
+        }
     }
 }
 
+// Shortens the last block's key to one that is still below `next_key`.
 #[no_mangle]
 pub extern "C" fn rosmarel_shorten(
     n: u64,
@@ -56,6 +61,7 @@ pub extern "C" fn rosmarel_shorten(
     }
 }
 
+// Writes the index from the front of `out` on.
 #[no_mangle]
 pub extern "C" fn rosmarel_finish(
     n: u64,
@@ -82,6 +88,7 @@ pub extern "C" fn rosmarel_finish(
     }
 }
 
+// The total that a finish would need.
 #[no_mangle]
 pub extern "C" fn rosmarel_finish_len(n: u64, blocks: &[u64], keys: &[u8], total: &mut u64) -> u32
     ensures { λ r. ⌜ (r ≡ lenNo (finishLenDef (record { n = n }) (now (blocks .entry)) (now (keys .entry)))) × (now (total .exit) ≡ lenTotal (finishLenDef (record { n = n }) (now (blocks .entry)) (now (keys .entry)))) ⌝ }
@@ -99,6 +106,7 @@ pub extern "C" fn rosmarel_finish_len(n: u64, blocks: &[u64], keys: &[u8], total
     }
 }
 
+// How many bytes two keys share at their front.
 #[no_mangle]
 pub extern "C" fn rosmarel_common_prefix_len(left: &[u8], right: &[u8]) -> u64
     ensures { λ r. ⌜ r ≡ commonPrefixLen (now (left .entry)) (now (right .entry)) ⌝ }
