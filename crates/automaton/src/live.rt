@@ -1,6 +1,5 @@
 // The bytes that lead from each state to one that can match.
 use crate::bits::any_set;
-use crate::bits::is_set;
 ghost use mathlib.Core.Path.{_≡_};
 ghost use Prim.Native.Nat.{ℕ, _+_, _≤_, _<_};
 ghost use lib.ListN.{length, getD};
@@ -52,22 +51,6 @@ pub fn any_byte(table: &[u8], live: &[u64; 256], state: usize, lo: usize, hi: us
             return true;
         }
         b = first + 64;
-    }
-    false
-}
-
-// The same by the table, for a single interval.
-pub fn any_byte_of(table: &[u8], reach: u64, state: usize, lo: usize, hi: usize) -> bool
-    requires { ⌜ WellFormed (now table) × Reach (now table) reach × (state < states (now table)) × (hi ≤ 256) ⌝ }
-    ensures { λ r. ⌜ Exactly r (Byte (now (table .entry)) state lo hi) ⌝ }
-{
-    let row = 1 + table[0] as usize + state * 256;
-    let mut b = lo;
-    while b < hi {
-        if is_set(reach, table[row + b] as usize) {
-            return true;
-        }
-        b += 1;
     }
     false
 }

@@ -1,10 +1,11 @@
 -- The lengths of a directory's parts.
 use mathlib.Core.Path.{_≡_, refl, sym, ap, _∙_}
-use mathlib.Core.List.{List, [], _∷_, _++_, append-assoc}
+use mathlib.Core.List.{List, [], _∷_, _++_, append-assoc, append-nil}
 use Prim.Native.Nat.{ℕ, suc, _+_, _*_, _≤_, _<_}
 use native.Mathlib.Nat.{zero-add}
 use native.Mathlib.Omega.{arith}
 use lib.ListN.{length, getD, take, drop, length-append, take-append-drop}
+use lib.Seq.{take-suc}
 use Rattle.serialize.proofs.Digits.{length-digits}
 use Rattle.directory.specs.Directory.{pairs, keyBytes, directoryBytes}
 use Rattle.directory.specs.Facts.{KeysArea}
@@ -43,6 +44,13 @@ keyBytes-append (key ∷ a) b = rw (keyBytes-append a b) (sym (append-assoc key 
 -- the keys before key i and those from it on
 pub keyBytes-split : (keys : List (List ℕ)) (i : ℕ) → keyBytes keys ≡ keyBytes (take i keys) ++ keyBytes (drop i keys)
 keyBytes-split keys i = ap keyBytes (sym (take-append-drop i keys)) ∙ keyBytes-append (take i keys) (drop i keys)
+
+-- the keys up to key i
+pub length-keyBytes-suc : (keys : List (List ℕ)) (i : ℕ) → i < length keys
+    → length (keyBytes (take (suc i) keys)) ≡ length (keyBytes (take i keys)) + length (getD keys i [])
+unfolding keyBytes
+length-keyBytes-suc keys i h =
+    rw (take-suc keys i [] h, keyBytes-append (take i keys) (getD keys i [] ∷ []), append-nil (getD keys i [])) (length-append (keyBytes (take i keys)) (getD keys i []))
 
 -- an offset is at most 65,536 keys of 1,024 bytes
 pub offset-le : (keys : List (List ℕ)) (i : ℕ) → Bounded keys → length (keyBytes (take i keys)) ≤ 67108864

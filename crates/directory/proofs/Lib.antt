@@ -1,5 +1,6 @@
 pub mod Keys
 pub mod Lengths
+pub mod Opened
 pub mod ReadBack
 pub mod Reader
 pub mod Rules

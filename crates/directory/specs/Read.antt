@@ -1,7 +1,7 @@
 -- A directory read from a file (document 01, rows 12, 13, 19 and 20). d is the directory's bytes, or more bytes that begin with them.
 use Prim.Native.Nat.{ℕ, zero, suc, _+_, _-_, _*_, _≤_, _<_}
 use mathlib.Core.Path.{_≡_}
-use mathlib.Core.List.{List}
+use mathlib.Core.List.{List, [], _∷_}
 use mathlib.Core.Bool.{Bool, true, false, not, _||_, cond}
 use lib.Dec.{eqb, ltb}
 use lib.ListN.{length, take, drop}
@@ -27,6 +27,15 @@ keyLength d i = number d (8 + 8 * i)
 -- key i of n
 abbrev pub keyOf : List ℕ → ℕ → ℕ → List ℕ
 keyOf d n i = take (keyLength d i) (drop (4 + 8 * n + keyOffset d i) d)
+
+-- the `count` keys from key i on
+unfoldable pub keysFrom : List ℕ → ℕ → ℕ → ℕ → List (List ℕ)
+keysFrom d n i zero = []
+keysFrom d n i (suc count) = keyOf d n i ∷ keysFrom d n (suc i) count
+
+-- the keys of a directory
+abbrev pub keysIn : List ℕ → List (List ℕ)
+keysIn d = keysFrom d (countOf d) 0 (countOf d)
 
 -- where key i begins: the first offset is 0, the next is offset plus length
 unfoldable pub keyBegin : List ℕ → ℕ → ℕ

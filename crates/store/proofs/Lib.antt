@@ -1,4 +1,6 @@
 pub mod Groups
 pub mod Lookup
+pub mod Rows
+pub mod Passed
 pub mod Stored
 pub mod ReadBack

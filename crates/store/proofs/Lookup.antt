@@ -86,7 +86,7 @@ get-block L recs addr n i some ok h =
 pub rest-part : (s : List ℕ) (n : ℕ) → take (length s - n) (drop n s) ≡ drop n s
 rest-part s n = take-all (length s - n) (drop n s) (omega (arith, length-drop n s))
 
-neither : (a b : Bool) → a || b ≡ false → (a ≡ false) × (b ≡ false)
+pub neither : (a b : Bool) → a || b ≡ false → (a ≡ false) × (b ≡ false)
 neither true b e = absurd (true≢false e)
 neither false b e = (refl, e)
 

@@ -1,4 +1,5 @@
 // The address store: `BlockAddrStoreWriter` and `BlockAddrStore` of src/index/v3.rs.
+pub mod check;
 pub mod read;
 pub mod write;
 

@@ -12,12 +12,12 @@ use crate::Got;
 use crate::Located;
 use group::BlockAddrBlockMetadata;
 
-const META_LEN: usize = 36;
+pub const META_LEN: usize = 36;
 // The place of the first ordinal in a group record.
 const FIRST_ORDINAL: usize = 16;
 
 // How many blocks group g has.
-fn blocks_in(n: usize, group_len: usize, g: usize) -> usize
+pub fn blocks_in(n: usize, group_len: usize, g: usize) -> usize
     requires { ⌜ «group_len» * g ≤ n ⌝ }
     ensures { λ r. ⌜ r ≡ groupLen «group_len» n g ⌝ }
 {

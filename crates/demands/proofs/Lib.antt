@@ -1,0 +1,4 @@
+pub mod Same
+pub mod Listed
+pub mod Found
+pub mod Demand3

@@ -1,0 +1,69 @@
+-- `index::lookup::get_block_with_key` meets its contract: the directory's answer first, then the store's, read through the table's numbers.
+use borrow.Author.Needs.{needs}
+use mathlib.Core.Path.{refl}
+use mathlib.Core.Logic.{inl, inr}
+use Prim.Native.Nat.{_<_}
+use Rattle.directory.specs.Read.{FoundIn, FoundAs}
+use Rattle.index.proofs.LookupLaws.{not-broken, same-block, key-refused, key-above}
+use Rattle.index.proofs.lookup.get_block_with_key.Statement.{statement}
+use Rattle.index.proofs.lookup.get_block_with_key.Tie as tie
+
+find-requires : tie.Need-find-requires
+find-requires c κs = search needs
+
+enum-known-found : tie.Need-enum-known-found
+enum-known-found c = search needs
+
+refusal-requires : tie.Need-refusal-requires
+refusal-requires c κs = search needs
+
+returns : tie.Need-returns
+returns c =
+    let other = c .before .match .keys2 in
+    let r = c .before .before .find in (
+      inr (key-refused (r .result) _ (c .refusal .ensures) other, refl, refl),
+      λ o. let it = key-above _ _ _ (r .result) _ (c .refusal .ensures) other (r .ensures .1 o) in inr (it .0, refl, refl, it .1),
+    )
+
+-- the block found is one of n
+known : (c : tie.After-found) → c .found .given .0 .0 < c .before .before .before .before .before .args .opened .n
+unfolding FoundIn
+known c = rw (c .found .given .1) at (c .before .before .find .ensures .0)
+
+get-requires : tie.Need-get-requires
+get-requires c κs =
+    let s = c .before .before .before .before .before .before in
+    (s .pre .0, s .pre .1, known (c .before))
+
+enum-known-block : tie.Need-enum-known-block
+enum-known-block c = search needs
+
+enum-told : tie.Need-enum-told
+enum-told c = search needs
+
+returns-2 : tie.Need-returns-2
+returns-2 c = (inr (inr refl, refl, refl), λ o. absurd (not-broken _ _ (c .enum-told .given .1) (c .before .before .get .ensures .1 o)))
+
+returns-3 : tie.Need-returns-3
+unfolding FoundAs
+returns-3 c =
+    let b = c .before .block .given in
+    let g = c .before .before .before in
+    let f = g .before .before in (
+      inl (refl, known f, g .get .ensures .0 _ (b .1)),
+      λ o. inl (refl, rw (f .found .given .1) at (f .before .before .find .ensures .1 o), same-block _ _ _ (b .1) (g .get .ensures .1 o)),
+    )
+
+pub get-block-with-key-spec : {M : Type 1} → statement M
+get-block-with-key-spec =
+    tie.close
+    (tie.spec
+    find-requires
+    enum-known-found
+    refusal-requires
+    returns
+    get-requires
+    enum-known-block
+    enum-told
+    returns-2
+    returns-3)

@@ -1,0 +1,4 @@
+pub mod Parts
+pub mod Opening
+pub mod Answers
+pub mod Lookups

@@ -1,0 +1,57 @@
+-- Opening (document 01, rows 10 to 16): the number, and the opened record.
+use Prim.Native.Nat.{ℕ, zero, suc, _+_, _-_, _*_}
+use mathlib.Core.Path.{_≡_}
+use mathlib.Core.List.{List}
+use mathlib.Core.Bool.{Bool, not, _||_, cond}
+use lib.Dec.{eqb, ltb}
+use lib.ListN.{length}
+use Rattle.store.specs.Store.{groupCount}
+use Rattle.store.specs.Check.{storeNo}
+use Rattle.directory.specs.Read.{directoryNo}
+use Rattle.index.specs.Parts.{directoryLen, directoryPart, storeLen, recordsLen, recordsPart, addrsPart, blocksIn}
+use Rattle.index.specs.declared.SSTableIndexV3.{SSTableIndexV3}
+use Rattle.index.specs.declared.Loaded.{Loaded}
+use Rattle.index.specs.declared.Loaded.the-variants.{Opened, Refused}
+
+-- rows 10 and 11: under 8 bytes; directory length 0; directory length + 16 > file
+unfoldable pub footerNo : List ℕ → ℕ
+footerNo f = cond (ltb (length f) 8) 10 (cond (eqb (directoryLen f) 0) 11 (cond (ltb (length f) (directoryLen f + 16)) 10 0))
+
+-- row 14: records' length not 36 × groups, or beyond the store
+unfoldable pub recordsBad : ℕ → List ℕ → Bool
+recordsBad L f = not (eqb (recordsLen f) (36 * groupCount L (blocksIn f))) || ltb (storeLen f) (8 + recordsLen f)
+
+-- a row that was hit, else those behind it
+abbrev pub orElse : ℕ → ℕ → ℕ
+orElse zero later = later
+orElse (suc k) later = suc k
+
+-- the rows in their order; 0 where none is hit
+unfoldable pub openNo : ℕ → List ℕ → ℕ
+openNo L f =
+    orElse (footerNo f) (orElse (directoryNo (directoryPart f))
+    (cond (recordsBad L f) 14 (storeNo L (recordsPart f) (addrsPart f) (blocksIn f))))
+
+-- n, and the places of the directory, the group records and the address bytes
+unfoldable pub openedOf : List ℕ → SSTableIndexV3
+openedOf f = record {
+  n = blocksIn f;
+  directory = 0;
+  «directory_len» = directoryLen f;
+  metas = directoryLen f + 8;
+  «metas_len» = recordsLen f;
+  addrs = directoryLen f + 8 + recordsLen f;
+  «addrs_len» = storeLen f - (8 + recordsLen f);
+}
+
+abbrev pub openStep : ℕ → List ℕ → Loaded
+openStep zero f = Opened (openedOf f)
+openStep (suc k) f = Refused (suc k)
+
+-- what opening the bytes f answers
+unfoldable pub openDef : ℕ → List ℕ → Loaded
+openDef L f = openStep (openNo L f) f
+
+-- bytes and record come from one successful opening: opening these bytes gives this record
+abbrev pub Opens : ℕ → List ℕ → SSTableIndexV3 → Type 0
+Opens L f opened = openDef L f ≡ Opened opened

@@ -1,0 +1,201 @@
+// The lookups in an opened index, whose record and bytes may not belong together.
+ghost use mathlib.Core.Path.{_≡_};
+ghost use Prim.Native.Nat.{_+_, _≤_, _<_};
+ghost use lib.Dec.{ltb};
+ghost use lib.ListN.{length, take, drop};
+ghost use Rattle.store.specs.Facts.{GroupLen};
+ghost use Rattle.group.specs.declared.BlockAddr.{BlockAddr};
+ghost use Rattle.group.specs.Legal.{NumbersOk};
+ghost use Rattle.directory.specs.Read.{FoundIn, FoundAs};
+ghost use Rattle.index.specs.Parts.{blockIn, separatorIn};
+ghost use Rattle.index.specs.Opening.{Opens};
+ghost use Rattle.index.specs.Answers.{byIdNo, byIdAddr, locatedNo, locatedId, locatedAddr, idNo, idOf};
+ghost use Rattle.index.specs.Lookups.{openedBad, OpenedFits, ByIdAllowed, ByIdExact, LocatedAllowed, ByOrdExact, ByKeyAllowed, ByKeyExact, AddrByKeyExact, placeDef};
+use crate::BlockById;
+use crate::Located;
+use crate::LocatedId;
+use crate::Place;
+use crate::SSTableIndexV3;
+use directory::read::Found;
+use store::Got;
+
+const MAX_BLOCKS: usize = 65536;
+
+const META_LEN: usize = 36;
+
+const PAIR_LEN: usize = 8;
+
+// Whether a part lies outside `len` bytes.
+fn part_outside(offset: usize, part_len: usize, len: usize) -> bool
+    ensures { λ r. ⌜ r ≡ ltb len (offset + «part_len») ⌝ }
+{
+    if offset > len {
+        return true;
+    }
+    part_len > len - offset
+}
+
+// The `len` bytes from `offset` on.
+fn part(data: &[u8], offset: usize, len: usize) -> &[u8]
+    requires { ⌜ offset + len ≤ length (now «data») ⌝ }
+    ensures { λ r. ⌜ now r ≡ take len (drop offset (now («data» .entry))) ⌝ }
+{
+    let end = offset + len;
+    &data[offset..end]
+}
+
+// Row 20 for the record: whether it can't be one of `len` bytes.
+pub fn opened_bad(opened: SSTableIndexV3, len: usize, group_len: usize) -> bool
+    requires { ⌜ GroupLen «group_len» ⌝ }
+    ensures { λ r. ⌜ r ≡ openedBad «group_len» opened len ⌝ }
+{
+    if opened.n < 1 {
+        return true;
+    }
+    if opened.n > MAX_BLOCKS {
+        return true;
+    }
+    if part_outside(opened.directory, opened.directory_len, len) {
+        return true;
+    }
+    if part_outside(opened.metas, opened.metas_len, len) {
+        return true;
+    }
+    if part_outside(opened.addrs, opened.addrs_len, len) {
+        return true;
+    }
+    opened.metas_len < META_LEN * store::write::group_count(opened.n, group_len)
+}
+
+// Block `id` as the store gives it.
+fn get(opened: SSTableIndexV3, data: &[u8], group_len: usize, id: usize) -> Got
+    requires { ⌜ GroupLen «group_len» × OpenedFits «group_len» opened (length (now «data»)) × (id < opened .n) ⌝ }
+    ensures { λ r. ⌜ ((block : BlockAddr) → r ≡ Got.Block block → NumbersOk block) ⌝ }
+    ensures { λ r. ⌜ (Opens «group_len» (now («data» .entry)) opened → r ≡ Got.Block (blockIn «group_len» (now («data» .entry)) id)) ⌝ }
+{
+    store::read::get(
+        part(data, opened.metas, opened.metas_len),
+        part(data, opened.addrs, opened.addrs_len),
+        opened.n,
+        group_len,
+        id,
+    )
+}
+
+// The first separator that isn't below `key`, as the directory gives it.
+fn find(opened: SSTableIndexV3, data: &[u8], group_len: usize, key: &[u8]) -> Found
+    requires { ⌜ GroupLen «group_len» × OpenedFits «group_len» opened (length (now «data»)) ⌝ }
+    ensures { λ r. ⌜ FoundIn (opened .n) r ⌝ }
+    ensures { λ r. ⌜ (Opens «group_len» (now («data» .entry)) opened → FoundAs (separatorIn (now («data» .entry))) (opened .n) (now (key .entry)) r) ⌝ }
+{
+    let keys = part(data, opened.directory, opened.directory_len);
+    directory::read::locate_with_key(keys, opened.n, key)
+}
+
+// The row that a search without a block hits.
+fn refusal(found: Found) -> u32
+    ensures { λ r. ⌜ (found ≡ Found.Above → r ≡ 19) × (found ≡ Found.Outside → r ≡ 20) ⌝ }
+{
+    match found {
+        Found::At(_) => 0,
+        Found::Above => 19,
+        Found::Outside => 20,
+    }
+}
+
+// The address of block `block_id`.
+pub fn get_block(opened: SSTableIndexV3, data: &[u8], group_len: usize, block_id: u64) -> BlockById
+    requires { ⌜ GroupLen «group_len» × OpenedFits «group_len» opened (length (now «data»)) ⌝ }
+    ensures { λ r. ⌜ ByIdAllowed (opened .n) «block_id» (byIdNo r) (byIdAddr r) ⌝ }
+    ensures { λ r. ⌜ (Opens «group_len» (now («data» .entry)) opened → ByIdExact (blockIn «group_len» (now («data» .entry))) (opened .n) «block_id» (byIdNo r) (byIdAddr r)) ⌝ }
+{
+    if block_id >= opened.n as u64 {
+        return BlockById::Refused(17);
+    }
+    let Got::Block(block) = get(opened, data, group_len, block_id as usize) else {
+        return BlockById::Refused(20);
+    };
+    BlockById::Block(block)
+}
+
+// The last block whose first ordinal is at or below `ord`.
+pub fn locate_with_ord(opened: SSTableIndexV3, data: &[u8], group_len: usize, ord: u64) -> Located
+    requires { ⌜ GroupLen «group_len» × OpenedFits «group_len» opened (length (now «data»)) ⌝ }
+    ensures { λ r. ⌜ LocatedAllowed 18 (opened .n) (locatedNo r) (locatedId r) (locatedAddr r) ⌝ }
+    ensures { λ r. ⌜ (Opens «group_len» (now («data» .entry)) opened → ByOrdExact (blockIn «group_len» (now («data» .entry))) (opened .n) ord (locatedNo r) (locatedId r) (locatedAddr r)) ⌝ }
+{
+    match store::read::binary_search_ord(
+        part(data, opened.metas, opened.metas_len),
+        part(data, opened.addrs, opened.addrs_len),
+        opened.n,
+        group_len,
+        ord,
+    ) {
+        store::Located::At(id, block) => Located::At(id, block),
+        store::Located::Below => Located::Refused(18),
+        store::Located::Unsound => Located::Refused(20),
+    }
+}
+
+// The first block whose separator isn't below `key`.
+pub fn locate_with_key(
+    opened: SSTableIndexV3,
+    data: &[u8],
+    group_len: usize,
+    key: &[u8],
+) -> LocatedId
+    requires { ⌜ GroupLen «group_len» × OpenedFits «group_len» opened (length (now «data»)) ⌝ }
+    ensures { λ r. ⌜ ByKeyAllowed (opened .n) (idNo r) (idOf r) ⌝ }
+    ensures { λ r. ⌜ (Opens «group_len» (now («data» .entry)) opened → ByKeyExact (separatorIn (now («data» .entry))) (opened .n) (now (key .entry)) (idNo r) (idOf r)) ⌝ }
+{
+    let found = find(opened, data, group_len, key);
+    let Found::At(id) = found else {
+        return LocatedId::Refused(refusal(found));
+    };
+    LocatedId::Id(id)
+}
+
+// The first block whose separator isn't below `key`, with its address.
+pub fn get_block_with_key(
+    opened: SSTableIndexV3,
+    data: &[u8],
+    group_len: usize,
+    key: &[u8],
+) -> Located
+    requires { ⌜ GroupLen «group_len» × OpenedFits «group_len» opened (length (now «data»)) ⌝ }
+    ensures { λ r. ⌜ LocatedAllowed 19 (opened .n) (locatedNo r) (locatedId r) (locatedAddr r) ⌝ }
+    ensures { λ r. ⌜ (Opens «group_len» (now («data» .entry)) opened → AddrByKeyExact (separatorIn (now («data» .entry))) (blockIn «group_len» (now («data» .entry))) (opened .n) (now (key .entry)) (locatedNo r) (locatedId r) (locatedAddr r)) ⌝ }
+{
+    let found = find(opened, data, group_len, key);
+    let Found::At(id) = found else {
+        return Located::Refused(refusal(found));
+    };
+    let Got::Block(block) = get(opened, data, group_len, id) else {
+        return Located::Refused(20);
+    };
+    Located::At(id, block)
+}
+
+// Where the separator of block `block_id` stands.
+pub fn separator_place(
+    opened: SSTableIndexV3,
+    data: &[u8],
+    group_len: usize,
+    block_id: u64,
+) -> Place
+    requires { ⌜ GroupLen «group_len» × OpenedFits «group_len» opened (length (now «data»)) ⌝ }
+    ensures { λ r. ⌜ r ≡ placeDef «group_len» opened (now («data» .entry)) «block_id» ⌝ }
+{
+    if block_id >= opened.n as u64 {
+        return Place::Missing;
+    }
+    let id = block_id as usize;
+    let keys = part(data, opened.directory, opened.directory_len);
+    if directory::read::key_outside(keys, opened.n, id) {
+        return Place::Missing;
+    }
+    let pair = 4 + PAIR_LEN * id;
+    let offset = serialize::deserialize_u32(keys, pair) as usize;
+    let len = serialize::deserialize_u32(keys, pair + 4) as usize;
+    Place::Part(opened.directory + 4 + PAIR_LEN * opened.n + offset, len)
+}

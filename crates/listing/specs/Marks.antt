@@ -1,0 +1,29 @@
+-- The marks of a listing (document 01, "Pruning"): 0 or 1 per block, n bytes, and the count of ones.
+use Prim.Native.Nat.{ℕ, zero, suc, _+_, _<_}
+use mathlib.Core.Path.{_≡_}
+use mathlib.Core.List.{List, [], _∷_}
+use mathlib.Core.Bool.{cond}
+use mathlib.Core.Logic.{_⊎_}
+use mathlib.Core.Option.{Option, none, some}
+use lib.Dec.{eqb}
+use lib.ListN.{length, getD}
+use Rattle.pruning.specs.Interval.{Marked}
+
+-- where block i's interval starts: at the separator before it; absent for block 0
+abbrev pub startAt : (ℕ → List ℕ) → ℕ → Option (List ℕ)
+startAt separator zero = none
+startAt separator (suc i) = some (separator i)
+
+-- a mark is 1 exactly when P, else 0
+abbrev pub Mark : ℕ → Type 0 → Type 0
+Mark x P = ((x ≡ 1) × P) ⊎ ((x ≡ 0) × (P → ⊥))
+
+-- mark i is 1 exactly when the automaton accepts some byte string above separator i - 1 and not above separator i
+pub record Marks (t : List ℕ) (separator : ℕ → List ℕ) (n : ℕ) (marks : List ℕ) : Type 0 where
+  pub long : length marks ≡ n
+  pub each : (i : ℕ) → i < n → Mark (getD marks i 0) (Marked t (startAt separator i) (separator i))
+
+-- the count of ones
+unfoldable pub ones : List ℕ → ℕ
+ones [] = 0
+ones (x ∷ xs) = cond (eqb x 1) 1 0 + ones xs

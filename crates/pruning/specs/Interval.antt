@@ -1,0 +1,29 @@
+-- The interval (start, end] of a block's keys (document 01, "Pruning"); start is absent for block 0, which lets the empty string in.
+use Prim.Native.Nat.{ℕ}
+use mathlib.Core.List.{List, []}
+use mathlib.Core.Bool.{Bool, true, false}
+use mathlib.Core.Option.{Option, none, some}
+use Rattle.keys.specs.Order.{_≺_, _≼_}
+use Rattle.automaton.specs.Words.{Word}
+
+-- the start that a flag and a key give: where it is absent, the key is ignored
+abbrev pub startOf : Bool → List ℕ → Option (List ℕ)
+startOf true key = some key
+startOf false key = none
+
+-- w is above the start, if there is one
+abbrev pub Above : Option (List ℕ) → List ℕ → Type 0
+Above none w = Unit {0}
+Above (some start) w = start ≺ w
+
+-- the automaton accepts some byte string above start and not above end
+abbrev pub Marked : List ℕ → Option (List ℕ) → List ℕ → Type 0
+Marked t start end = Word t 0 (λ w. Above start w × (w ≼ end))
+
+-- from the state s on it accepts some byte string above the key
+abbrev pub After : List ℕ → ℕ → List ℕ → Type 0
+After t s key = Word t s (λ w. key ≺ w)
+
+-- from the state s on it accepts some byte string above start and not above end
+abbrev pub Between : List ℕ → ℕ → List ℕ → List ℕ → Type 0
+Between t s start end = Word t s (λ w. (start ≺ w) × (w ≼ end))

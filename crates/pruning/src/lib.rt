@@ -1,0 +1,40 @@
+// Whether a block can hold a key that an automaton accepts: src/block_match_automaton.rs.
+pub mod block_match_automaton;
+
+ghost use mathlib.Core.Path.{_≡_};
+ghost use Rattle.automaton.specs.Bits.{Exactly};
+ghost use Rattle.automaton.specs.Table.{tableNo};
+ghost use Rattle.pruning.specs.Interval.{startOf, Marked};
+ghost use Rattle.pruning.specs.Answers.{number, matches};
+
+// Whether a block can match, or the row that the automaton's table breaks.
+pub enum Matched {
+    Matches(bool),
+    Refused(u32),
+}
+
+// Whether a key above `start_key` and not above `end_key` can match; the first block has no start key.
+pub fn can_block_match_automaton(
+    has_start: bool,
+    start_key: &[u8],
+    end_key: &[u8],
+    table: &[u8],
+) -> Matched
+    ensures { λ r. ⌜ number r ≡ tableNo (now (table .entry)) ⌝ }
+    ensures { λ r. ⌜ (tableNo (now (table .entry)) ≡ 0 → Exactly (matches r) (Marked (now (table .entry)) (startOf «has_start» (now («start_key» .entry))) (now («end_key» .entry)))) ⌝ }
+{
+    let no = automaton::table::check(table);
+    if no != 0 {
+        return Matched::Refused(no);
+    }
+    let reach = automaton::reach::reach(table);
+    let live = automaton::live::live(table, reach);
+    Matched::Matches(block_match_automaton::can_block_match(
+        table,
+        reach,
+        &live,
+        has_start,
+        start_key,
+        end_key,
+    ))
+}
