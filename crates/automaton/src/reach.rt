@@ -12,7 +12,7 @@ ghost use Rattle.automaton.specs.Table.{WellFormed, states, flag, next};
 ghost use Rattle.automaton.specs.Words.{Reach};
 
 // The word of the accepting states.
-fn flags(table: &[u8]) -> u64
+pub fn flags(table: &[u8]) -> u64
     requires { ⌜ WellFormed (now table) ⌝ }
     ensures { λ r. ⌜ r < 2 ^ states (now (table .entry)) ⌝ }
     ensures { λ r. ⌜ ((s : ℕ) → s < states (now (table .entry)) → bit r s ≡ flag (now (table .entry)) s) ⌝ }
@@ -45,7 +45,7 @@ fn next_states(table: &[u8], at: usize) -> u64
 }
 
 // For each state the word of those that a byte leads to from it.
-fn successors(table: &[u8]) -> [u64; 64]
+pub fn successors(table: &[u8]) -> [u64; 64]
     requires { ⌜ WellFormed (now table) ⌝ }
     ensures { λ r. ⌜ ((p b : ℕ) → p < states (now (table .entry)) → b < 256 → bit (getD r p 0) (next (now (table .entry)) p b) ≡ 1) ⌝ }
     ensures { λ r. ⌜ ((p s : ℕ) → p < states (now (table .entry)) → bit (getD r p 0) s ≡ 1 → (b : ℕ) × (b < 256) × (next (now (table .entry)) p b ≡ s)) ⌝ }

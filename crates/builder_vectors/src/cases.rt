@@ -416,35 +416,33 @@ fn begins(area: &[u8], front: &[u8]) -> bool {
     check::same(&area[len..], &marks[len..])
 }
 
-// Finishes into the front of `out`, which is full of marks.
-fn finish_into(
-    state: State,
-    given: &[u64],
-    index: &[u8],
-    blocks: &[u64],
-    keys: &[u8],
-    out: &mut [u8],
-) -> State {
+// Finishes into the front of `out`. Whether the answer is what is given: a room, a number, and both lengths.
+pub fn finishes(n: usize, given: &[u64], blocks: &[u64], keys: &[u8], out: &mut [u8]) -> bool {
     if given.len() != 4 {
-        return state.with(false);
+        return false;
     }
     if given[0] > out.len() as u64 {
-        return state.with(false);
+        return false;
     }
     let room = given[0] as usize;
-    let n = state.n;
     let builder = SSTableIndexBuilder { n };
     if !is_length(builder.finish_len(blocks, keys), given) {
-        return state.with(false);
+        return false;
     }
-    let got = read_finished(builder.finish(blocks, keys, &mut out[0..room]));
-    if index.len() as u64 != got.total {
-        return state.with(false);
-    }
-    state.with(is_both(begins(out, index), is_ended(got, n, given)))
+    is_ended(
+        read_finished(builder.finish(blocks, keys, &mut out[0..room])),
+        n,
+        given,
+    )
 }
 
 pub fn finish(state: State, given: &[u64], index: &[u8], blocks: &[u64], keys: &[u8]) -> State {
     let mut out = [areas::MARK; LONGEST_OUT];
-    finish_into(state, given, index, blocks, keys, &mut out)
+    if !finishes(state.n, given, blocks, keys, &mut out) {
+        return state.with(false);
+    }
+    if index.len() as u64 != vectors::number(given, 2) {
+        return state.with(false);
+    }
+    state.with(begins(&out, index))
 }

@@ -47,7 +47,7 @@ fn row_of(kind: u8) -> usize
         b'a' | b'm' => 0,
         b'k' => 1,
         b'e' => 2,
-        b'f' => 3,
+        b'f' | b'h' => 3,
         _ => 4,
     }
 }
@@ -119,6 +119,7 @@ fn step(
         b'e' => cases::holds(state, given, text, &blocks[0..room], &keys[0..key_room]),
         b'f' => cases::finish(state, given, text, &blocks[0..room], &keys[0..key_room]),
         b'm' => state.with(large::is_same(given, text)),
+        b'h' => state.with(large::is_index(given)),
         _ => state.with(false),
     }
 }

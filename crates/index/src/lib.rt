@@ -3,8 +3,6 @@ pub mod load;
 pub mod lookup;
 
 ghost use mathlib.Core.Path.{_≡_};
-ghost use Prim.Native.Nat.{_≤_};
-ghost use lib.ListN.{length};
 ghost use Rattle.index.specs.Parts.{blockIn, separatorIn};
 ghost use Rattle.index.specs.Opening.{openDef, Opens};
 ghost use Rattle.index.specs.Answers.{byIdNo, byIdAddr, locatedNo, locatedId, locatedAddr, idNo, idOf, partAt};

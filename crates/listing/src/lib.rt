@@ -4,9 +4,7 @@ ghost use mathlib.Core.Bool.{false};
 ghost use Prim.Native.Nat.{_≤_};
 ghost use lib.ListN.{length};
 ghost use Rattle.automaton.specs.Table.{WellFormed};
-ghost use Rattle.automaton.specs.Words.{Reach};
-ghost use Rattle.automaton.specs.Live.{Live};
-ghost use Rattle.directory.specs.Read.{keyOf, keyOutside};
+ghost use Rattle.directory.specs.Read.{keyOf};
 ghost use Rattle.listing.specs.Listing.{keysOutside, listNo, separatorAt, Listing, listedNo, listedCount, Leaves};
 use index::SSTableIndexV3;
 use index::STORE_BLOCK_LEN;
@@ -75,8 +73,9 @@ pub fn get_block_for_automaton(
     if opened_bad(opened, data.len(), STORE_BLOCK_LEN) {
         return Listed::Refused(20);
     }
-    let end = opened.directory + opened.directory_len;
-    let directory = &data[opened.directory..end];
+    let from = opened.directory;
+    let end = from + opened.directory_len;
+    let directory = &data[from..end];
     if keys_outside(directory, opened.n) {
         return Listed::Refused(20);
     }

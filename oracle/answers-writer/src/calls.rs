@@ -12,11 +12,29 @@ use crate::worked;
 const LIMIT: u64 = 1 << 48;
 const MOST: u128 = 65_536;
 const MARK: u8 = 0xa5;
+/// A prime.
+const MODULUS: u64 = (1 << 56) - 5;
 
 type Entry = (Block, Vec<u8>);
 
 fn block(start: u64, end: u64, ord: u64) -> Block {
     Block { start, end, ord }
+}
+
+/// Block i by the rule, and its key: the 4 bytes of i, highest first.
+fn by_rule(i: u32) -> Entry {
+    let start = |i: u64| 65_536 * i + 40_503 * i % 65_536;
+    let at = u64::from(i);
+    let ord = 1000 * at + 617 * at % 1000;
+    let key = i.to_be_bytes().to_vec();
+    (block(start(at), start(at + 1), ord), key)
+}
+
+/// The remainder of the number that the bytes spell, the first one highest.
+fn remainder(bytes: &[u8]) -> u64 {
+    bytes
+        .iter()
+        .fold(0, |h, &byte| (256 * h + u64::from(byte)) % MODULUS)
 }
 
 /// What the rows of document 01's table look at.
@@ -365,21 +383,17 @@ impl Calls {
         assert_eq!(self.finish(total), 0);
     }
 
-    /// Blocks by the rule: block i is i..i + 1 from ordinal i on, its key the 4 bytes of i, highest first. Then one more block.
+    /// Blocks by the rule, then one more block.
     fn many(&mut self, count: u32, more: Block, key: &[u8]) {
-        let entry = |i: u32| {
-            let at = u64::from(i);
-            (block(at, at + 1, at), i.to_be_bytes().to_vec())
-        };
         let view = |n: u32| View {
             n: n.into(),
             room: 5 * (MOST + 1),
             key_room: 4 * (MOST + 1),
             taken: 4 * u128::from(n),
-            last: n.checked_sub(1).map(entry),
+            last: n.checked_sub(1).map(by_rule),
         };
         for i in 0..count {
-            let (block, key) = entry(i);
+            let (block, key) = by_rule(i);
             assert!(view(i).add_rows(block, &key).is_empty());
         }
         let rows = view(count).add_rows(more, key);
@@ -387,6 +401,16 @@ impl Calls {
         self.seen.insert(('a', rows));
         let Block { start, end, ord } = more;
         self.line(format!("m {count} {start} {end} {ord} {} {no}", hex(key)));
+    }
+
+    /// Blocks by the rule, finished with the output exactly full and one byte short.
+    fn large_index(&mut self, count: u32) {
+        let entries: Vec<Entry> = (0..count).map(by_rule).collect();
+        let (bytes, directory) = index(&entries);
+        let total = bytes.len();
+        let rest = remainder(&bytes);
+        self.line(format!("h {count} {total} 0 {total} {directory} {rest}"));
+        self.line(format!("h {count} {} 9 0 0 0", total - 1));
     }
 }
 
@@ -411,8 +435,11 @@ pub fn list() -> String {
         "a START END ORD KEY NO: an add    k NEXTKEY NO: a shorten",
         "e N KEYS: the count now, and all keys joined",
         "f ROOM NO TOTAL DIRECTORY INDEX: a finish into ROOM bytes",
-        "m COUNT START END ORD KEY NO: COUNT adds are taken, block i being i..i + 1 from ordinal i on with the 4 bytes of i, highest",
-        "first, as its key; areas of 5 x 65,537 numbers and 4 x 65,537 bytes; then one more add",
+        "m COUNT START END ORD KEY NO: COUNT adds by the rule are taken, in areas of 5 x 65,537 numbers and 4 x 65,537 bytes; then one",
+        "more add. The rule: s(i) is 65,536 x i + (40,503 x i mod 65,536); block i goes from s(i) to s(i + 1), its ordinal is",
+        "1,000 x i + (617 x i mod 1,000), its key the 4 bytes of i, highest first",
+        "h COUNT ROOM NO TOTAL DIRECTORY REMAINDER: COUNT adds by the rule, then a finish into ROOM bytes; the index as one number, its",
+        "first byte the highest, has this remainder modulo 2^56 - 5",
     ] {
         calls.comment(line);
     }
@@ -426,9 +453,15 @@ pub fn list() -> String {
     broken_records(&mut calls);
     random(&mut calls);
     calls.comment("the most blocks");
-    calls.many(65_536, block(65_536, 65_537, 65_536), &[0, 1, 0, 0]);
-    calls.many(65_536, block(65_536, 65_537, 65_535), &[0, 1, 0, 0]);
-    calls.many(65_535, block(65_535, 65_536, 65_535), &[0, 0, 255, 255]);
+    let ((before, before_key), (after, after_key)) = (by_rule(65_535), by_rule(65_536));
+    calls.many(65_536, after, &after_key);
+    let repeated = block(after.start, after.end, before.ord);
+    calls.many(65_536, repeated, &after_key);
+    calls.many(65_535, before, &before_key);
+    calls.comment("more than two groups");
+    for count in [257, 1000, 65_536] {
+        calls.large_index(count);
+    }
     check_seen(&calls);
     calls.text
 }
@@ -605,6 +638,8 @@ fn long_keys(calls: &mut Calls) {
     assert_eq!(calls.shorten(&long), 2);
     assert_eq!(calls.add(block(0, 1, 0), full), 0);
     calls.state();
+    // a next key as long as may be, above it by its last byte alone: nothing is left to raise
+    assert_eq!(calls.shorten(&[&full[1..], b"n"].concat()), 0);
     // a longer one that isn't above it
     assert_eq!(calls.shorten(&[&b"l"[..], full].concat()), 2);
     assert_eq!(calls.shorten(b"n"), 0);
@@ -618,6 +653,8 @@ fn long_keys(calls: &mut Calls) {
     assert_eq!(calls.add(block(2, 2, 1), &over), 2);
     assert_eq!(calls.add(block(1, 2, 0), &over), 2);
     assert_eq!(calls.add(block(1, 2, 1), &below), 2);
+    assert_eq!(calls.shorten(&over[1..]), 0);
+    calls.state();
     calls.fresh(5, 1028);
     assert_eq!(calls.add(block(0, 1, 0), b"m"), 0);
     assert_eq!(calls.add(block(1, 2, 1), &over), 2);

@@ -21,7 +21,7 @@ fn main() {
         ("leaves.txt", leaves::list(), 60_000),
         ("stores.txt", stores::list(), 200_000),
         ("addresses.txt", addresses::list(), 200_000),
-        ("calls.txt", calls::list(), 60_000),
+        ("calls.txt", calls::list(), 65_000),
         ("pruning.txt", pruning::list(), 200_000),
     ];
     for (name, list, most) in lists {

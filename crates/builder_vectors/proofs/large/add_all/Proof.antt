@@ -24,8 +24,17 @@ cast-t14 c = search needs
 cast-t16 : tie.Need-cast-t16 Inv-loop μ-loop
 cast-t16 c = search needs
 
-add-t10 : tie.Need-add-t10 Inv-loop μ-loop
-add-t10 c = search needs
+start-of-requires : tie.Need-start-of-requires Inv-loop μ-loop
+start-of-requires c κs = search needs
+
+add-start-of : tie.Need-add-start-of Inv-loop μ-loop
+add-start-of c = search needs
+
+start-of-requires-2 : tie.Need-start-of-requires-2 Inv-loop μ-loop
+start-of-requires-2 c κs = search needs
+
+ordinal-of-requires : tie.Need-ordinal-of-requires Inv-loop μ-loop
+ordinal-of-requires c κs = search needs
 
 slice-aggregate-add-block : tie.Need-slice-aggregate-add-block Inv-loop μ-loop
 slice-aggregate-add-block c = search needs
@@ -85,7 +94,10 @@ add-all-spec =
     cast-t11
     cast-t14
     cast-t16
-    add-t10
+    start-of-requires
+    add-start-of
+    start-of-requires-2
+    ordinal-of-requires
     slice-aggregate-add-block
     add-block-requires
     read-answer-requires

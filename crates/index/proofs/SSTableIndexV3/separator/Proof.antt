@@ -7,7 +7,7 @@ use native.Mathlib.Omega.{arith}
 use lib.ListN.{length}
 use Rattle.index.specs.declared.Place.the-variants.{Part}
 use Rattle.index.specs.Lookups.{placeDef}
-use Rattle.index.proofs.Separators.{place-inside}
+use Rattle.index.proofs.Places.{place-inside}
 use Rattle.index.proofs.SSTableIndexV3.separator.Statement.{statement}
 use Rattle.index.proofs.SSTableIndexV3.separator.Tie as tie
 

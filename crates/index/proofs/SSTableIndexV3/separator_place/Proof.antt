@@ -2,7 +2,7 @@
 use borrow.Author.Needs.{needs}
 use mathlib.Core.Path.{sym, _∙_}
 use Rattle.index.proofs.Fits.{opened-fits}
-use Rattle.index.proofs.Separators.{place-bad}
+use Rattle.index.proofs.Places.{place-bad}
 use Rattle.index.proofs.SSTableIndexV3.separator_place.Statement.{statement}
 use Rattle.index.proofs.SSTableIndexV3.separator_place.Tie as tie
 

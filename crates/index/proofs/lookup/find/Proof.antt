@@ -1,7 +1,7 @@
 -- `index::lookup::find` meets its contract: the directory's own search, over the part that the record names.
 use borrow.Author.Needs.{needs}
 use Rattle.index.proofs.OpenFacts.{opens-facts}
-use Rattle.index.proofs.LookupLaws.{found-as}
+use Rattle.index.proofs.Answered.{found-as}
 use Rattle.index.proofs.lookup.find.Statement.{statement}
 use Rattle.index.proofs.lookup.find.Tie as tie
 

@@ -2,7 +2,7 @@
 use borrow.Author.Needs.{needs}
 use mathlib.Core.Path.{sym, _∙_}
 use Rattle.index.proofs.OpenFacts.{opens-facts}
-use Rattle.index.proofs.LookupLaws.{enough-records, got-numbers, got-as}
+use Rattle.index.proofs.Answered.{enough-records, got-numbers, got-as}
 use Rattle.index.proofs.lookup.get.Statement.{statement}
 use Rattle.index.proofs.lookup.get.Tie as tie
 

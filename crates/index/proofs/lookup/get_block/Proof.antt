@@ -2,12 +2,13 @@
 use borrow.Author.Needs.{needs}
 use mathlib.Core.Path.{refl}
 use mathlib.Core.Logic.{inl, inr}
-use Rattle.index.proofs.LookupLaws.{not-broken, same-block}
+use native.Mathlib.Omega.{arith}
+use Rattle.index.proofs.Answered.{not-broken, same-block}
 use Rattle.index.proofs.lookup.get_block.Statement.{statement}
 use Rattle.index.proofs.lookup.get_block.Tie as tie
 
 returns : tie.Need-returns
-returns c = (inr (inl refl, refl), λ o. inr (refl, c .if1 .taken, refl))
+returns c = (inr (inl refl, refl), λ o. inr (refl, omega arith, refl))
 
 get-requires : tie.Need-get-requires
 get-requires c κs = search needs

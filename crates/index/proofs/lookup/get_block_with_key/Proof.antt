@@ -3,8 +3,9 @@ use borrow.Author.Needs.{needs}
 use mathlib.Core.Path.{refl}
 use mathlib.Core.Logic.{inl, inr}
 use Prim.Native.Nat.{_<_}
+use native.Mathlib.Omega.{arith}
 use Rattle.directory.specs.Read.{FoundIn, FoundAs}
-use Rattle.index.proofs.LookupLaws.{not-broken, same-block, key-refused, key-above}
+use Rattle.index.proofs.Answered.{not-broken, same-block, key-refused, key-above}
 use Rattle.index.proofs.lookup.get_block_with_key.Statement.{statement}
 use Rattle.index.proofs.lookup.get_block_with_key.Tie as tie
 
@@ -33,7 +34,7 @@ known c = rw (c .found .given .1) at (c .before .before .find .ensures .0)
 get-requires : tie.Need-get-requires
 get-requires c κs =
     let s = c .before .before .before .before .before .before in
-    (s .pre .0, s .pre .1, known (c .before))
+    (s .pre .0, s .pre .1, omega (arith, known (c .before)))
 
 enum-known-block : tie.Need-enum-known-block
 enum-known-block c = search needs

@@ -2,8 +2,9 @@
 use borrow.Author.Needs.{needs}
 use mathlib.Core.Path.{refl}
 use mathlib.Core.Logic.{inl, inr}
+use native.Mathlib.Omega.{arith}
 use Rattle.directory.specs.Read.{FoundIn, FoundAs}
-use Rattle.index.proofs.LookupLaws.{key-refused, key-above}
+use Rattle.index.proofs.Answered.{key-refused, key-above}
 use Rattle.index.proofs.lookup.locate_with_key.Statement.{statement}
 use Rattle.index.proofs.lookup.locate_with_key.Tie as tie
 
@@ -29,7 +30,7 @@ unfolding FoundIn FoundAs
 returns-2 c =
     let at = c .before .found .given .1 in
     let r = c .before .before .before .find in (
-      inl (refl, rw at at (r .ensures .0)),
+      inl (refl, omega (arith, rw at at (r .ensures .0))),
       λ o. inl (refl, rw at at (r .ensures .1 o)),
     )
 

@@ -2,11 +2,12 @@
 use borrow.Author.Needs.{needs}
 use mathlib.Core.Path.{refl}
 use mathlib.Core.Logic.{inl, inr}
+use native.Mathlib.Omega.{arith}
 use Rattle.store.specs.Read.{LocatedIn, LocatedAs}
 use Rattle.index.specs.Parts.{blockIn}
 use Rattle.index.specs.Opening.{Opens}
 use Rattle.index.proofs.OpenFacts.{opens-facts}
-use Rattle.index.proofs.LookupLaws.{enough-records, located-as}
+use Rattle.index.proofs.Answered.{enough-records, located-as}
 use Rattle.index.proofs.lookup.locate_with_ord.Statement.{statement}
 use Rattle.index.proofs.lookup.locate_with_ord.Tie as tie
 
@@ -45,7 +46,7 @@ returns c =
     let at = c .before in
     let b = at .before .before in
     let in-range = rw (at .id .given .1) at (b .binary-search-ord .ensures .0) in (
-      inl (refl, in-range .0, in-range .1),
+      inl (refl, omega (arith, in-range .0), in-range .1),
       λ o. let it = rw (at .id .given .1) at (located b o) in inl (refl, it .0, it .1),
     )
 

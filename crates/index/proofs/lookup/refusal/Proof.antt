@@ -2,7 +2,7 @@
 use borrow.Author.Needs.{needs}
 use mathlib.Core.Path.{refl}
 use mathlib.Core.Logic.{inl, inr}
-use Rattle.index.proofs.LookupLaws.{above-outside, at-not}
+use Rattle.index.proofs.Answered.{above-outside, at-not}
 use Rattle.index.proofs.lookup.refusal.Statement.{statement}
 use Rattle.index.proofs.lookup.refusal.Tie as tie
 

@@ -5,7 +5,7 @@ use mathlib.Core.Bool.{false}
 use native.Mathlib.Omega.{arith}
 use Rattle.directory.specs.Read.{keyOutside}
 use Rattle.directory.proofs.Rules.{is-inside}
-use Rattle.index.proofs.Separators.{place-unknown, place-outside, place-read}
+use Rattle.index.proofs.Places.{place-unknown, place-outside, place-read}
 use Rattle.index.proofs.lookup.separator_place.Statement.{statement}
 use Rattle.index.proofs.lookup.separator_place.Tie as tie
 

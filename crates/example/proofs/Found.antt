@@ -1,0 +1,58 @@
+-- An accepted string of an interval, of r bytes, that stands at the front of an output.
+use mathlib.Core.Path.{_≡_, sym, ap, _∙_}
+use mathlib.Core.List.{List, [], _∷_, _++_}
+use Prim.Native.Nat.{ℕ, _+_, _≤_, _<_}
+use native.Mathlib.Nat.{zero-add}
+use native.Mathlib.Numerals.{add-one}
+use native.Mathlib.Omega.{arith}
+use lib.ListN.{length, set, take, drop, length-append}
+use lib.Seq.{sets, sets-eq, take-length, length-take-le}
+use Rattle.keys.specs.Order.{_≺_, _≼_}
+use Rattle.automaton.specs.Table.{next}
+use Rattle.automaton.specs.Words.{Bytes, run, Hits, Word}
+use Rattle.automaton.proofs.Strings.{hits-cons, hits-append, bytes-take}
+use Rattle.example.proofs.Shortest.{sets-append}
+use Rattle.example.proofs.Bounds.{leaving}
+
+-- L and U are the interval's bounds
+abbrev pub Found : (t : List ℕ) (L U : List ℕ → Type 0) (old new : List ℕ) (r : ℕ) → Type 0
+Found t L U old new r = Word t 0 (λ w. L w × U w × (r ≡ length w) × (new ≡ sets old 0 w))
+
+-- in another interval, where the output was untouched till then
+pub found-map : {t old old′ new : List ℕ} {r : ℕ} (L U L′ U′ : List ℕ → Type 0) → old ≡ old′ → ((w : List ℕ) → L w → U w → L′ w × U′ w) → Found t L U old new r → Found t L′ U′ old′ new r
+found-map {new = new} L U L′ U′ e f m =
+    let (l, u) = f (m .word) (m .good .0) (m .good .1) in
+    record { word = m .word; hits = m .hits; good = (l, u, m .good .2, m .good .3 ∙ ap (λ (x : List ℕ). sets x 0 (m .word)) e) }
+
+-- what `copy` leaves is a run of stores at the front
+copied : (d w a : List ℕ) → length w ≤ length d → a ≡ take (length w) w ++ drop (length w) d → a ≡ sets d 0 w
+copied d w a h e = e ∙ sym (sets-eq w d 0 (omega arith) ∙ rw (zero-add (length w), take-length w))
+
+module _ (t key out a : List ℕ) (len : ℕ) (within : len ≤ length key) (room : length key ≤ length out) (bytes : Bytes key)
+    (copy : a ≡ take (length (take len key)) (take len key) ++ drop (length (take len key)) out) where
+  long : length (take len key) ≡ len
+  long = length-take-le len key within
+
+  -- the key's first bytes alone
+  pub found-front : {L U : List ℕ → Type 0} → Hits t 0 (take len key) → L (take len key) → U (take len key) → Found t L U out a len
+  found-front h l u = record { word = take len key; hits = h; good = (l, u, sym long, copied out (take len key) a (omega (arith, long)) copy) }
+
+  -- a byte and a tail behind them
+  pub found-leaving : {c : List ℕ} (b lo hi k : ℕ) → lo ≤ b → b < hi → b < 256
+      → Word t (next t (run t 0 (take len key)) b) (λ v. (length v ≡ k) × (c ≡ sets (set a len b) (len + 1) v))
+      → Found t (λ w. (take len key ++ (lo ∷ [])) ≼ w) (λ w. w ≺ (take len key ++ (hi ∷ []))) out c (len + 1 + k)
+  found-leaving {c} b lo hi k l h hb m =
+      let p = take len key in
+      let (low, high) = leaving p (m .word) b lo hi l h in
+      record {
+        word = p ++ (b ∷ m .word);
+        hits = hits-append 0 p (bytes-take len key bytes) (hits-cons (run t 0 p) b hb (m .hits));
+        good = (low, high, omega (arith, length-append p (b ∷ m .word), long, m .good .0), m .good .1 ∙ put);
+      }
+    where
+      put : sets (set a len b) (len + 1) (m .word) ≡ sets out 0 (take len key ++ (b ∷ m .word))
+      put =
+          let e : len ≡ 0 + length (take len key) = omega (arith, long) in
+          rw (add-one len) (ap (λ (x : List ℕ). sets x len (b ∷ m .word)) (copied out (take len key) a (omega (arith, long)) copy)
+          ∙ ap (λ (n : ℕ). sets (sets out 0 (take len key)) n (b ∷ m .word)) e
+          ∙ sets-append out (take len key) (b ∷ m .word) 0)

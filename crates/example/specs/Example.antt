@@ -1,0 +1,45 @@
+-- The example call (document 01, "Pruning", rows 21 to 25): some accepted string of the interval; which one is free.
+use Prim.Native.Nat.{ℕ, _+_, _≤_, _<_, max}
+use mathlib.Core.Path.{_≡_}
+use mathlib.Core.List.{List}
+use mathlib.Core.Option.{Option, none, some}
+use lib.ListN.{length}
+use lib.Seq.{sets}
+use Rattle.keys.specs.Order.{_≼_}
+use Rattle.automaton.specs.Table.{tableNo}
+use Rattle.automaton.specs.Words.{Hits}
+use Rattle.pruning.specs.Interval.{Above, Marked}
+use Rattle.example.specs.declared.ExampleAnswer.{ExampleAnswer}
+use Rattle.example.specs.declared.ExampleAnswer.the-variants.{Written, Refused}
+
+-- the longer key's length; an absent start is no key
+abbrev pub longer : Option (List ℕ) → List ℕ → ℕ
+longer none end = length end
+longer (some start) end = max (length start) (length end)
+
+-- the number, by the rows in their order: 21 to 23, then 24 under longer key + 64 bytes, then 25 where there is no such string
+pub data ExampleNo (t : List ℕ) (start : Option (List ℕ)) (end : List ℕ) (room : ℕ) : ℕ → Type 0 where
+  table : (no : ℕ) → 0 < no → no ≡ tableNo t → ExampleNo t start end room no
+  short : tableNo t ≡ 0 → room < longer start end + 64 → ExampleNo t start end room 24
+  nothing : tableNo t ≡ 0 → longer start end + 64 ≤ room → (Marked t start end → ⊥) → ExampleNo t start end room 25
+  accepted : tableNo t ≡ 0 → longer start end + 64 ≤ room → Marked t start end → ExampleNo t start end room 0
+
+-- the first `len` bytes written are an accepted string of the interval, not too long; the bytes behind stay
+pub record Shown (t : List ℕ) (start : Option (List ℕ)) (end out written : List ℕ) (len : ℕ) : Type 0 where
+  pub word : List ℕ
+  pub hits : Hits t 0 word
+  pub above : Above start word
+  pub not-above : word ≼ end
+  pub whole : len ≡ length word
+  pub short : len ≤ longer start end + 64
+  pub bytes : written ≡ sets out 0 word
+
+-- document 01's number for each answer
+abbrev pub number : ExampleAnswer → ℕ
+number (Written len) = 0
+number (Refused k) = k
+
+-- what the call leaves in the output: an example, or what was there
+abbrev pub Leaves : List ℕ → Option (List ℕ) → List ℕ → List ℕ → List ℕ → ExampleAnswer → Type 0
+Leaves t start end out written (Written len) = Shown t start end out written len
+Leaves t start end out written (Refused k) = written ≡ out

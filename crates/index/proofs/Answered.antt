@@ -1,0 +1,124 @@
+-- Laws of the lookups: what the store and the directory find is what the index's lookups are defined to find.
+use mathlib.Core.Path.{_≡_, refl, ap, _∙_}
+use mathlib.Core.Bool.{true}
+use mathlib.Core.List.{List}
+use mathlib.Core.Logic.{_⊎_, inl, inr}
+use Prim.Native.Nat.{ℕ, _/_, _<_}
+use native.Mathlib.Omega.{arith}
+use denote.Enum.Declared.{tagOf}
+use lib.ListN.{length, drop, length-take, length-drop}
+use Rattle.keys.specs.Order.{_≺_}
+use Rattle.keys.proofs.Order.{by-test}
+use Rattle.group.specs.declared.BlockAddr.{BlockAddr}
+use Rattle.group.specs.Legal.{NumbersOk}
+use Rattle.group.specs.Rows.{numbersBad}
+use Rattle.group.proofs.Legal.{numbers-ok}
+use Rattle.store.specs.Read.{storeBlock, metaBad, storeGet, StoreOk, LocatedAs}
+use Rattle.store.specs.Facts.{GroupLen, Records}
+use Rattle.store.specs.declared.Got.{Got}
+use Rattle.store.specs.declared.Got.the-variants.{Block, Broken}
+use Rattle.store.specs.declared.Located.{Located}
+use Rattle.store.proofs.Lookup.{get-block}
+use Rattle.directory.specs.Read.{keyOf, Sorted, FoundAs}
+use Rattle.directory.specs.declared.read.Found.{Found}
+use Rattle.directory.specs.declared.read.Found.the-variants.{At, Above, Outside}
+use Rattle.directory.proofs.read.Found as found
+use Rattle.index.specs.declared.SSTableIndexV3.{SSTableIndexV3}
+use Rattle.index.specs.Parts.{recordsPart, addrsPart, directoryPart, blocksIn, blockIn, separatorIn}
+use Rattle.index.specs.Opening.{Opens}
+use Rattle.index.specs.Lookups.{openedBad, OpenedFits, directoryAt, metasAt, addrsAt, Refuses}
+use Rattle.index.proofs.Fits.{bad-unfit}
+use Rattle.index.proofs.OpenFacts.{OpenFacts, opens-facts}
+
+-- a record that row 20 refuses comes from no opening of the bytes
+pub bad-unopened : (L : ℕ) (f : List ℕ) (opened : SSTableIndexV3) → GroupLen L → openedBad L opened (length f) ≡ true → Opens L f opened → ⊥
+bad-unopened L f opened len e o = bad-unfit L opened (length f) e (opens-facts L f opened len o .fits)
+
+-- group records enough
+pub enough-records : (L : ℕ) (f : List ℕ) (opened : SSTableIndexV3) (recs : List ℕ) → OpenedFits L opened (length f) → recs ≡ metasAt opened f
+    → Records L recs (opened .n)
+enough-records L f opened recs fits e = record {
+  some = fits .some;
+  few = fits .few;
+  long = rw e (omega (arith, fits, length-take (opened .«metas_len») (drop (opened .metas) f), length-drop (opened .metas) f));
+}
+
+-- ---- a block that was got
+
+pub not-broken : (g : Got) (b : BlockAddr) → g ≡ Broken → g ≡ Block b → ⊥
+not-broken g b p q = let z : _≡_ {A = ℕ} 0 1 = cc in omega arith
+
+pub same-block : (g : Got) (a b : BlockAddr) → g ≡ Block a → g ≡ Block b → a ≡ b
+same-block g a b p q = cc
+
+-- it keeps row 3
+pub got-numbers : (L : ℕ) (recs addr : List ℕ) (n i : ℕ) (b : BlockAddr) → Block b ≡ storeGet L recs addr n i → NumbersOk b
+unfolding storeGet
+got-numbers L recs addr n i b e =
+    by-test (metaBad L recs addr n (i / L))
+    (λ t. absurd (not-broken (Block b) b (rw t at e) refl))
+    (λ kept. by-test (numbersBad (storeBlock L recs addr i))
+    (λ t. absurd (not-broken (Block b) b (rw (kept, t) at e) refl))
+    (λ good. numbers-ok b (ap numbersBad (same-block (Block b) b (storeBlock L recs addr i) refl (rw (kept, good) at e)) ∙ good)))
+
+-- ---- a key that was found
+
+pub above-outside : (r : Found) → r ≡ Above → r ≡ Outside → ⊥
+above-outside r p q = let z : _≡_ {A = ℕ} 0 1 = cc in omega arith
+
+pub at-not : (r : Found) (i : ℕ) → r ≡ At i → (r ≡ Above) ⊎ (r ≡ Outside) → ⊥
+at-not r i p (inl q) = let z : _≡_ {A = ℕ} 0 1 = cc in omega arith
+at-not r i p (inr q) = let z : _≡_ {A = ℕ} 0 1 = cc in omega arith
+
+-- the refusal of a search that is one of the other two
+abbrev pub Numbered : Found → ℕ → Type 0
+Numbered r k = (r ≡ Above → k ≡ 19) × (r ≡ Outside → k ≡ 20)
+
+abbrev pub NotAt : Found → Type 0
+NotAt r = (tagOf found.the-type r ≡ 1) ⊎ (tagOf found.the-type r ≡ 2)
+
+pub key-refused : (r : Found) (k : ℕ) → Numbered r k → NotAt r → Refuses 19 k
+key-refused (At i) k h (inl e) = absurd (let z : ⊥ = omega arith in z)
+key-refused (At i) k h (inr e) = absurd (let z : ⊥ = omega arith in z)
+key-refused Above k h other = inl (h .0 refl)
+key-refused Outside k h other = inr (h .1 refl)
+
+pub key-above : (separator : ℕ → List ℕ) (n : ℕ) (key : List ℕ) (r : Found) (k : ℕ) → Numbered r k → NotAt r → FoundAs separator n key r
+    → (k ≡ 19) × ((i : ℕ) → i < n → separator i ≺ key)
+unfolding FoundAs
+key-above separator n key (At i) k h (inl e) p = absurd (let z : ⊥ = omega arith in z)
+key-above separator n key (At i) k h (inr e) p = absurd (let z : ⊥ = omega arith in z)
+key-above separator n key Above k h other p = (h .0 refl, p)
+key-above separator n key Outside k h other p = absurd p
+
+-- ---- bytes and record of one opening
+
+module _ (L : ℕ) (f : List ℕ) (opened : SSTableIndexV3) (facts : OpenFacts L f opened) where
+  module _ (recs addr : List ℕ) (p : recs ≡ metasAt opened f) (q : addr ≡ addrsAt opened f) where
+    recs-are : recs ≡ recordsPart f
+    recs-are = p ∙ facts .metas
+
+    addr-are : addr ≡ addrsPart f
+    addr-are = q ∙ facts .addrs
+
+    -- by id
+    pub got-as : (id : ℕ) (g : Got) → id < opened .n → g ≡ storeGet L recs addr (opened .n) id → g ≡ Block (blockIn L f id)
+    unfolding blockIn
+    got-as id g h e =
+        e
+        ∙ rw (recs-are, addr-are, facts .count)
+        (get-block L (recordsPart f) (addrsPart f) (blocksIn f) id (facts .group .some) (facts .ok) (rw (facts .count) at h))
+
+    -- by ordinal
+    pub located-as : (ord : ℕ) (r : Located)
+        → (StoreOk L recs addr (opened .n) → LocatedAs (storeBlock L recs addr) (opened .n) ord r) → LocatedAs (blockIn L f) (opened .n) ord r
+    unfolding blockIn
+    located-as ord r h = rw (recs-are, addr-are) at (h (rw (recs-are, addr-are, facts .count) (facts .ok)))
+
+  -- by key
+  pub found-as : (d : List ℕ) → d ≡ directoryAt opened f → (key : List ℕ) (r : Found)
+      → (Sorted d (opened .n) → FoundAs (keyOf d (opened .n)) (opened .n) key r) → FoundAs (separatorIn f) (opened .n) key r
+  unfolding separatorIn
+  found-as d e key r h =
+      let same : d ≡ directoryPart f = e ∙ facts .directory in
+      rw (facts .count) (rw (same, facts .count) at (h (rw (same, facts .count) (facts .sorted))))
