@@ -1,6 +1,6 @@
 -- Demand 3: the calls' answers are the plain machine's; a finish that isn't refused writes the entries' index; it opens, and the blocks are found there.
 use Prim.Native.Nat.{ℕ, zero, suc, _+_, _≤_, _<_}
-use mathlib.Core.Path.{_≡_, refl, sym, subst, _∙_}
+use mathlib.Core.Path.{_≡_, refl, sym, ap, subst, _∙_}
 use mathlib.Core.List.{List}
 use native.Mathlib.Nat.{zero-add}
 use native.Mathlib.Omega.{arith}
@@ -12,7 +12,7 @@ use Rattle.keys.proofs.Order.{by-test}
 use Rattle.builder.specs.declared.SSTableIndexBuilder.{SSTableIndexBuilder}
 use Rattle.builder.specs.Calls.{After}
 use Rattle.builder.specs.Plain.{Call, runEnd}
-use Rattle.builder.specs.Finish.{indexOf, finishNo, finishStep, finishDef}
+use Rattle.builder.specs.Finish.{Finish, indexOf, finishNo, finishStep, finishDef}
 use Rattle.builder.proofs.Machine.{fresh-not-one}
 use Rattle.builder.proofs.Rules.{run-rules}
 use Rattle.builder.proofs.Finishing.{Finishes as Leaves, finishNumber, TooShort, finish-fresh, same-index, fresh-inj}
@@ -56,6 +56,9 @@ module _ (cs : List Call) (fresh : After) (out : List ℕ) (none : fresh .builde
 
   accepted : Finishes cs fresh out → finishNumber (runEnd cs fresh) out ≡ 0
   accepted h = sym number ∙ h .accepted
+
+  pub total-is : Finishes cs fresh out → finished cs fresh out .total ≡ length (indexOf (entries cs fresh))
+  total-is h = ap (λ (f : Finish). f .total) (leaves .written (h .two) (accepted h))
 
   laid-out : Finishes cs fresh out → index cs fresh out ≡ indexOf (entries cs fresh)
   laid-out h = leaves .front (h .two) (accepted h)

@@ -1,0 +1,135 @@
+-- The cases that document 01 marks in "Worked by hand", in its order, as one claim over one list of calls. Bytes stand as decimals.
+use Prim.Native.Nat.{ℕ, _+_, _*_, _^_, _≤_}
+use mathlib.Core.Path.{_≡_}
+use mathlib.Core.Bool.{Bool, true, false}
+use mathlib.Core.List.{List, [], _∷_, _++_}
+use mathlib.Core.Option.{none, some}
+use lib.ListN.{length, replicate}
+use Rattle.keys.specs.Shorten.{shorten}
+use Rattle.slope.specs.Slope.{bestSlope, widthOf}
+use Rattle.group.specs.declared.BlockAddr.{BlockAddr}
+use Rattle.group.specs.declared.BlockAddrBlockMetadata.{BlockAddrBlockMetadata}
+use Rattle.group.specs.Write.{rangeValues, ordinalValues, fields, metaOf, groupNumber}
+use Rattle.store.specs.Store.{addrs, storeBytes}
+use Rattle.builder.specs.Calls.{After}
+use Rattle.builder.specs.Plain.{Call, add, blocksOf, separatorsOf, runNumbers}
+use Rattle.automaton.specs.Bits.{Exactly}
+use Rattle.automaton.specs.Table.{tableNo}
+use Rattle.automaton.specs.Words.{Hits}
+use Rattle.pruning.specs.Interval.{Marked}
+use Rattle.index.specs.Answers.{noBlock}
+use Rattle.index.specs.Opening.{Opens, openedOf}
+use Rattle.demands.specs.Demand3.{GetBlock, LocateWithOrd, entries, finished, index}
+
+-- ---- the list
+
+-- blocks 0..10 ord 0, 10..25 ord 4, 25..30 ord 9
+abbrev pub block0 : BlockAddr
+block0 = record { start = 0; end = 10; «first_ordinal» = 0 }
+
+abbrev pub block1 : BlockAddr
+block1 = record { start = 10; end = 25; «first_ordinal» = 4 }
+
+abbrev pub block2 : BlockAddr
+block2 = record { start = 25; end = 30; «first_ordinal» = 9 }
+
+-- with keys 62, 64, 66
+abbrev pub calls : List Call
+calls = add (98 ∷ []) block0 ∷ add (100 ∷ []) block1 ∷ add (102 ∷ []) block2 ∷ []
+
+-- a fresh builder with room for them in its areas, and for the index in the output
+pub record Room (fresh : After) (out : List ℕ) : Type 0 where
+  pub fresh-builder : fresh .builder .n ≡ 0
+  pub blocks : 15 ≤ length (fresh .blocks)
+  pub keys : 3 ≤ length (fresh .keys)
+  pub output : 85 ≤ length out
+
+-- the record of their one group, and its range and ordinal fields
+abbrev pub group : BlockAddrBlockMetadata
+group = metaOf bestSlope 0 block0 (block1 ∷ block2 ∷ [])
+
+abbrev pub rangeFields : List ℕ
+rangeFields = fields (group .«range_start_slope») (group .«range_start_nbits») 1 (rangeValues 0 block0 (block1 ∷ block2 ∷ []))
+
+abbrev pub ordinalFields : List ℕ
+ordinalFields = fields (group .«first_ordinal_slope») (group .«first_ordinal_nbits») 1 (ordinalValues 0 (block1 ∷ block2 ∷ []))
+
+-- range then ordinal for blocks 1.., then the last end
+abbrev pub inTurn : List ℕ → List ℕ → List ℕ
+inTurn [] ordinals = ordinals
+inTurn (r ∷ ranges) [] = r ∷ ranges
+inTurn (r ∷ ranges) (o ∷ ordinals) = r ∷ o ∷ inTurn ranges ordinals
+
+-- ---- automata
+
+-- a table that passes 21 to 23, and of all byte strings accepts w alone
+pub record Only (t w : List ℕ) : Type 0 where
+  pub table : tableNo t ≡ 0
+  pub accepted : Hits t 0 w
+  pub alone : (v : List ℕ) → Hits t 0 v → v ≡ w
+
+-- three states: 0 starts, c leads from it to 1, which accepts; every other byte leads to 2
+unfoldable pub onlyC : List ℕ
+onlyC = 3 ∷ 0 ∷ 1 ∷ 0 ∷ (replicate 99 2 ++ (1 ∷ replicate 668 2))
+
+-- two states: 0 starts and accepts, every byte leads to 1
+unfoldable pub onlyEmpty : List ℕ
+onlyEmpty = 2 ∷ 1 ∷ 0 ∷ replicate 512 1
+
+-- ---- the cases
+
+pub record Worked (fresh : After) (out : List ℕ) : Type 0 where
+  -- the three adds are taken, and are the blocks and separators
+  pub taken : runNumbers calls fresh ≡ 0 ∷ 0 ∷ 0 ∷ []
+  pub blocks : blocksOf (entries calls fresh) ≡ block0 ∷ block1 ∷ block2 ∷ []
+  pub separators : separatorsOf (entries calls fresh) ≡ (98 ∷ []) ∷ (100 ∷ []) ∷ (102 ∷ []) ∷ []
+  -- range slope 11 width 3, ordinal slope 5 width 2
+  pub range-slope : group .«range_start_slope» ≡ 11
+  pub range-width : group .«range_start_nbits» ≡ 3
+  pub ordinal-slope : group .«first_ordinal_slope» ≡ 5
+  pub ordinal-width : group .«first_ordinal_nbits» ≡ 2
+  -- fields 3 1 7 1 1, the lowest bit first
+  pub five-fields : inTurn rangeFields ordinalFields ≡ 3 ∷ 1 ∷ 7 ∷ 1 ∷ 1 ∷ []
+  pub bits : groupNumber group block0 (block1 ∷ block2 ∷ []) ≡ 3 + 2 ^ 3 * (1 + 2 ^ 2 * (7 + 2 ^ 3 * (1 + 2 ^ 2 * 1)))
+  -- address bytes EB 05; store 46 bytes
+  pub address-bytes : addrs bestSlope 128 1 (blocksOf (entries calls fresh)) ≡ 235 ∷ 5 ∷ []
+  pub store : length (storeBytes bestSlope 128 (blocksOf (entries calls fresh))) ≡ 46
+  -- with keys 62, 64, 66 the index has 85; finish returns them, and they open
+  pub accepted : finished calls fresh out .no ≡ 0
+  pub total : finished calls fresh out .total ≡ 85
+  pub index-bytes : length (index calls fresh out) ≡ 85
+  pub opens : Opens 128 (index calls fresh out) (openedOf (index calls fresh out))
+  -- there: id 2 gives 25..30, id 3 gives 17
+  pub id-2 : (k : ℕ) (addr : BlockAddr) → GetBlock (index calls fresh out) (openedOf (index calls fresh out)) 2 k addr
+      → (k ≡ 0) × (addr ≡ block2)
+  pub id-3 : (k : ℕ) (addr : BlockAddr) → GetBlock (index calls fresh out) (openedOf (index calls fresh out)) 3 k addr
+      → (k ≡ 17) × (addr ≡ noBlock)
+  -- ordinals 3, 4, 1,000,000 give blocks 0, 1, 2
+  pub ordinal-3 : (k id : ℕ) (addr : BlockAddr) → LocateWithOrd (index calls fresh out) (openedOf (index calls fresh out)) 3 k id addr
+      → (k ≡ 0) × (id ≡ 0) × (addr ≡ block0)
+  pub ordinal-4 : (k id : ℕ) (addr : BlockAddr) → LocateWithOrd (index calls fresh out) (openedOf (index calls fresh out)) 4 k id addr
+      → (k ≡ 0) × (id ≡ 1) × (addr ≡ block1)
+  pub ordinal-1000000 : (k id : ℕ) (addr : BlockAddr) → LocateWithOrd (index calls fresh out) (openedOf (index calls fresh out)) 1000000 k id addr
+      → (k ≡ 0) × (id ≡ 2) × (addr ≡ block2)
+  -- point (1, 2^40): slope 0, width 42
+  pub point-slope : bestSlope (2 ^ 40 ∷ []) ≡ 0
+  pub point-width : widthOf (bestSlope (2 ^ 40 ∷ [])) (2 ^ 40 ∷ []) ≡ 42
+  -- no points: 0, 1
+  pub no-slope : bestSlope [] ≡ 0
+  pub no-width : widthOf (bestSlope []) [] ≡ 1
+  -- abcdef before abf: abce
+  pub abcdef : shorten (97 ∷ 98 ∷ 99 ∷ 100 ∷ 101 ∷ 102 ∷ []) (97 ∷ 98 ∷ 102 ∷ []) ≡ 97 ∷ 98 ∷ 99 ∷ 101 ∷ []
+  -- ab before abc: ab
+  pub ab : shorten (97 ∷ 98 ∷ []) (97 ∷ 98 ∷ 99 ∷ []) ≡ 97 ∷ 98 ∷ []
+  -- 61 FF FF before 62: unchanged
+  pub all-ff : shorten (97 ∷ 255 ∷ 255 ∷ []) (98 ∷ []) ≡ 97 ∷ 255 ∷ 255 ∷ []
+  -- 61 FF 01 before 62: 61 FF 02
+  pub behind-ff : shorten (97 ∷ 255 ∷ 1 ∷ []) (98 ∷ []) ≡ 97 ∷ 255 ∷ 2 ∷ []
+  -- only c accepted: (b, d] yes, (c, d] no
+  pub c-alone : Only onlyC (99 ∷ [])
+  pub b-to-d : (t : List ℕ) (answer : Bool) → Only t (99 ∷ []) → Exactly answer (Marked t (some (98 ∷ [])) (100 ∷ [])) → answer ≡ true
+  pub c-to-d : (t : List ℕ) (answer : Bool) → Only t (99 ∷ []) → Exactly answer (Marked t (some (99 ∷ [])) (100 ∷ [])) → answer ≡ false
+  -- only the empty string: absent start and empty end yes; start and end both empty no
+  pub empty-alone : Only onlyEmpty []
+  pub absent-to-empty : (t : List ℕ) (answer : Bool) → Only t [] → Exactly answer (Marked t none []) → answer ≡ true
+  pub empty-to-empty : (t : List ℕ) (answer : Bool) → Only t [] → Exactly answer (Marked t (some []) []) → answer ≡ false
