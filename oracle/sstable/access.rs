@@ -115,8 +115,18 @@ impl Index {
         self.0.locate_with_ord(ord)
     }
 
+    /// The block's id, and the block.
+    pub fn get_and_locate_with_ord(&self, ord: u64) -> (u64, Block) {
+        let (addr, id) = self.0.get_and_locate_with_ord(ord);
+        (id, addr.into())
+    }
+
     pub fn locate_with_key(&self, key: &[u8]) -> Option<u64> {
         self.0.locate_with_key(key)
+    }
+
+    pub fn get_block_with_key(&self, key: &[u8]) -> Option<Block> {
+        self.0.get_block_with_key(key).map(Block::from)
     }
 
     /// The ids of the blocks that may hold an accepted key.

@@ -17,7 +17,8 @@ use Rattle.index.specs.Opening.{Opens, openedOf}
 use Rattle.index.proofs.WrittenIndex.{IndexOk, index-blocks, index-block, index-separator}
 use Rattle.index.proofs.IndexOpens.{index-opens}
 use Rattle.index.proofs.OpenFacts.{OpenFacts, opens-facts}
-use Rattle.index.proofs.Separators.{place-unknown, place-separator}
+use Rattle.index.proofs.LookupLaws.{place-separator}
+use Rattle.index.proofs.Places.{place-unknown}
 use Rattle.automaton.specs.Table.{tableNo}
 use Rattle.listing.specs.Listing.{separatorAt, Listing, Leaves}
 use Rattle.demands.specs.Demand3.{block, separator, GetBlockForAutomaton, Finds}

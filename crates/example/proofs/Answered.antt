@@ -3,7 +3,7 @@ use mathlib.Core.Path.{_≡_, refl, sym, subst}
 use mathlib.Core.List.{List, [], _∷_}
 use mathlib.Core.Bool.{Bool, true, false}
 use mathlib.Core.Option.{Option, none, some}
-use mathlib.Core.Logic.{⊎-elim}
+use mathlib.Core.Logic.{inl, inr, ⊎-elim}
 use Prim.Native.Nat.{ℕ, _+_, _≤_, _<_, zero-le}
 use native.Mathlib.Nat.{eq-zero-or-pos, le-refl}
 use native.Mathlib.Omega.{arith}
@@ -17,7 +17,7 @@ use Rattle.automaton.specs.Table.{tableNo, flag}
 use Rattle.automaton.specs.Words.{Word}
 use Rattle.automaton.proofs.Strings.{hits-nil, word-cases, hits-cons}
 use Rattle.pruning.specs.Interval.{startOf, Marked}
-use Rattle.example.specs.Example.{longer, ExampleNo, Shown, number, Leaves}
+use Rattle.example.specs.Example.{longer, ExampleNo, Shown, answerNo, answerLen, Leaves}
 use Rattle.example.specs.declared.ExampleAnswer.{ExampleAnswer}
 use Rattle.example.specs.declared.ExampleAnswer.the-variants.{Written, Refused}
 use Rattle.example.proofs.Bounds.{next-string}
@@ -37,8 +37,8 @@ exactly-leb a b = go (leb a b) refl
 
 -- ---- an answer with its number and what it leaves
 pub record Answered (t : List ℕ) (start : Option (List ℕ)) (end out new : List ℕ) (room : ℕ) (r : ExampleAnswer) : Type 0 where
-  pub no : ExampleNo t start end room (number r)
-  pub leaves : Leaves t start end out new r
+  pub no : ExampleNo t start end room (answerNo r)
+  pub leaves : Leaves t start end out new (answerNo r) (answerLen r)
 
 module _ {t : List ℕ} {start : Option (List ℕ)} {end out new : List ℕ} where
   shown-marked : {len : ℕ} → Shown t start end out new len → Marked t start end
@@ -46,13 +46,13 @@ module _ {t : List ℕ} {start : Option (List ℕ)} {end out new : List ℕ} whe
 
   module _ {room : ℕ} (ok : tableNo t ≡ 0) (fits : longer start end + 64 ≤ room) where
     pub answered-shown : (len : ℕ) → Shown t start end out new len → Answered t start end out new room (Written len)
-    answered-shown len x = record { no = ExampleNo.accepted ok fits (shown-marked x); leaves = x }
+    answered-shown len x = record { no = ExampleNo.accepted ok fits (shown-marked x); leaves = inl (refl, x) }
 
     pub answered : (len : ℕ) (r : ExampleAnswer) → (len ≡ 0 → r ≡ Refused 25) → (0 < len → r ≡ Written len)
         → (len ≡ 0 → (new ≡ out) × (Marked t start end → ⊥)) → (0 < len → Shown t start end out new len) → Answered t start end out new room r
     answered len r f g nothing something =
         ⊎-elim
-        (λ z. subst (Answered t start end out new room) (sym (f z)) (record { no = ExampleNo.nothing ok fits (nothing z .1); leaves = nothing z .0 }))
+        (λ z. subst (Answered t start end out new room) (sym (f z)) (record { no = ExampleNo.nothing ok fits (nothing z .1); leaves = inr (omega arith, refl, nothing z .0) }))
         (λ p. subst (Answered t start end out new room) (sym (g p)) (answered-shown len (something p)))
         (eq-zero-or-pos len)
 

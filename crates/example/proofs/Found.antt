@@ -11,7 +11,7 @@ use Rattle.keys.specs.Order.{_≺_, _≼_}
 use Rattle.automaton.specs.Table.{next}
 use Rattle.automaton.specs.Words.{Bytes, run, Hits, Word}
 use Rattle.automaton.proofs.Strings.{hits-cons, hits-append, bytes-take}
-use Rattle.example.proofs.Shortest.{sets-append}
+use Rattle.serialize.proofs.Stores.{sets-append}
 use Rattle.example.proofs.Bounds.{leaving}
 
 -- L and U are the interval's bounds

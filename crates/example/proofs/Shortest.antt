@@ -6,6 +6,7 @@ use native.Mathlib.Nat.{add-zero}
 use native.Mathlib.Omega.{arith}
 use lib.ListN.{length, getD, set, length-append}
 use lib.Seq.{sets}
+use Rattle.serialize.proofs.Stores.{sets-append}
 use Rattle.automaton.specs.Table.{WellFormed, states, flag, next}
 use Rattle.automaton.specs.Words.{Bytes, run, Word}
 use Rattle.automaton.proofs.Strings.{run-append, hits-nil, hits-cons, word-cases}
@@ -36,11 +37,6 @@ module _ {t d : List ℕ} (x : Distances t d) where
   one-nearer s b wf hs hb small less =
       let m = x .near (next t s b) (wf .closed s b hs hb) (omega arith) in
       omega (arith, m .good, x .least s (b ∷ m .word) hs (hits-cons s b hb (m .hits)))
-
--- ---- a run of stores behind another
-pub sets-append : (d a b : List ℕ) (i : ℕ) → sets (sets d i a) (i + length a) b ≡ sets d i (a ++ b)
-sets-append d [] b i = ap (λ (n : ℕ). sets d n b) (add-zero i)
-sets-append d (x ∷ a) b i = ap (λ (n : ℕ). sets (sets (set d i x) (suc i) a) n b) (omega arith) ∙ sets-append (set d i x) a b (suc i)
 
 bytes-more : (w : List ℕ) (b : ℕ) → Bytes w → b < 256 → Bytes (w ++ (b ∷ []))
 bytes-more [] b h l = (l, tt)

@@ -2,6 +2,7 @@
 use Prim.Native.Nat.{ℕ, _+_, _≤_, _<_, max}
 use mathlib.Core.Path.{_≡_}
 use mathlib.Core.List.{List}
+use mathlib.Core.Logic.{_⊎_}
 use mathlib.Core.Option.{Option, none, some}
 use lib.ListN.{length}
 use lib.Seq.{sets}
@@ -34,12 +35,15 @@ pub record Shown (t : List ℕ) (start : Option (List ℕ)) (end out written : L
   pub short : len ≤ longer start end + 64
   pub bytes : written ≡ sets out 0 word
 
--- document 01's number for each answer
-abbrev pub number : ExampleAnswer → ℕ
-number (Written len) = 0
-number (Refused k) = k
+-- document 01's number and length for each answer; a refusal has all else zero
+abbrev pub answerNo : ExampleAnswer → ℕ
+answerNo (Written len) = 0
+answerNo (Refused k) = k
 
--- what the call leaves in the output: an example, or what was there
-abbrev pub Leaves : List ℕ → Option (List ℕ) → List ℕ → List ℕ → List ℕ → ExampleAnswer → Type 0
-Leaves t start end out written (Written len) = Shown t start end out written len
-Leaves t start end out written (Refused k) = written ≡ out
+abbrev pub answerLen : ExampleAnswer → ℕ
+answerLen (Written len) = len
+answerLen (Refused k) = 0
+
+-- what a call with number k leaves in the output: an example, or what was there
+abbrev pub Leaves : List ℕ → Option (List ℕ) → List ℕ → List ℕ → List ℕ → ℕ → ℕ → Type 0
+Leaves t start end out written k len = ((k ≡ 0) × Shown t start end out written len) ⊎ ((0 < k) × (len ≡ 0) × (written ≡ out))

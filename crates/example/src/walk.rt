@@ -1,6 +1,7 @@
 // The walk along a key to where an example leaves it, and the example written from there. A length of 0 stands for none: nothing is written then.
 use crate::tail::write_tail;
 use automaton::table::accept;
+use pruning::block_match_automaton::accept_prefix;
 ghost use mathlib.Core.Path.{_≡_};
 ghost use mathlib.Core.List.{[], _∷_, _++_};
 ghost use Prim.Native.Nat.{_+_, _≤_, _<_, max};
@@ -121,20 +122,6 @@ pub fn write_range_end(
         low = 0;
     }
     0
-}
-
-// The state after the first n bytes of a key.
-fn accept_prefix(table: &[u8], key: &[u8], n: usize) -> usize
-    requires { ⌜ WellFormed (now table) × (n ≤ length (now key)) ⌝ }
-    ensures { λ r. ⌜ (r ≡ run (now (table .entry)) 0 (take n (now (key .entry)))) × (r < states (now (table .entry))) ⌝ }
-{
-    let mut state: usize = 0;
-    let mut i: usize = 0;
-    while i < n {
-        state = accept(table, state, key[i]);
-        i += 1;
-    }
-    state
 }
 
 // Writes a string above the start key and not above the end key.

@@ -71,7 +71,7 @@ fn match_range_end(
 }
 
 // The state after the first n bytes of a key.
-fn accept_prefix(table: &[u8], key: &[u8], n: usize) -> usize
+pub fn accept_prefix(table: &[u8], key: &[u8], n: usize) -> usize
     requires { ⌜ WellFormed (now table) × (n ≤ length (now key)) ⌝ }
     ensures { λ r. ⌜ (r ≡ run (now (table .entry)) 0 (take n (now (key .entry)))) × (r < states (now (table .entry))) ⌝ }
 {

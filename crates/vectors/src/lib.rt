@@ -1,5 +1,7 @@
 // Lists of cases as text. One case a line: a kind letter, then tokens, each behind one space. A token that begins with `x` is a
 // byte string in lower-case hex, any other a decimal number. A line that begins with `#` is a comment.
+pub mod tally;
+
 ghost use mathlib.Core.Path.{_≡_};
 ghost use Prim.Native.Nat.{_+_, _*_, _≤_, _<_};
 ghost use lib.ListN.{length, getD};

@@ -177,7 +177,7 @@ pub fn list() -> String {
 }
 
 /// A group with any slopes and widths that hold its points.
-fn group<'a>(rng: &mut Numbers, blocks: &'a [Block], offset: usize, widest: bool) -> Group<'a> {
+pub fn group<'a>(rng: &mut Numbers, blocks: &'a [Block], offset: usize, widest: bool) -> Group<'a> {
     let mut slope_and_width = |points: &[(u64, u64)]| {
         let mean = points.last().map_or(0, |&(i, value)| value / i);
         let slope = match rng.below(5) {
@@ -207,7 +207,7 @@ fn group<'a>(rng: &mut Numbers, blocks: &'a [Block], offset: usize, widest: bool
 }
 
 /// A group with slopes near the mean, in few bits.
-fn near<'a>(rng: &mut Numbers, blocks: &'a [Block], offset: usize) -> Group<'a> {
+pub fn near<'a>(rng: &mut Numbers, blocks: &'a [Block], offset: usize) -> Group<'a> {
     let mut slope_and_width = |points: &[(u64, u64)]| {
         let mean = points.last().map_or(0, |&(i, value)| value / i);
         let slope = (mean + rng.below(2)) as u32;

@@ -3,10 +3,14 @@
 mod addresses;
 mod automaton;
 mod calls;
+mod files;
 mod foreign;
+mod indexes;
 mod leaves;
 mod numbers;
+mod opening;
 mod pruning;
+mod refused;
 mod stores;
 mod text;
 mod worked;
@@ -22,6 +26,7 @@ fn main() {
         ("stores.txt", stores::list(), 200_000),
         ("addresses.txt", addresses::list(), 200_000),
         ("calls.txt", calls::list(), 65_000),
+        ("indexes.txt", indexes::list(), 350_000),
         ("pruning.txt", pruning::list(), 200_000),
     ];
     for (name, list, most) in lists {

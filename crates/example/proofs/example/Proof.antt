@@ -1,6 +1,7 @@
 -- Each row is ruled out before anything is written; the walks give an example or that there is none.
 use mathlib.Core.Path.{_≡_, refl, sym, subst, _∙_}
 use mathlib.Core.Bool.{Bool, false}
+use mathlib.Core.Logic.{inr}
 use mathlib.Core.Option.{some, none}
 use Prim.Native.Nat.{_+_, _≤_, zero-le}
 use native.Mathlib.Omega.{arith}
@@ -41,7 +42,7 @@ check-requires : tie.Need-check-requires
 check-requires c κs = search needs
 
 returns : tie.Need-returns
-returns c = (ExampleNo.table (c .before .check .result) (omega arith) (c .before .check .ensures), refl)
+returns c = (ExampleNo.table (c .before .check .result) (omega arith) (c .before .check .ensures), inr (omega arith, refl, refl))
 
 has-room-requires : tie.Need-has-room-requires
 has-room-requires c κs = search needs
@@ -50,7 +51,7 @@ returns-2 : tie.Need-returns-2
 returns-2 c =
     let a = c .before .before .before .before .before .before .before .before .args in
     let n : longer (startOf (a .has-start) (a .start-key .now)) (a .end-key .now) + 64 ≤ length (a .out .now) → ⊥ = when-false (c .before .has-room .ensures) (not-true (c .before .has-room .result) (c .if2 .taken)) in
-    (ExampleNo.short (taken (c .before .before)) (omega (arith, n)), refl)
+    (ExampleNo.short (taken (c .before .before)) (omega (arith, n)), inr (omega arith, refl, refl))
 
 distances-requires : tie.Need-distances-requires
 distances-requires c κs = formed c

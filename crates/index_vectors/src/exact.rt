@@ -1,0 +1,94 @@
+// Lookups in a file as it was opened: whether the answers are those of the list.
+use crate::answers;
+use crate::answers::Answer;
+use index::Place;
+use index::SSTableIndexV3;
+
+// ID NO START END ORD
+pub fn by_id(opened: SSTableIndexV3, data: &[u8], given: &[u64]) -> bool {
+    if given.len() != 5 {
+        return false;
+    }
+    let got = answers::of_block(opened.get_block(data, given[0]));
+    let due = Answer {
+        no: given[1],
+        id: 0,
+        start: given[2],
+        end: given[3],
+        ord: given[4],
+    };
+    answers::equal(got, due)
+}
+
+// NO ID START END ORD; zeros where the line ends before.
+fn due(given: &[u64]) -> Answer {
+    Answer {
+        no: vectors::number(given, 0),
+        id: vectors::number(given, 1),
+        start: vectors::number(given, 2),
+        end: vectors::number(given, 3),
+        ord: vectors::number(given, 4),
+    }
+}
+
+// ORDINAL NO ID START END ORD
+pub fn by_ord(opened: SSTableIndexV3, data: &[u8], given: &[u64]) -> bool {
+    if given.len() != 6 {
+        return false;
+    }
+    let got = answers::of_located(opened.locate_with_ord(data, given[0]));
+    answers::equal(got, due(&given[1..]))
+}
+
+// NO ID
+pub fn by_key(opened: SSTableIndexV3, data: &[u8], key: &[u8], given: &[u64]) -> bool {
+    if given.len() != 2 {
+        return false;
+    }
+    let got = answers::of_id(opened.locate_with_key(data, key));
+    answers::equal(got, due(given))
+}
+
+// NO ID START END ORD
+pub fn block_by_key(opened: SSTableIndexV3, data: &[u8], key: &[u8], given: &[u64]) -> bool {
+    if given.len() != 5 {
+        return false;
+    }
+    let got = answers::of_located(opened.get_block_with_key(data, key));
+    answers::equal(got, due(given))
+}
+
+// ID FOUND OFFSET LEN: the place, and the part that stands there.
+pub fn separator(opened: SSTableIndexV3, data: &[u8], given: &[u64]) -> bool {
+    if given.len() != 4 {
+        return false;
+    }
+    let id = given[0];
+    let part = opened.separator(data, id);
+    match opened.separator_place(data, id) {
+        Place::Part(offset, len) => {
+            if given[1] != 1 {
+                return false;
+            }
+            if given[2] != offset as u64 {
+                return false;
+            }
+            if given[3] != len as u64 {
+                return false;
+            }
+            answers::is_part(data, offset, len, part)
+        }
+        Place::Missing => {
+            if given[1] != 0 {
+                return false;
+            }
+            if given[2] != 0 {
+                return false;
+            }
+            if given[3] != 0 {
+                return false;
+            }
+            part.len() == 0
+        }
+    }
+}

@@ -1,0 +1,259 @@
+//! Files of indexes, put together from their parts, and faults in them.
+
+use tantivy_sstable::access::{self, Block};
+
+use crate::stores::{self, LIMIT, touching};
+use crate::worked;
+
+/// The parts of a file.
+#[derive(Clone)]
+pub struct File {
+    pub directory: Vec<u8>,
+    pub records_len: u64,
+    pub records: Vec<u8>,
+    pub addresses: Vec<u8>,
+    pub directory_len: u64,
+}
+
+impl File {
+    pub fn new(keys: &[Vec<u8>], store: &[u8]) -> File {
+        let mut directory = (keys.len() as u32).to_le_bytes().to_vec();
+        let mut offset = 0;
+        for key in keys {
+            directory.extend((offset as u32).to_le_bytes());
+            directory.extend((key.len() as u32).to_le_bytes());
+            offset += key.len();
+        }
+        directory.extend(keys.concat());
+        let records_len = u64::from_le_bytes(store[..8].try_into().unwrap());
+        let behind = 8 + records_len as usize;
+        File {
+            directory_len: directory.len() as u64,
+            directory,
+            records_len,
+            records: store[8..behind].to_vec(),
+            addresses: store[behind..].to_vec(),
+        }
+    }
+
+    /// As the Rust's builder writes it.
+    pub fn written(blocks: &[Block], keys: &[Vec<u8>]) -> File {
+        let given: Vec<(Block, &[u8])> = blocks
+            .iter()
+            .copied()
+            .zip(keys.iter().map(Vec::as_slice))
+            .collect();
+        let file = File::new(keys, &stores::store(blocks));
+        assert_eq!(file.bytes(), access::write_index(&given));
+        file
+    }
+
+    pub fn bytes(&self) -> Vec<u8> {
+        let records_len = self.records_len.to_le_bytes();
+        let directory_len = self.directory_len.to_le_bytes();
+        [
+            &self.directory[..],
+            &records_len,
+            &self.records,
+            &self.addresses,
+            &directory_len,
+        ]
+        .concat()
+    }
+
+    pub fn put_directory(&mut self, directory: &[u8]) {
+        self.directory = directory.to_vec();
+        self.directory_len = directory.len() as u64;
+    }
+
+    /// Replaces a pair's offset and length.
+    pub fn pair(&mut self, i: usize, offset: u32, length: u32) {
+        let at = 4 + 8 * i;
+        self.directory[at..at + 4].copy_from_slice(&offset.to_le_bytes());
+        self.directory[at + 4..at + 8].copy_from_slice(&length.to_le_bytes());
+    }
+
+    /// Replaces bytes of a group's record.
+    pub fn record(&mut self, group: usize, at: usize, bytes: &[u8]) {
+        let at = 36 * group + at;
+        self.records[at..at + bytes.len()].copy_from_slice(bytes);
+    }
+
+    pub fn widths(&mut self, group: usize, ord: u8, range: u8) {
+        self.record(group, 32, &[ord, range]);
+    }
+
+    pub fn offset(&mut self, group: usize, offset: u64) {
+        self.record(group, 0, &offset.to_le_bytes());
+    }
+
+    pub fn first_start(&mut self, group: usize, start: u64) {
+        self.record(group, 8, &start.to_le_bytes());
+    }
+
+    pub fn first_ord(&mut self, group: usize, ord: u64) {
+        self.record(group, 16, &ord.to_le_bytes());
+    }
+
+    pub fn slopes(&mut self, group: usize, range: u32, ord: u32) {
+        self.record(group, 24, &range.to_le_bytes());
+        self.record(group, 28, &ord.to_le_bytes());
+    }
+
+    pub fn with(&self, fault: Fault) -> File {
+        let mut file = self.clone();
+        fault(&mut file);
+        file
+    }
+}
+
+pub type Fault = fn(&mut File);
+
+pub fn worked_file() -> File {
+    let keys = [b"b".to_vec(), b"d".to_vec(), b"f".to_vec()];
+    File::written(&worked::BLOCKS, &keys)
+}
+
+/// A file that opens with no byte to spare.
+pub fn smallest() -> File {
+    let file = File::written(
+        &touching(0, &[1, 1], 0, &[1]),
+        &[b"a".to_vec(), b"b".to_vec()],
+    );
+    assert_eq!(file.bytes().len(), 75);
+    file
+}
+
+/// A file of two groups, the second with `more` blocks, keys of one byte.
+pub fn two_group_file(more: usize) -> File {
+    let count = 128 + more;
+    let blocks = touching(3, &vec![2; count], 1, &vec![1; count - 1]);
+    let keys: Vec<Vec<u8>> = (0..count).map(|i| vec![i as u8]).collect();
+    File::written(&blocks, &keys)
+}
+
+/// A fault's row, and the fault.
+pub fn faults() -> Vec<(u64, Fault)> {
+    vec![
+        (12, |file| file.directory[0] = 1),
+        (12, |file| file.directory[0] = 3),
+        (12, |file| file.directory[..4].fill(0)),
+        (12, |file| file.directory[2] = 1),
+        (12, |file| file.directory[..4].fill(0xff)),
+        (12, |file| file.put_directory(&[2])),
+        (12, |file| file.put_directory(&[2, 0, 0])),
+        (12, |file| file.put_directory(&[2, 0, 0, 0])),
+        (12, |file| file.put_directory(&file.directory.clone()[..12])),
+        (12, |file| file.put_directory(&file.directory.clone()[..19])),
+        (12, |file| file.put_directory(&file.directory.clone()[..21])),
+        (12, |file| {
+            file.put_directory(&[&file.directory[..], b"c"].concat())
+        }),
+        (12, |file| file.pair(0, 1, 1)),
+        (12, |file| file.pair(0, u32::MAX, 2)),
+        (12, |file| file.pair(1, 0, 1)),
+        (12, |file| file.pair(1, 2, 1)),
+        (12, |file| file.pair(1, u32::MAX, 1)),
+        (12, |file| file.pair(0, 0, 0)),
+        (12, |file| file.pair(0, 0, u32::MAX)),
+        (12, |file| file.pair(1, 1, 0)),
+        (12, |file| file.pair(1, 1, 2)),
+        (12, |file| file.pair(1, 1, u32::MAX)),
+        (12, |file| {
+            file.pair(0, 0, u32::MAX);
+            file.pair(1, u32::MAX, 3);
+        }),
+        (13, |file| file.directory[21] = b'a'),
+        (13, |file| file.directory[21] = b'`'),
+        (13, |file| file.directory[20] = 0xff),
+        (13, |file| {
+            file.pair(0, 0, 2);
+            file.pair(1, 2, 0);
+        }),
+        (13, |file| {
+            file.pair(0, 0, 2);
+            file.pair(1, 2, 1);
+            file.put_directory(&[&file.directory[..20], b"aba"].concat());
+        }),
+        (13, |file| {
+            file.pair(0, 0, 0);
+            file.pair(1, 0, 0);
+            file.put_directory(&file.directory.clone()[..20]);
+        }),
+        (14, |file| file.records_len = 0),
+        (14, |file| file.records_len = 35),
+        (14, |file| file.records_len = 37),
+        (14, |file| file.records_len = 72),
+        (14, |file| file.records_len = 36 + (1 << 32)),
+        (14, |file| file.records_len = u64::MAX),
+        (14, |file| file.records_len = u64::MAX - 7),
+        (14, |file| {
+            file.addresses.clear();
+            file.records.pop();
+        }),
+        (14, |file| {
+            file.addresses.clear();
+            file.records.clear();
+        }),
+        (14, |file| {
+            file.records_len = 72;
+            file.records.extend(file.records.clone());
+        }),
+        (14, |file| {
+            file.records_len = 0;
+            file.records.clear();
+        }),
+        (15, |file| file.widths(0, 1, 0)),
+        (15, |file| file.widths(0, 0, 2)),
+        (15, |file| file.widths(0, 57, 2)),
+        (15, |file| file.widths(0, 1, 57)),
+        (15, |file| file.widths(0, 255, 255)),
+        (15, |file| file.widths(0, 56, 56)),
+        (15, |file| {
+            file.widths(0, 57, 2);
+            file.addresses = vec![0; 99];
+        }),
+        (15, |file| {
+            file.widths(0, 1, 57);
+            file.addresses = vec![0; 99];
+        }),
+        (15, |file| file.record(0, 34, &[0, 0])),
+        (15, |file| file.record(0, 34, &[2, 0])),
+        (15, |file| file.record(0, 34, &[1, 1])),
+        (15, |file| file.record(0, 34, &[0xff, 0xff])),
+        (15, |file| file.offset(0, 1)),
+        (15, |file| file.offset(0, 1 << 32)),
+        (15, |file| file.offset(0, 1 << 61)),
+        (15, |file| file.offset(0, u64::MAX)),
+        (15, |file| file.addresses.clear()),
+        (15, |file| {
+            file.widths(0, 4, 3);
+            file.addresses = vec![0x0c];
+        }),
+        (16, |file| file.first_start(0, LIMIT - 2)),
+        (16, |file| file.first_start(0, LIMIT)),
+        (16, |file| file.first_start(0, u64::MAX)),
+        (16, |file| file.first_start(0, u64::MAX - 1)),
+        (16, |file| file.first_ord(0, LIMIT - 1)),
+        (16, |file| file.first_ord(0, LIMIT)),
+        (16, |file| file.first_ord(0, u64::MAX)),
+        (16, |file| file.slopes(0, 1, 0)),
+        (16, |file| file.addresses[0] = 0),
+        // 0..3, 3..0
+        (16, |file| {
+            file.slopes(0, 0, 1);
+            file.widths(0, 1, 3);
+            file.addresses = vec![0x4f];
+        }),
+        (16, |file| {
+            file.slopes(0, 0, 0);
+            file.widths(0, 56, 56);
+            file.addresses = vec![0; 21];
+        }),
+        (16, |file| {
+            file.slopes(0, u32::MAX, u32::MAX);
+            file.widths(0, 56, 56);
+            file.addresses = vec![0xff; 21];
+        }),
+    ]
+}
