@@ -129,6 +129,39 @@ module _ (s : List ℕ) (at : ℕ) where
             (λ t. absurd (let z : callLen s at ≡ 0 = other-call starts f (eqb-false (tagAt s at) 1 t) in let y : ⊥ = omega arith in y));
       }
 
+  -- ---- a question that is there: its parts lie inside
+
+  abbrev asksNumber : Bool
+  asksNumber = eqb (tagAt s at) 2 || (eqb (tagAt s at) 3 || eqb (tagAt s at) 6)
+
+  abbrev asksKey : Bool
+  asksKey = eqb (tagAt s at) 4 || eqb (tagAt s at) 5
+
+  pub record QuestionThere : Type 0 where
+    pub starts : at < length s
+    pub ends : at + questionLen s at ≤ length s
+    pub number-whole : asksNumber ≡ true → at + 9 ≤ length s
+    pub key-whole : asksNumber ≡ false → asksKey ≡ true → at + (5 + stringLen s (at + 1)) ≤ length s
+    pub mark-whole : asksNumber ≡ false → asksKey ≡ false → at + (13 + stringLen s (at + 9)) ≤ length s
+
+  pub question-there : 0 < questionLen s at → QuestionThere
+  unfolding Fits
+  question-there h =
+      let starts : at < length s =
+      by-test (leb (length s) at)
+      (λ t. absurd (let z : questionLen s at ≡ 0 = no-question (leb-true (length s) at t) in let y : ⊥ = omega arith in y))
+      (λ t. leb-false (length s) at t) in
+      record {
+        starts = starts;
+        ends = question-fits (λ z. omega arith);
+        number-whole = λ t. within-whole 9 (questionLen s at) (number-len starts asksNumber asksKey refl refl t) h;
+        key-whole = λ f t. within-whole (5 + stringLen s (at + 1)) (questionLen s at) (key-len starts asksNumber asksKey refl refl f t) h;
+        mark-whole = λ f g.
+            by-test (eqb (tagAt s at) 7)
+            (λ t. within-whole (13 + stringLen s (at + 9)) (questionLen s at) (mark-len starts asksNumber asksKey refl refl f g (eqb-true (tagAt s at) 7 t)) h)
+            (λ t. absurd (let z : questionLen s at ≡ 0 = other-question starts asksNumber asksKey refl refl f g (eqb-false (tagAt s at) 7 t) in let y : ⊥ = omega arith in y));
+      }
+
 -- ---- the walk
 
 module _ (len : ℕ → ℕ) (at : ℕ) where

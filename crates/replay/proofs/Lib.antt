@@ -1,3 +1,6 @@
 pub mod Items
 pub mod Turns
 pub mod Entries
+pub mod Answers
+pub mod Tags
+pub mod Asking

@@ -68,7 +68,7 @@ AnswerTo es (markOf i t) cs = MarkAnswer es i t cs
 
 -- a question to an index that opened, or to one that didn't: opening's number
 abbrev pub AnswerIn : ℕ → List Entry → Question → List ℕ → Type 0
-AnswerIn no es q cs = ((no ≡ 0) × AnswerTo es q cs) ⊎ ((0 < no) × (cs ≡ cells no 0 0 0 0))
+AnswerIn k es q cs = ((k ≡ 0) × AnswerTo es q cs) ⊎ ((0 < k) × (cs ≡ cells k 0 0 0 0))
 
 -- all of them, one behind the other
 pub data Answered (no : ℕ) (es : List Entry) : List Question → List ℕ → Type 0 where

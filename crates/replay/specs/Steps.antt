@@ -6,7 +6,12 @@ use Rattle.builder.specs.Calls.{After}
 use Rattle.builder.specs.Finish.{Finish}
 use Rattle.replay.specs.Format.{numberAt}
 use Rattle.replay.specs.Made.{cells}
+use Rattle.replay.specs.declared.cells.Cells.{Cells}
 use Rattle.replay.specs.declared.calls.Called.{Called}
+
+-- an answer's five numbers
+abbrev pub cellsOf : Cells → List ℕ
+cellsOf x = cells (x .no) (x .a) (x .b) (x .c) (x .d)
 
 -- a call's number and builder, with the areas as it left them
 abbrev pub leaves : Called → List ℕ → List ℕ → After

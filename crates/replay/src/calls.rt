@@ -8,33 +8,20 @@ ghost use lib.Seq.{sets};
 ghost use Rattle.builder.specs.Calls.{after};
 ghost use Rattle.builder.specs.Plain.{callDef, runNumbers, runEnd};
 ghost use Rattle.replay.specs.Format.{callLen, callAt, calls, callCount, questionsFrom, listBad};
-ghost use Rattle.replay.specs.Made.{cells, callCells, freshOf};
+ghost use Rattle.replay.specs.Made.{callCells, freshOf};
 ghost use Rattle.replay.specs.Steps.{leaves, blockIn};
+use crate::cells::Cells;
+use crate::cells::WIDTH;
 use crate::format;
 use builder::Answer;
 use builder::SSTableIndexBuilder;
 use group::BlockAddr;
-
-// How many numbers an answer has.
-pub const CELLS: usize = 5;
 
 // A call's number, the builder that it leaves, and where the next item begins.
 pub struct Called {
     pub no: u32,
     pub builder: SSTableIndexBuilder,
     pub next: usize,
-}
-
-// Writes an answer's five numbers.
-pub fn write_cells(answers: &mut [u64], at: usize, no: u32, a: u64, b: u64, c: u64, d: u64)
-    requires { ⌜ at + 5 ≤ length (now answers) ⌝ }
-    ensures { λ _. ⌜ now (answers .exit) ≡ sets (now (answers .entry)) at (cells «no» a b c d) ⌝ }
-{
-    answers[at] = no as u64;
-    answers[at + 1] = a;
-    answers[at + 2] = b;
-    answers[at + 3] = c;
-    answers[at + 4] = d;
 }
 
 // Document 01's number and builder for an answer.
@@ -98,7 +85,7 @@ pub fn make_calls(list: &[u8], blocks: &mut [u64], keys: &mut [u8], answers: &mu
     let mut i: usize = 0;
     while i < count {
         last = make_call(list, last.next, last, blocks, keys);
-        write_cells(answers, CELLS * i, last.no, 0, 0, 0, 0);
+        Cells::number(last.no).write(answers, WIDTH * i);
         i += 1;
     }
     last

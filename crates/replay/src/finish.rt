@@ -5,7 +5,7 @@ ghost use lib.ListN.{length};
 ghost use lib.Seq.{sets};
 ghost use Rattle.builder.specs.Finish.{finishDef};
 ghost use Rattle.replay.specs.Steps.{finishedCells};
-use crate::calls::write_cells;
+use crate::cells::Cells;
 use builder::Finished;
 use builder::SSTableIndexBuilder;
 
@@ -25,11 +25,18 @@ pub fn finish_list(
 {
     match builder.finish(blocks, keys, out) {
         Finished::Written(_, total, directory) => {
-            write_cells(answers, at, 0, total as u64, directory as u64, 0, 0);
+            let cells = Cells {
+                no: 0,
+                a: total as u64,
+                b: directory as u64,
+                c: 0,
+                d: 0,
+            };
+            cells.write(answers, at);
             total
         }
         Finished::Unwritten(no, _) => {
-            write_cells(answers, at, no, 0, 0, 0, 0);
+            Cells::number(no).write(answers, at);
             0
         }
     }

@@ -10,15 +10,15 @@ pub const ADD: u8 = 0;
 
 const SHORTEN: u8 = 1;
 
-const BY_ID: u8 = 2;
+pub const BY_ID: u8 = 2;
 
-const BY_ORDINAL: u8 = 3;
+pub const BY_ORDINAL: u8 = 3;
 
-const BY_KEY: u8 = 4;
+pub const BY_KEY: u8 = 4;
 
-const ADDRESS_BY_KEY: u8 = 5;
+pub const ADDRESS_BY_KEY: u8 = 5;
 
-const SEPARATOR: u8 = 6;
+pub const SEPARATOR: u8 = 6;
 
 const MARK: u8 = 7;
 

@@ -1,7 +1,10 @@
 -- `replay::calls::make_calls` meets its contract: the calls left, made on what the last one left, leave and answer what all calls do.
-use Prim.Native.Nat.{_+_, _-_, _*_, _≤_}
+use Prim.Native.Nat.{_+_, _-_, _*_, _≤_, _<_}
 use native.Mathlib.Omega.{arith}
+use mathlib.Core.Path.{ap, _∙_}
 use lib.ListN.{length}
+use lib.Seq.{sets}
+use Rattle.replay.specs.Format.{callLen}
 use Rattle.replay.proofs.Items.{list-ok}
 use Rattle.replay.proofs.Turns.{Left, left-start, next-there, left-turn, left-none}
 use borrow.Author.Needs.{needs}
@@ -15,7 +18,13 @@ Inv-loop list blocks₀ keys₀ answers₀ count last₀ i₀ blocks keys answer
 abbrev μ-loop : tie.MeasureT-loop
 μ-loop list blocks₀ keys₀ answers₀ count last₀ i₀ blocks keys answers last i = count - i
 
--- the call's five numbers have room
+-- the next call is there
+there : (c : tie.In-loop Inv-loop μ-loop) → 0 < callLen (c .before .before .before .before .before .before .before .args .list .now) (c .before .loop .last .next)
+there c =
+    let s = c .before .before .before .before .before .before .before in
+    next-there _ _ _ _ _ _ _ _ _ _ (c .before .loop .inv) (list-ok (s .args .list .now) (s .pre .0) .calls-there) (c .loop-test .taken)
+
+-- its five numbers have room
 room : (c : tie.In-loop Inv-loop μ-loop) → 5 * c .before .loop .i + 5 ≤ length (c .before .loop .answers)
 room c =
     let s = c .before .before .before .before .before .before .before in
@@ -28,16 +37,16 @@ loop-holds : tie.Need-loop-holds Inv-loop μ-loop
 loop-holds c = left-start _ _ _ _ _ (c .call-count .ensures .0)
 
 make-call-requires : tie.Need-make-call-requires Inv-loop μ-loop
-make-call-requires c κs =
-    let t = c .before .before in
-    let s = t .before .before .before .before .before .before .before in
-    next-there _ _ _ _ _ _ _ _ _ _ (t .before .loop .inv) (list-ok (s .args .list .now) (s .pre .0) .calls-there) (t .loop-test .taken)
+make-call-requires c κs = there (c .before .before)
 
-mul-write-cells : tie.Need-mul-write-cells Inv-loop μ-loop
-mul-write-cells c = omega (arith, room (c .before .before .before .before .before .before .before .before))
+number-requires : tie.Need-number-requires Inv-loop μ-loop
+number-requires c κs = search needs
 
-write-cells-requires : tie.Need-write-cells-requires Inv-loop μ-loop
-write-cells-requires c κs = omega (arith, room (c .before .before .before .before .before .before .before .before))
+mul-write : tie.Need-mul-write Inv-loop μ-loop
+mul-write c = omega (arith, room (c .before .before .before .before .before .before .before .before .before))
+
+write-requires : tie.Need-write-requires Inv-loop μ-loop
+write-requires c κs = omega (arith, room (c .before .before .before .before .before .before .before .before .before))
 
 add-i : tie.Need-add-i Inv-loop μ-loop
 add-i c = search needs
@@ -47,12 +56,10 @@ loop-less c = search needs
 
 loop-again : tie.Need-loop-again Inv-loop μ-loop
 loop-again c =
-    let m = c .before .before .before .before .before .before .before .before in
+    let m = c .before .before .before .before .before .before .before .before .before in
     let t = m .before .before .before in
-    let s = t .before .before .before .before .before .before .before in
     left-turn _ _ _ _ _ _ _ _ _ _ (t .before .loop .inv) (t .loop-test .taken) (m .make-call .result) _ _ _ (m .make-call .ensures .0) (m .make-call .ensures .1)
-    (next-there _ _ _ _ _ _ _ _ _ _ (t .before .loop .inv) (list-ok (s .args .list .now) (s .pre .0) .calls-there) (t .loop-test .taken))
-    (c .before .before .write-cells .ensures) (m .make-call .kept .1 .1 .1 .0) (m .make-call .kept .1 .1 .1 .1 .0)
+    (there t) (c .before .before .write .ensures ∙ ap (sets (t .before .loop .answers) (5 * t .before .loop .i)) (c .before .before .before .before .number .ensures)) (m .make-call .kept .1 .1 .1 .0) (m .make-call .kept .1 .1 .1 .1 .0)
 
 same-length : tie.Need-same-length Inv-loop μ-loop
 same-length c = search needs
@@ -75,8 +82,9 @@ make-calls-spec =
     call-count-requires
     loop-holds
     make-call-requires
-    mul-write-cells
-    write-cells-requires
+    number-requires
+    mul-write
+    write-requires
     add-i
     loop-less
     loop-again

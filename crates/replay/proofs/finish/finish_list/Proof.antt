@@ -20,14 +20,17 @@ finish-requires c κs = search needs
 enum-known-total : tie.Need-enum-known-total
 enum-known-total c = search needs
 
-write-cells-requires : tie.Need-write-cells-requires
-write-cells-requires c κs = search needs
+write-requires : tie.Need-write-requires
+write-requires c κs = search needs
 
 enum-known-no : tie.Need-enum-known-no
 enum-known-no c = search needs
 
-write-cells-requires-2 : tie.Need-write-cells-requires-2
-write-cells-requires-2 c κs = search needs
+number-requires : tie.Need-number-requires
+number-requires c κs = search needs
+
+write-requires-2 : tie.Need-write-requires-2
+write-requires-2 c κs = search needs
 
 same-length : tie.Need-same-length
 same-length c = search needs
@@ -37,9 +40,8 @@ same-length-2 c = search needs
 
 returns : tie.Need-returns
 returns c =
-    let f = c .before .before .before .before .before .before .before .before .before .finish in
     let a = c .before .before .before .before .before .before .before .before .before .before .before .before .before .before .before .args in
-    told _ _ (a .answers .now) _ (a .at) (rw (c .before .before .before .before .before .total .given .1) at (f .ensures)) (c .before .before .write-cells .ensures)
+    told _ _ (a .answers .now) _ (a .at) (rw (c .before .before .before .before .before .total .given .1) at (c .before .before .before .before .before .before .before .before .before .finish .ensures)) (c .before .before .write .ensures)
 
 same-length-3 : tie.Need-same-length-3
 same-length-3 c = search needs
@@ -49,9 +51,8 @@ same-length-4 c = search needs
 
 returns-2 : tie.Need-returns-2
 returns-2 c =
-    let f = c .before .before .before .before .before .before .before .before .before .finish in
-    let a = c .before .before .before .before .before .before .before .before .before .before .before .before .before .before .before .args in
-    told _ _ (a .answers .now) _ (a .at) (rw (c .before .before .before .before .before .no .given .1) at (f .ensures)) (c .before .before .write-cells2 .ensures)
+    let a = c .before .before .before .before .before .before .before .before .before .before .before .before .before .before .before .before .args in
+    told _ _ (a .answers .now) _ (a .at) (rw (c .before .before .before .before .before .before .no .given .1) at (c .before .before .before .before .before .before .before .before .before .before .finish .ensures)) (c .before .before .write2 .ensures ∙ ap (sets (a .answers .now) (a .at)) (c .before .before .before .before .number .ensures))
 
 pub finish-list-spec : {M : Type 1} → statement M
 finish-list-spec =
@@ -59,9 +60,10 @@ finish-list-spec =
     (tie.spec
     finish-requires
     enum-known-total
-    write-cells-requires
+    write-requires
     enum-known-no
-    write-cells-requires-2
+    number-requires
+    write-requires-2
     same-length
     same-length-2
     returns

@@ -1,10 +1,13 @@
--- `replay::calls::write_cells` meets its contract: five stores are one run.
+-- `replay::cells::Cells::write` meets its contract: five stores are one run.
 use native.Mathlib.Numerals.{towards-suc}
 use native.Mathlib.Omega.{arith}
 use lib.ListN.{length-set}
 use borrow.Author.Needs.{needs}
-use Rattle.replay.proofs.calls.write_cells.Statement.{statement}
-use Rattle.replay.proofs.calls.write_cells.Tie as tie
+use Rattle.replay.proofs.cells.Cells.write.Statement.{statement}
+use Rattle.replay.proofs.cells.Cells.write.Tie as tie
+
+cast-answers : tie.Need-cast-answers
+cast-answers c = search needs
 
 mul-answers : tie.Need-mul-answers
 mul-answers c = search needs
@@ -54,10 +57,11 @@ same-length c = search needs
 returns : tie.Need-returns
 returns c = simp towards-suc
 
-pub write-cells-spec : {M : Type 1} → statement M
-write-cells-spec =
+pub write-spec : {M : Type 1} → statement M
+write-spec =
     tie.close
     (tie.spec
+    cast-answers
     mul-answers
     slice-write-answers
     add-answers
