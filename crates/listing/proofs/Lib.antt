@@ -1,3 +1,5 @@
+pub mod ListedOpened
+pub mod ListedOnce
 pub mod Outside
 pub mod Rows
 pub mod Turns

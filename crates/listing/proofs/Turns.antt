@@ -8,9 +8,8 @@ use native.Mathlib.Nat.{add-zero, zero-add, add-suc, suc-add, add-assoc}
 use native.Mathlib.Omega.{arith}
 use lib.Dec.{ltb, eqb}
 use borrow.Author.Tests.{lt-ltb}
-use lib.ListN.{length, getD, set, length-append, List·getD-append}
+use lib.ListN.{length, set, length-append, List·getD-append}
 use lib.Seq.{sets, length-sets, getD-at}
-use Rattle.automaton.specs.Bits.{Exactly}
 use Rattle.automaton.proofs.Exact.{same-or}
 use Rattle.pruning.specs.Interval.{startOf, Marked}
 use Rattle.listing.specs.Marks.{startAt, Mark, Marks, ones}
