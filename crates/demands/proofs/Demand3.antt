@@ -1,17 +1,17 @@
 -- Demand 3: the calls' answers are the plain machine's; a finish that isn't refused writes the entries' index; it opens, and the blocks are found there.
 use Prim.Native.Nat.{ℕ, zero, suc, _+_, _≤_, _<_}
 use mathlib.Core.Path.{_≡_, refl, sym, ap, subst, _∙_}
-use mathlib.Core.List.{List}
+use mathlib.Core.List.{List, []}
 use native.Mathlib.Nat.{zero-add}
 use native.Mathlib.Omega.{arith}
 use lib.Dec.{eqb}
-use lib.ListN.{length, drop}
+use lib.ListN.{length, getD, drop}
 use lib.Seq.{sets-eq, drop-append-seam}
 use borrow.Author.Tests.{eqb-true, eqb-false}
 use Rattle.keys.proofs.Order.{by-test}
 use Rattle.builder.specs.declared.SSTableIndexBuilder.{SSTableIndexBuilder}
 use Rattle.builder.specs.Calls.{After}
-use Rattle.builder.specs.Plain.{Call, runEnd}
+use Rattle.builder.specs.Plain.{Call, roomsOf, plainNumbers, runNumbers, runEnd}
 use Rattle.builder.specs.Finish.{Finish, indexOf, finishNo, finishStep, finishDef}
 use Rattle.builder.proofs.Machine.{fresh-not-one}
 use Rattle.builder.proofs.Rules.{run-rules}
@@ -19,6 +19,7 @@ use Rattle.builder.proofs.Finishing.{Finishes as Leaves, finishNumber, TooShort
 use Rattle.index.specs.Opening.{Opens, openedOf}
 use Rattle.demands.specs.Demand3.{Finds, finished, entries, Finishes, index, Demand3}
 use Rattle.demands.proofs.Found.{entries-open, found}
+use Rattle.demands.proofs.Numbers.{numbers-le}
 
 -- a finish answers the number of its rows
 step-number : (k : ℕ) (b : SSTableIndexBuilder) (B K out : List ℕ) → finishStep k b B K out .no ≡ k
@@ -79,14 +80,22 @@ module _ (cs : List Call) (fresh : After) (out : List ℕ) (none : fresh .builde
       let both = run-rules cs fresh none in
       subst (λ (f : List ℕ). Finds (entries cs fresh) f (openedOf f)) (sym (laid-out h)) (found (entries cs fresh) (both .1) (both .0 .rep .few) (h .two))
 
+-- a call answers at most 7
+never-eight : (cs : List Call) (fresh : After) → fresh .builder .n ≡ 0 → (i : ℕ) → getD (runNumbers cs fresh) i 0 ≡ 8 → ⊥
+never-eight cs fresh none i e =
+    let same : getD (runNumbers cs fresh) i 0 ≡ getD (plainNumbers (roomsOf fresh) cs []) i 0 = ap (λ (ns : List ℕ). getD ns i 0) (run-rules cs fresh none .0 .numbers) in
+    omega (arith, numbers-le (roomsOf fresh) cs [] i)
+
 pub demand-3 : (cs : List Call) (fresh : After) (out : List ℕ) → fresh .builder .n ≡ 0 → Demand3 cs fresh out
 demand-3 cs fresh out none = record {
   answers = run-rules cs fresh none .0 .numbers;
   never-1 = fresh-not-one cs fresh none;
+  never-8 = never-eight cs fresh none;
   finish-never-1 = only-nine cs fresh out none 1 (λ e. omega arith) (λ e. omega arith);
   finish-never-8 = only-nine cs fresh out none 8 (λ e. omega arith) (λ e. omega arith);
   refused = refused cs fresh out none;
   row-9 = λ some short. nine cs fresh out none (record { some = some; short = short });
+  total = total-is cs fresh out none;
   laid-out = laid-out cs fresh out none;
   behind = behind cs fresh out none;
   opens = opens cs fresh out none;

@@ -16,14 +16,16 @@ use Rattle.index.specs.Parts.{blockIn, separatorIn}
 use Rattle.index.specs.Opening.{Opens, openedOf}
 use Rattle.index.proofs.WrittenIndex.{IndexOk, index-blocks, index-block, index-separator}
 use Rattle.index.proofs.IndexOpens.{index-opens}
-use Rattle.index.proofs.OpenFacts.{OpenFacts, opens-facts}
+use Rattle.index.proofs.OpenFacts.{OpenFacts}
 use Rattle.index.proofs.LookupLaws.{place-separator}
 use Rattle.index.proofs.Places.{place-unknown}
 use Rattle.automaton.specs.Table.{tableNo}
 use Rattle.listing.specs.Listing.{separatorAt, Listing, Leaves}
+use Rattle.listing.proofs.Rows.{none-refused}
+use Rattle.listing.proofs.ListedOnce.{listing-same}
+use Rattle.listing.proofs.ListedOpened.{opened-passes, opened-inside, opened-separator, list-facts}
 use Rattle.demands.specs.Demand3.{block, separator, GetBlockForAutomaton, Finds}
-use Rattle.demands.proofs.Same.{same-by-id, same-by-ord, same-by-key, same-addr-by-key, same-listing}
-use Rattle.demands.proofs.Listed.{listing-accepted, separator-read}
+use Rattle.demands.proofs.Same.{same-by-id, same-by-ord, same-by-key, same-addr-by-key}
 
 accepted-leaves : (t : List ℕ) (separator : ℕ → List ℕ) (n : ℕ) (marks written : List ℕ) (k count : ℕ) → k ≡ 0
     → Leaves t separator n marks written k count → Listing t separator n marks written count
@@ -53,7 +55,7 @@ module _ (es : List Entry) (ok : EntriesOk es) (few : length es ≤ 65536) (two 
   entries-open = index-opens index-ok
 
   facts : OpenFacts 128 (indexOf es) opened
-  facts = opens-facts 128 (indexOf es) opened (record { some = omega arith; few = omega arith }) entries-open
+  facts = list-facts (indexOf es) opened entries-open
 
   count-is : opened .n ≡ length es
   count-is = facts .count ∙ index-blocks index-ok ∙ blocks-long
@@ -67,11 +69,11 @@ module _ (es : List Entry) (ok : EntriesOk es) (few : length es ≤ 65536) (two 
   found-listing : (t marks written : List ℕ) (k count : ℕ) → tableNo t ≡ 0 → length es ≤ length marks
       → GetBlockForAutomaton (indexOf es) opened t marks written k count → (k ≡ 0) × Listing t (separator es) (length es) marks written count
   found-listing t marks written k count table fits g =
-      let none : k ≡ 0 = g .0 ∙ listing-accepted 128 (indexOf es) opened facts t (length marks) table (omega (arith, count-is)) in
+      let none : k ≡ 0 = g .0 ∙ none-refused 128 opened (indexOf es) t (length marks) (opened-passes facts) (opened-inside facts) table (omega (arith, count-is)) in
       let listed = accepted-leaves t (separatorAt opened (indexOf es)) (opened .n) marks written k count none (g .1) in (
         none,
-        same-listing (separatorAt opened (indexOf es)) (separator es) (length es)
-            (λ i h. separator-read 128 (indexOf es) opened facts i ∙ separator-is i h) t marks written count
+        listing-same t (separatorAt opened (indexOf es)) (separator es) (length es)
+            (λ i h. opened-separator facts i ∙ separator-is i h) marks written count
             (subst (λ (n : ℕ). Listing t (separatorAt opened (indexOf es)) n marks written count) count-is listed),
       )
 

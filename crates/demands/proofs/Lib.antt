@@ -1,6 +1,7 @@
+mod Numbers
 pub mod Same
-pub mod Listed
 pub mod Found
 pub mod Demand3
 pub mod Automata
 pub mod ThreeAdds
+pub mod Worked

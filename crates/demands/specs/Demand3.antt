@@ -86,6 +86,7 @@ pub record Demand3 (cs : List Call) (fresh : After) (out : List ℕ) : Type 0 wh
   pub answers : runNumbers cs fresh ≡ plainNumbers (roomsOf fresh) cs []
   -- such lists and their finish never hit 1 or 8
   pub never-1 : (i : ℕ) → getD (runNumbers cs fresh) i 0 ≡ 1 → ⊥
+  pub never-8 : (i : ℕ) → getD (runNumbers cs fresh) i 0 ≡ 8 → ⊥
   pub finish-never-1 : finished cs fresh out .no ≡ 1 → ⊥
   pub finish-never-8 : finished cs fresh out .no ≡ 8 → ⊥
   -- finish is refused exactly when row 9 holds: there is an index, and the output is shorter
@@ -93,6 +94,7 @@ pub record Demand3 (cs : List Call) (fresh : After) (out : List ℕ) : Type 0 wh
       → (finished cs fresh out .no ≡ 9) × (2 ≤ length (entries cs fresh)) × (length out < length (indexOf (entries cs fresh)))
   pub row-9 : 2 ≤ length (entries cs fresh) → length out < length (indexOf (entries cs fresh)) → finished cs fresh out .no ≡ 9
   -- the index is laid out from those blocks and separators, and the bytes behind it stay
+  pub total : Finishes cs fresh out → finished cs fresh out .total ≡ length (indexOf (entries cs fresh))
   pub laid-out : Finishes cs fresh out → index cs fresh out ≡ indexOf (entries cs fresh)
   pub behind : Finishes cs fresh out → drop (finished cs fresh out .total) (finished cs fresh out .out) ≡ drop (finished cs fresh out .total) out
   -- opened alone it opens, and there the blocks are found
