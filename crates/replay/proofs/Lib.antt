@@ -4,3 +4,5 @@ pub mod Entries
 pub mod Answers
 pub mod Tags
 pub mod Asking
+pub mod Opening
+pub mod Whole
