@@ -1,0 +1,101 @@
+-- A list of calls and questions in bytes: how many calls and how many questions (4 and 4), the calls, the questions.
+-- Each begins with its tag. Numbers are little-endian; a byte string is its length (4) and its bytes.
+--     0 add        start 8, end 8, first ordinal 8, key
+--     1 shorten    next key
+--     2 id 8       3 ordinal 8       4 key       5 key, with its address       6 separator of an id 8
+--     7 mark       block 8, automaton
+use Prim.Native.Nat.{ℕ, zero, suc, _+_}
+use mathlib.Core.List.{List, [], _∷_}
+use mathlib.Core.Bool.{Bool, not, _||_, cond}
+use lib.Dec.{eqb, ltb, leb}
+use lib.ListN.{length, getD, take, drop}
+use Rattle.serialize.specs.Digits.{leVal}
+use Rattle.builder.specs.Plain.{Call, add, shortenLast}
+
+-- what is asked of the finished index
+pub data Question : Type 0 where
+  byId : ℕ → Question
+  byOrdinal : ℕ → Question
+  byKey : List ℕ → Question
+  addressByKey : List ℕ → Question
+  separatorOf : ℕ → Question
+  markOf : ℕ → List ℕ → Question
+
+abbrev pub tagAt : List ℕ → ℕ → ℕ
+tagAt s at = getD s at 0
+
+-- the number of the w bytes from `at` on
+abbrev pub numberAt : List ℕ → ℕ → ℕ → ℕ
+numberAt s w at = leVal (take w (drop at s))
+
+abbrev pub stringLen : List ℕ → ℕ → ℕ
+stringLen s at = numberAt s 4 at
+
+abbrev pub stringAt : List ℕ → ℕ → List ℕ
+stringAt s at = take (stringLen s at) (drop (at + 4) s)
+
+-- `len` where it is inside the list, else 0
+abbrev pub within : List ℕ → ℕ → ℕ → ℕ
+within s at len = cond (ltb (length s) (at + len)) 0 len
+
+-- how many bytes the call at `at` takes; 0 where there is none
+unfoldable pub callLen : List ℕ → ℕ → ℕ
+callLen s at =
+    cond (leb (length s) at) 0
+    (cond (eqb (tagAt s at) 0) (within s at (29 + stringLen s (at + 25)))
+    (cond (eqb (tagAt s at) 1) (within s at (5 + stringLen s (at + 1))) 0))
+
+unfoldable pub callAt : List ℕ → ℕ → Call
+callAt s at =
+    cond (eqb (tagAt s at) 0)
+    (add (stringAt s (at + 25)) (record { start = numberAt s 8 (at + 1); end = numberAt s 8 (at + 9); «first_ordinal» = numberAt s 8 (at + 17) }))
+    (shortenLast (stringAt s (at + 1)))
+
+-- how many bytes the question at `at` takes; 0 where there is none
+unfoldable pub questionLen : List ℕ → ℕ → ℕ
+questionLen s at =
+    cond (leb (length s) at) 0
+    (cond (eqb (tagAt s at) 2 || (eqb (tagAt s at) 3 || eqb (tagAt s at) 6)) (within s at 9)
+    (cond (eqb (tagAt s at) 4 || eqb (tagAt s at) 5) (within s at (5 + stringLen s (at + 1)))
+    (cond (eqb (tagAt s at) 7) (within s at (13 + stringLen s (at + 9))) 0)))
+
+unfoldable pub questionAt : List ℕ → ℕ → Question
+questionAt s at =
+    cond (eqb (tagAt s at) 2) (byId (numberAt s 8 (at + 1)))
+    (cond (eqb (tagAt s at) 3) (byOrdinal (numberAt s 8 (at + 1)))
+    (cond (eqb (tagAt s at) 4) (byKey (stringAt s (at + 1)))
+    (cond (eqb (tagAt s at) 5) (addressByKey (stringAt s (at + 1)))
+    (cond (eqb (tagAt s at) 6) (separatorOf (numberAt s 8 (at + 1)))
+    (markOf (numberAt s 8 (at + 1)) (stringAt s (at + 9)))))))
+
+-- behind k items from `at` on, whose lengths are given by their places; 0 where one of them isn't there
+unfoldable pub behind : (ℕ → ℕ) → ℕ → ℕ → ℕ
+behind len at zero = at
+behind len at (suc k) = cond (eqb (len at) 0) 0 (behind len (at + len at) k)
+
+-- the k items from `at` on
+unfoldable pub items : {X : Type 0} → (ℕ → ℕ) → (ℕ → X) → ℕ → ℕ → List X
+items len item at zero = []
+items len item at (suc k) = item at ∷ items len item (at + len at) k
+
+-- how many calls and questions, where the questions begin and where they end
+abbrev pub callCount : List ℕ → ℕ
+callCount s = numberAt s 4 0
+
+abbrev pub questionCount : List ℕ → ℕ
+questionCount s = numberAt s 4 4
+
+abbrev pub questionsFrom : List ℕ → ℕ
+questionsFrom s = behind (callLen s) 8 (callCount s)
+
+unfoldable pub calls : List ℕ → List Call
+calls s = items (callLen s) (callAt s) 8 (callCount s)
+
+unfoldable pub questions : List ℕ → List Question
+questions s = items (questionLen s) (questionAt s) (questionsFrom s) (questionCount s)
+
+-- the bytes aren't such a list: too short, an item that isn't there, or bytes behind the last
+unfoldable pub listBad : List ℕ → Bool
+listBad s =
+    ltb (length s) 8
+    || (eqb (questionsFrom s) 0 || not (eqb (behind (questionLen s) (questionsFrom s) (questionCount s)) (length s)))

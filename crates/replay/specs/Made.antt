@@ -1,0 +1,62 @@
+-- What a list's calls and the finish behind them answer and leave, from document 01's plain machine and its entries.
+use Prim.Native.Nat.{ℕ}
+use mathlib.Core.List.{List, [], _∷_, _++_}
+use mathlib.Core.Bool.{Bool, _||_, cond}
+use lib.Dec.{ltb}
+use lib.ListN.{length, getD}
+use lib.Seq.{sets}
+use Rattle.slope.specs.Slope.{bestSlope}
+use Rattle.group.specs.declared.BlockAddr.{BlockAddr}
+use Rattle.group.specs.Blocks.{blockOf}
+use Rattle.directory.specs.Directory.{directoryBytes}
+use Rattle.builder.specs.Calls.{After}
+use Rattle.builder.specs.Plain.{Entry, Rooms, plainEnd, blocksOf, separatorsOf}
+use Rattle.builder.specs.Index.{indexBytes}
+use Rattle.replay.specs.Format.{calls}
+
+-- an answer is five numbers
+abbrev pub cells : ℕ → ℕ → ℕ → ℕ → ℕ → List ℕ
+cells k a b c d = k ∷ a ∷ b ∷ c ∷ d ∷ []
+
+-- a call's is its number
+unfoldable pub callCells : List ℕ → List ℕ
+callCells [] = []
+callCells (k ∷ ks) = cells k 0 0 0 0 ++ callCells ks
+
+-- a fresh builder with the lent areas, and the machine's entries behind the list's calls
+abbrev pub freshOf : List ℕ → List ℕ → After
+freshOf B K = record { no = 0; builder = record { n = 0 }; blocks = B; keys = K }
+
+abbrev pub roomsIn : List ℕ → List ℕ → Rooms
+roomsIn B K = record { blocks = length B; keys = length K }
+
+abbrev pub entriesOf : List ℕ → List ℕ → List ℕ → List Entry
+entriesOf s B K = plainEnd (roomsIn B K) (calls s) []
+
+-- block i and separator i of entries
+abbrev pub entryBlock : List Entry → ℕ → BlockAddr
+entryBlock es i = blockOf (blocksOf es) i
+
+abbrev pub entryKey : List Entry → ℕ → List ℕ
+entryKey es i = getD (separatorsOf es) i []
+
+-- the index of entries and its directory; there is none of 0 or 1
+unfoldable pub entriesIndex : List Entry → List ℕ
+entriesIndex es = cond (ltb (length es) 2) [] (indexBytes bestSlope 128 (blocksOf es) (separatorsOf es))
+
+unfoldable pub entriesDirectory : List Entry → List ℕ
+entriesDirectory es = cond (ltb (length es) 2) [] (directoryBytes (separatorsOf es))
+
+-- finish is refused exactly when row 9 holds: its number, total and directory length, and the output that it leaves
+abbrev pub isShort : List Entry → List ℕ → Bool
+isShort es out = ltb (length out) (length (entriesIndex es))
+
+unfoldable pub finishCells : List Entry → List ℕ → List ℕ
+finishCells es out = cond (isShort es out) (cells 9 0 0 0 0) (cells 0 (length (entriesIndex es)) (length (entriesDirectory es)) 0 0)
+
+unfoldable pub finishOut : List Entry → List ℕ → List ℕ
+finishOut es out = cond (isShort es out) out (sets out 0 (entriesIndex es))
+
+-- the first total bytes opened alone: no bytes get 10
+unfoldable pub openNumber : List Entry → List ℕ → ℕ
+openNumber es out = cond (ltb (length es) 2 || isShort es out) 10 0
