@@ -129,7 +129,6 @@ fn rooms(patterns: &mut Patterns, rng: &mut Numbers) {
 /// Records that don't belong to the file.
 pub fn left_free(patterns: &mut Patterns) {
     let taken = Table::words(&[b"c", b"f"]);
-    let refused = [&[2, 0, 2][..], &[2; 512]].concat();
     patterns.comment("left free: refused files, with the record that they would have");
     patterns.set_runs(&taken);
     let file = smallest();
@@ -161,13 +160,18 @@ pub fn left_free(patterns: &mut Patterns) {
     for record in others(right) {
         free(patterns, record);
     }
-    patterns.comment("left free: the same with an automaton that is refused");
-    patterns.set_bytes(&refused);
-    assert_eq!(patterns.no(), 22);
-    for record in others(right) {
-        patterns.set_record(record);
-        patterns.free(256);
-        patterns.free(0);
+    patterns.comment("left free: the same with automata that are refused");
+    let one = Table::new(vec![1], vec![0; 256]).bytes();
+    let (mut flag, mut next) = (one.clone(), one);
+    flag[1] = 2;
+    next[257] = 1;
+    for (bytes, no) in [(vec![], 21), (flag, 22), (next, 23)] {
+        patterns.set_bytes(&bytes);
+        assert_eq!(patterns.no(), no);
+        for record in others(right) {
+            patterns.set_record(record);
+            patterns.free(256);
+        }
     }
     patterns.comment("their own record again");
     patterns.set_record(right);

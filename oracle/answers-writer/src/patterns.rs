@@ -173,10 +173,9 @@ impl Patterns {
         if lent < room(interval) {
             hits.push((24, "room"));
         }
-        if let Some(table) = &self.table {
-            if !mark(table, interval) {
-                hits.push((25, "no string"));
-            }
+        let table = self.table.as_ref();
+        if table.is_some_and(|table| !mark(table, interval)) {
+            hits.push((25, "no string"));
         }
         let no = number(&hits);
         let line = format!("e {} {lent} {no}", keys(interval, absent));

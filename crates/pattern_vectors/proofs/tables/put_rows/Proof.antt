@@ -1,4 +1,4 @@
--- `pattern_vectors::tables::put_rows` is safe and ends: a row begins below 2^16 times the count of rows so far and one.
+-- `pattern_vectors::tables::put_rows` is safe and ends: a row begins at no more than 2^16 times the count of rows so far and one.
 use Prim.Native.Nat.{_≤_, _-_, _+_, _*_, _^_}
 use mathlib.Core.Path.{_≡_}
 use lib.ListN.{length}
