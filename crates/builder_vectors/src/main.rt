@@ -10,45 +10,18 @@ use cases::State;
 use libc::STDIN_FILENO;
 use libc::STDOUT_FILENO;
 use vectors::Line;
+use vectors::tally;
+use vectors::tally::ROWS;
+use vectors::tally::Tally;
 
-// How many cases were compared, and how many of them differ.
-struct Tally {
-    compared: u64,
-    differ: u64,
-}
-
-// One more, up to the largest number.
-fn more(n: u64) -> u64 {
-    if n < u64::MAX { n + 1 } else { n }
-}
-
-impl Tally {
-    fn with(self, same: bool) -> Tally {
-        let compared = more(self.compared);
-        if same {
-            Tally {
-                compared,
-                differ: self.differ,
-            }
-        } else {
-            Tally {
-                compared,
-                differ: more(self.differ),
-            }
-        }
-    }
-}
-
-// The kind's row among the tallies; 4 where there is no such kind.
-fn row_of(kind: u8) -> usize
-    ensures { λ r. ⌜ r ≤ 4 ⌝ }
-{
+// The kind's row among the tallies; ROWS where it has none.
+fn row_of(kind: u8) -> usize {
     match kind {
         b'a' | b'm' => 0,
         b'k' => 1,
         b'e' => 2,
         b'f' | b'h' => 3,
-        _ => 4,
+        _ => ROWS,
     }
 }
 
@@ -124,20 +97,12 @@ fn step(
     }
 }
 
-// The tallies with one line more: a row for each kind, and behind them all.
-fn counted(tallies: [Tally; 5], kind: u8, is_same: bool) -> [Tally; 5] {
-    let mut rows = tallies;
-    if !is_compared(kind, is_same) {
-        return rows;
+fn counted(tallies: [Tally; ROWS], kind: u8, same: bool) -> [Tally; ROWS] {
+    if is_compared(kind, same) {
+        tally::counted(tallies, row_of(kind), same)
+    } else {
+        tallies
     }
-    let row = row_of(kind);
-    if row < 4 {
-        let tally = rows[row];
-        rows[row] = tally.with(is_same);
-    }
-    let all = rows[4];
-    rows[4] = all.with(is_same);
-    rows
 }
 
 // What the line at `at` leaves, its kind, and where the next one begins.
@@ -181,12 +146,8 @@ fn replay(
     spans: &mut [usize],
     blocks: &mut [u64],
     keys: &mut [u8],
-) -> [Tally; 5] {
-    let none = Tally {
-        compared: 0,
-        differ: 0,
-    };
-    let mut tallies = [none; 5];
+) -> [Tally; ROWS] {
+    let mut tallies = tally::none();
     let mut state = State {
         n: 0,
         blocks: 0,
@@ -204,25 +165,12 @@ fn replay(
     tallies
 }
 
-fn print_tally(tally: Tally) {
-    io::print_decimal(STDOUT_FILENO, tally.compared);
-    io::write_all(STDOUT_FILENO, b" compared, ");
-    io::print_decimal(STDOUT_FILENO, tally.differ);
-    io::write_all(STDOUT_FILENO, b" differ\n");
-}
-
-fn print_row(name: &[u8], tally: Tally) {
-    io::write_all(STDOUT_FILENO, name);
-    io::write_all(STDOUT_FILENO, b": ");
-    print_tally(tally);
-}
-
-fn print_all(tallies: [Tally; 5]) {
-    print_row(b"adds", tallies[0]);
-    print_row(b"shortens", tallies[1]);
-    print_row(b"states", tallies[2]);
-    print_row(b"finishes", tallies[3]);
-    print_tally(tallies[4]);
+fn print_tallies(tallies: [Tally; ROWS]) {
+    tally::print_row(b"adds", tallies, 0);
+    tally::print_row(b"shortens", tallies, 1);
+    tally::print_row(b"states", tallies, 2);
+    tally::print_row(b"finishes", tallies, 3);
+    tally::print_all(tallies);
 }
 
 fn main() {
@@ -237,7 +185,7 @@ fn main() {
     let mut spans = [0usize; 16];
     let mut blocks = [0u64; 1024];
     let mut keys = [0u8; 4096];
-    print_all(replay(
+    print_tallies(replay(
         &text[0..n],
         &mut numbers,
         &mut bytes,

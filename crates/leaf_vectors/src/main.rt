@@ -7,39 +7,12 @@ ghost use lib.ListN.{length};
 use libc::STDIN_FILENO;
 use libc::STDOUT_FILENO;
 use vectors::Line;
+use vectors::tally;
+use vectors::tally::ROWS;
+use vectors::tally::Tally;
 
-// How many cases were compared, and how many of them differ.
-struct Tally {
-    compared: u64,
-    differ: u64,
-}
-
-// One more, up to the largest number.
-fn more(n: u64) -> u64 {
-    if n < u64::MAX { n + 1 } else { n }
-}
-
-impl Tally {
-    fn with(self, same: bool) -> Tally {
-        let compared = more(self.compared);
-        if same {
-            Tally {
-                compared,
-                differ: self.differ,
-            }
-        } else {
-            Tally {
-                compared,
-                differ: more(self.differ),
-            }
-        }
-    }
-}
-
-// The kind's row among the tallies; 8 where there is no such kind.
-fn row_of(kind: u8) -> usize
-    ensures { λ r. ⌜ r ≤ 8 ⌝ }
-{
+// The kind's row among the tallies; ROWS where it has none.
+fn row_of(kind: u8) -> usize {
     match kind {
         b'n' => 0,
         b'l' => 1,
@@ -49,7 +22,7 @@ fn row_of(kind: u8) -> usize
         b'g' => 5,
         b's' => 6,
         b'c' => 7,
-        _ => 8,
+        _ => ROWS,
     }
 }
 
@@ -93,26 +66,18 @@ fn same(line: Line, numbers: &[u64], bytes: &[u8], spans: &[usize]) -> bool
     }
 }
 
-// The tallies with one case more: a row for each kind, and behind them all cases.
-fn counted(tallies: [Tally; 9], kind: u8, is_same: bool) -> [Tally; 9] {
-    let mut rows = tallies;
-    let row = row_of(kind);
-    if row < 8 {
-        let tally = rows[row];
-        rows[row] = tally.with(is_same);
-    }
-    let all = rows[8];
-    rows[8] = all.with(is_same);
-    rows
+fn counted(tallies: [Tally; ROWS], kind: u8, is_same: bool) -> [Tally; ROWS] {
+    tally::counted(tallies, row_of(kind), is_same)
 }
 
 // The tallies of all lines of the list.
-fn replay(text: &[u8], numbers: &mut [u64], bytes: &mut [u8], spans: &mut [usize]) -> [Tally; 9] {
-    let none = Tally {
-        compared: 0,
-        differ: 0,
-    };
-    let mut tallies = [none; 9];
+fn replay(
+    text: &[u8],
+    numbers: &mut [u64],
+    bytes: &mut [u8],
+    spans: &mut [usize],
+) -> [Tally; ROWS] {
+    let mut tallies = tally::none();
     let mut at: usize = 0;
     while at < text.len() {
         let line = vectors::parse(text, at, numbers, bytes, spans);
@@ -126,29 +91,16 @@ fn replay(text: &[u8], numbers: &mut [u64], bytes: &mut [u8], spans: &mut [usize
     tallies
 }
 
-fn print_tally(tally: Tally) {
-    io::print_decimal(STDOUT_FILENO, tally.compared);
-    io::write_all(STDOUT_FILENO, b" compared, ");
-    io::print_decimal(STDOUT_FILENO, tally.differ);
-    io::write_all(STDOUT_FILENO, b" differ\n");
-}
-
-fn print_row(name: &[u8], tally: Tally) {
-    io::write_all(STDOUT_FILENO, name);
-    io::write_all(STDOUT_FILENO, b": ");
-    print_tally(tally);
-}
-
-fn print_all(tallies: [Tally; 9]) {
-    print_row(b"widths", tallies[0]);
-    print_row(b"numbers", tallies[1]);
-    print_row(b"slopes", tallies[2]);
-    print_row(b"fields", tallies[3]);
-    print_row(b"reads", tallies[4]);
-    print_row(b"groups", tallies[5]);
-    print_row(b"shortened keys", tallies[6]);
-    print_row(b"common prefixes", tallies[7]);
-    print_tally(tallies[8]);
+fn print_tallies(tallies: [Tally; ROWS]) {
+    tally::print_row(b"widths", tallies, 0);
+    tally::print_row(b"numbers", tallies, 1);
+    tally::print_row(b"slopes", tallies, 2);
+    tally::print_row(b"fields", tallies, 3);
+    tally::print_row(b"reads", tallies, 4);
+    tally::print_row(b"groups", tallies, 5);
+    tally::print_row(b"shortened keys", tallies, 6);
+    tally::print_row(b"common prefixes", tallies, 7);
+    tally::print_all(tallies);
 }
 
 fn main() {
@@ -161,5 +113,5 @@ fn main() {
     let mut numbers = [0u64; 520];
     let mut bytes = [0u8; 8192];
     let mut spans = [0usize; 16];
-    print_all(replay(&text[..n], &mut numbers, &mut bytes, &mut spans));
+    print_tallies(replay(&text[..n], &mut numbers, &mut bytes, &mut spans));
 }

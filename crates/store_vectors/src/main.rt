@@ -8,46 +8,19 @@ ghost use lib.ListN.{length};
 use libc::STDIN_FILENO;
 use libc::STDOUT_FILENO;
 use vectors::Line;
+use vectors::tally;
+use vectors::tally::ROWS;
+use vectors::tally::Tally;
 
-// How many cases were compared, and how many of them differ.
-struct Tally {
-    compared: u64,
-    differ: u64,
-}
-
-// One more, up to the largest number.
-fn more(n: u64) -> u64 {
-    if n < u64::MAX { n + 1 } else { n }
-}
-
-impl Tally {
-    fn with(self, same: bool) -> Tally {
-        let compared = more(self.compared);
-        if same {
-            Tally {
-                compared,
-                differ: self.differ,
-            }
-        } else {
-            Tally {
-                compared,
-                differ: more(self.differ),
-            }
-        }
-    }
-}
-
-// The kind's row among the tallies; 5 where there is no such kind.
-fn row_of(kind: u8) -> usize
-    ensures { λ r. ⌜ r ≤ 5 ⌝ }
-{
+// The kind's row among the tallies; ROWS where it has none.
+fn row_of(kind: u8) -> usize {
     match kind {
         b's' => 0,
         b'h' => 1,
         b'i' => 2,
         b'u' => 3,
         b'o' => 4,
-        _ => 5,
+        _ => ROWS,
     }
 }
 
@@ -84,26 +57,18 @@ fn same(line: Line, numbers: &[u64], bytes: &[u8], spans: &[usize]) -> bool
     }
 }
 
-// The tallies with one case more: a row for each kind, and behind them all cases.
-fn counted(tallies: [Tally; 6], kind: u8, is_same: bool) -> [Tally; 6] {
-    let mut rows = tallies;
-    let row = row_of(kind);
-    if row < 5 {
-        let tally = rows[row];
-        rows[row] = tally.with(is_same);
-    }
-    let all = rows[5];
-    rows[5] = all.with(is_same);
-    rows
+fn counted(tallies: [Tally; ROWS], kind: u8, is_same: bool) -> [Tally; ROWS] {
+    tally::counted(tallies, row_of(kind), is_same)
 }
 
 // The tallies of all lines of the list.
-fn replay(text: &[u8], numbers: &mut [u64], bytes: &mut [u8], spans: &mut [usize]) -> [Tally; 6] {
-    let none = Tally {
-        compared: 0,
-        differ: 0,
-    };
-    let mut tallies = [none; 6];
+fn replay(
+    text: &[u8],
+    numbers: &mut [u64],
+    bytes: &mut [u8],
+    spans: &mut [usize],
+) -> [Tally; ROWS] {
+    let mut tallies = tally::none();
     let mut at: usize = 0;
     while at < text.len() {
         let line = vectors::parse(text, at, numbers, bytes, spans);
@@ -117,26 +82,13 @@ fn replay(text: &[u8], numbers: &mut [u64], bytes: &mut [u8], spans: &mut [usize
     tallies
 }
 
-fn print_tally(tally: Tally) {
-    io::print_decimal(STDOUT_FILENO, tally.compared);
-    io::write_all(STDOUT_FILENO, b" compared, ");
-    io::print_decimal(STDOUT_FILENO, tally.differ);
-    io::write_all(STDOUT_FILENO, b" differ\n");
-}
-
-fn print_row(name: &[u8], tally: Tally) {
-    io::write_all(STDOUT_FILENO, name);
-    io::write_all(STDOUT_FILENO, b": ");
-    print_tally(tally);
-}
-
-fn print_all(tallies: [Tally; 6]) {
-    print_row(b"stores", tallies[0]);
-    print_row(b"large stores", tallies[1]);
-    print_row(b"ids", tallies[2]);
-    print_row(b"unknown ids", tallies[3]);
-    print_row(b"ordinals", tallies[4]);
-    print_tally(tallies[5]);
+fn print_tallies(tallies: [Tally; ROWS]) {
+    tally::print_row(b"stores", tallies, 0);
+    tally::print_row(b"large stores", tallies, 1);
+    tally::print_row(b"ids", tallies, 2);
+    tally::print_row(b"unknown ids", tallies, 3);
+    tally::print_row(b"ordinals", tallies, 4);
+    tally::print_all(tallies);
 }
 
 fn main() {
@@ -149,5 +101,5 @@ fn main() {
     let mut numbers = [0u64; 256];
     let mut bytes = [0u8; 4096];
     let mut spans = [0usize; 8];
-    print_all(replay(&text[..n], &mut numbers, &mut bytes, &mut spans));
+    print_tallies(replay(&text[..n], &mut numbers, &mut bytes, &mut spans));
 }

@@ -29,7 +29,7 @@ impl Table {
     }
 
     /// A table by a rule for the next state.
-    pub fn rule(flags: Vec<u8>, rule: impl Fn(usize, usize) -> usize) -> Table {
+    pub fn rule(flags: Vec<u8>, mut rule: impl FnMut(usize, usize) -> usize) -> Table {
         let next = (0..256 * flags.len())
             .map(|i| rule(i / 256, i % 256) as u8)
             .collect();
@@ -59,23 +59,31 @@ impl Table {
         Table::new(flags, next)
     }
 
-    pub fn m(&self) -> usize {
-        self.flags.len()
+    /// Accepts all that begins with the word.
+    pub fn beginning(word: &[u8]) -> Table {
+        let mut table = Table::words(&[word]);
+        let last = word.len();
+        table.next[256 * last..256 * (last + 1)].fill(last as u8);
+        Table::new(table.flags, table.next)
     }
 
-    /// Each state's row as runs: how many, then for each its first byte and its next state.
+    /// The table of bytes that break no row.
+    pub fn read(bytes: &[u8]) -> Table {
+        let (flags, next) = bytes[1..].split_at(usize::from(bytes[0]));
+        Table::new(flags.to_vec(), next.to_vec())
+    }
+
+    /// As in the automaton's record.
+    pub fn bytes(&self) -> Vec<u8> {
+        [&[self.flags.len() as u8], &self.flags[..], &self.next].concat()
+    }
+
+    /// The next states row by row, as runs: how many less one, and the state.
     pub fn runs(&self) -> Vec<u8> {
-        let mut bytes = Vec::new();
-        for row in self.next.chunks(256) {
-            let firsts: Vec<usize> = (0..256)
-                .filter(|&b| b == 0 || row[b] != row[b - 1])
-                .collect();
-            bytes.push(u8::try_from(firsts.len()).expect("at most 255 runs"));
-            for first in firsts {
-                bytes.extend([first as u8, row[first]]);
-            }
-        }
-        bytes
+        let rows = self.next.chunks(256);
+        rows.flat_map(|row| row.chunk_by(|one, other| one == other))
+            .flat_map(|run| [(run.len() - 1) as u8, run[0]])
+            .collect()
     }
 
     /// Whether some accepted string lies above `start` and not above `end`, by a plain search.

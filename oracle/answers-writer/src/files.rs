@@ -124,12 +124,15 @@ pub fn smallest() -> File {
     file
 }
 
+pub fn keys_of_one_byte(count: usize) -> Vec<Vec<u8>> {
+    (0..count).map(|i| vec![i as u8]).collect()
+}
+
 /// A file of two groups, the second with `more` blocks, keys of one byte.
 pub fn two_group_file(more: usize) -> File {
     let count = 128 + more;
     let blocks = touching(3, &vec![2; count], 1, &vec![1; count - 1]);
-    let keys: Vec<Vec<u8>> = (0..count).map(|i| vec![i as u8]).collect();
-    File::written(&blocks, &keys)
+    File::written(&blocks, &keys_of_one_byte(count))
 }
 
 /// A fault's row, and the fault.

@@ -334,7 +334,7 @@ fn worked_case(indexes: &mut Indexes) {
 }
 
 /// Rising keys over few bytes, FF among them; the first one may be empty.
-fn rising(rng: &mut Numbers, count: u64, longest: u64) -> Vec<Vec<u8>> {
+pub fn rising(rng: &mut Numbers, count: u64, longest: u64) -> Vec<Vec<u8>> {
     let mut keys = BTreeSet::new();
     while (keys.len() as u64) < count {
         let length = rng.within(0, longest);
@@ -627,7 +627,7 @@ fn left_free(indexes: &mut Indexes) {
 }
 
 /// Records that the 85 bytes don't have.
-fn others(right: Opened) -> Vec<Opened> {
+pub fn others(right: Opened) -> Vec<Opened> {
     let mut records = Vec::new();
     for n in [
         0,

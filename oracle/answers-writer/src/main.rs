@@ -6,11 +6,14 @@ mod calls;
 mod files;
 mod foreign;
 mod indexes;
+mod intervals;
 mod leaves;
+mod listings;
 mod numbers;
 mod opening;
-mod pruning;
+mod patterns;
 mod refused;
+mod refused_tables;
 mod stores;
 mod text;
 mod worked;
@@ -27,7 +30,7 @@ fn main() {
         ("addresses.txt", addresses::list(), 200_000),
         ("calls.txt", calls::list(), 65_000),
         ("indexes.txt", indexes::list(), 350_000),
-        ("pruning.txt", pruning::list(), 200_000),
+        ("patterns.txt", patterns::list(), 262_143),
     ];
     for (name, list, most) in lists {
         fs::write(Path::new(&folder).join(name), &list).expect("the folder can be written to");

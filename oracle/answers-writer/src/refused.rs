@@ -2,7 +2,8 @@
 
 use std::collections::BTreeSet;
 
-use crate::files::{Fault, File, faults, smallest, two_group_file, worked_file};
+use crate::files::{Fault, File, faults, keys_of_one_byte, smallest, two_group_file, worked_file};
+use crate::foreign::{self, Group};
 use crate::indexes::Indexes;
 use crate::numbers::Numbers;
 use crate::stores::{self, LIMIT, touching};
@@ -14,6 +15,7 @@ pub fn files(indexes: &mut Indexes) {
     pairs(indexes);
     two_groups(indexes);
     changed_bytes(indexes);
+    one_part(indexes);
 }
 
 fn short_files(indexes: &mut Indexes) {
@@ -222,6 +224,65 @@ fn changed_bytes(indexes: &mut Indexes) {
                 changed[at] = value;
                 indexes.change(&changed);
             }
+        }
+    }
+}
+
+/// Each time one field, one key or one pair, at the ends and in the middle of groups.
+fn one_part(indexes: &mut Indexes) {
+    indexes
+        .comment("one field changed: at or below the value before it, at or above the one behind");
+    for count in [6, 130] {
+        let blocks = touching(1000, &vec![2; count], 1000, &vec![2; count - 1]);
+        let mut groups = Vec::new();
+        let mut offset = 0;
+        for blocks in blocks.chunks(128) {
+            // each field is the byte 128
+            let group = Group {
+                blocks,
+                offset,
+                range_slope: 2,
+                ord_slope: 2,
+                range_width: 8,
+                ord_width: 8,
+            };
+            offset += group.length();
+            groups.push(group);
+        }
+        let store = foreign::store(&groups, vec![0; offset]);
+        let file = File::new(&keys_of_one_byte(count), &store);
+        let mut short = file.clone();
+        short.addresses.pop();
+        assert_eq!(indexes.open(&short.bytes()), 15);
+        assert_eq!(indexes.open(&file.bytes()), 0);
+        for at in 0..offset {
+            // range and ordinal by turns
+            if count == 6 || [0, 1, 124, 125, 126, 127, 252, 253, 254, 255, 256, 257].contains(&at)
+            {
+                for value in [125, 126, 130, 131] {
+                    let mut file = file.clone();
+                    file.addresses[at] = value;
+                    indexes.change(&file.bytes());
+                }
+            }
+        }
+    }
+    indexes.comment("one key as the one before it or behind it, one pair's offset or length");
+    let count = 130;
+    let file = two_group_file(2);
+    assert_eq!(indexes.open(&file.bytes()), 0);
+    for i in [0, 1, 2, 63, 64, 65, 127, 128, 129] {
+        for value in [i as u8 - u8::from(i > 0), i as u8 + 1] {
+            let mut file = file.clone();
+            file.directory[4 + 8 * count + i] = value;
+            if file.directory[4 + 8 * count + i] != i as u8 {
+                indexes.change(&file.bytes());
+            }
+        }
+        for (offset, length) in [(i as u32 + 1, 1), (i as u32, 0), (i as u32, 2)] {
+            let mut file = file.clone();
+            file.pair(i, offset, length);
+            assert_eq!(indexes.change(&file.bytes()), 12);
         }
     }
 }

@@ -15,6 +15,9 @@ abbrev μ-loop : tie.MeasureT-loop
 μ-loop text numbers₀ bytes₀ spans₀ blocks₀ keys₀ tallies₀ state₀ at₀ numbers bytes spans blocks keys tallies state at =
     length text - at
 
+none-requires : tie.Need-none-requires Inv-loop μ-loop
+none-requires c κs = search needs
+
 loop-holds : tie.Need-loop-holds Inv-loop μ-loop
 loop-holds c = (search needs, search needs, search needs, search needs, search needs, search needs)
 
@@ -58,6 +61,7 @@ replay-spec =
     (tie.spec
     Inv-loop
     μ-loop
+    none-requires
     loop-holds
     take-line-requires
     counted-requires

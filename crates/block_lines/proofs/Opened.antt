@@ -1,0 +1,44 @@
+-- The blocks and separators of an opened index are small enough for a line of 2,103 bytes.
+use mathlib.Core.Path.{_≡_}
+use mathlib.Core.List.{List}
+use Prim.Native.Nat.{ℕ, _*_, _+_, _≤_, _<_}
+use native.Mathlib.Omega.{arith}
+use borrow.Author.Needs.{needs}
+use lib.ListN.{length, drop, length-take}
+use Rattle.group.specs.Legal.{NumbersOk}
+use Rattle.directory.specs.Read.{keyOffset, keyLength}
+use Rattle.index.specs.declared.SSTableIndexV3.{SSTableIndexV3}
+use Rattle.index.specs.Parts.{directoryPart, blocksIn, blockIn, separatorIn}
+use Rattle.index.specs.Opening.{Opens}
+use Rattle.index.specs.Answers.{partAt}
+use Rattle.index.specs.Lookups.{placeDef}
+use Rattle.index.proofs.OpenFacts.{OpenFacts, opens-facts}
+use Rattle.index.proofs.LookupLaws.{opened-legal, place-separator}
+use Rattle.block_lines.specs.Lines.{line}
+use Rattle.block_lines.proofs.Written.{line-short}
+
+module _ (f : List ℕ) (opened : SSTableIndexV3) (o : Opens 128 f opened) (id : ℕ) (h : id < opened .n) where
+  facts : OpenFacts 128 f opened
+  facts = opens-facts 128 f opened (search needs) o
+
+  pub id-small : id < 65536
+  id-small = omega (arith, facts .count, facts .few)
+
+  pub block-small : NumbersOk (blockIn 128 f id)
+  block-small = opened-legal 128 f opened facts .numbers id h
+
+  pub separator-small : length (separatorIn f id) ≤ 1024
+  unfolding separatorIn
+  separator-small =
+      let d = directoryPart f in
+      omega (
+        arith,
+        length-take (keyLength d id) (drop (4 + 8 * blocksIn f + keyOffset d id) d),
+        facts .rules .pairs .short id (rw (facts .count) at h),
+      )
+
+  pub separator-is : partAt f (placeDef 128 opened f id) ≡ separatorIn f id
+  separator-is = place-separator 128 f opened facts id h
+
+  pub line-fits : length (line id (blockIn 128 f id) (separatorIn f id)) ≤ 2103
+  line-fits = line-short id (blockIn 128 f id) id-small block-small (separatorIn f id) separator-small

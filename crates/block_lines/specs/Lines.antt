@@ -1,0 +1,34 @@
+-- The lines of document 01's program `blocks`: id, start, end, ordinal, separator in lower-case hex (an empty one as `-`), one
+-- space between, a line per block.
+use Prim.Native.Nat.{ℕ, zero, suc, _+_, _/_, _%_}
+use mathlib.Core.List.{List, [], _∷_, _++_}
+use mathlib.Core.Bool.{cond}
+use lib.Dec.{ltb}
+use Rattle.group.specs.declared.BlockAddr.{BlockAddr}
+
+-- the decimal digits of n, at most fuel + 1 of them, in front of what follows
+unfoldable pub decimalBefore : ℕ → ℕ → List ℕ → List ℕ
+decimalBefore zero n rest = (48 + n % 10) ∷ rest
+decimalBefore (suc fuel) n rest = cond (ltb n 10) ((48 + n) ∷ rest) (decimalBefore fuel (n / 10) ((48 + n % 10) ∷ rest))
+
+-- a number below 2^64 has at most 20
+abbrev pub decimal : ℕ → List ℕ
+decimal n = decimalBefore 19 n []
+
+-- a hex digit: 0 to 9, a to f
+abbrev pub hexDigit : ℕ → ℕ
+hexDigit d = cond (ltb d 10) (48 + d) (87 + d)
+
+unfoldable pub hex : List ℕ → List ℕ
+hex [] = []
+hex (b ∷ bs) = hexDigit (b / 16) ∷ hexDigit (b % 16) ∷ hex bs
+
+abbrev pub separatorText : List ℕ → List ℕ
+separatorText [] = 45 ∷ []
+separatorText (b ∷ bs) = hex (b ∷ bs)
+
+unfoldable pub line : ℕ → BlockAddr → List ℕ → List ℕ
+line id b separator =
+    decimal id
+    ++ (32 ∷ decimal (b .start)
+    ++ (32 ∷ decimal (b .end) ++ (32 ∷ decimal (b .«first_ordinal») ++ (32 ∷ separatorText separator ++ (10 ∷ [])))))

@@ -1,0 +1,171 @@
+// Opening an index, and its lookups.
+ghost use mathlib.Core.Path.{_≡_};
+ghost use Rattle.index.specs.Parts.{blockIn, separatorIn};
+ghost use Rattle.index.specs.Opening.{openDef, Opens};
+ghost use Rattle.index.specs.Answers.{loadNo, loadOpened, placeOffset, placeLen};
+ghost use Rattle.index.specs.Lookups.{ByIdAllowed, ByIdExact, LocatedAllowed, ByOrdExact, ByKeyAllowed, ByKeyExact, AddrByKeyExact, placeDef};
+ghost use Rattle.rosmarel.specs.Words.{words as wordsOf, openedAt};
+use crate::words::opened_at;
+use crate::words::words;
+use index::BlockById;
+use index::Loaded;
+use index::Located;
+use index::LocatedId;
+use index::Place;
+use index::SSTableIndexV3;
+
+// Opens the bytes of an index that anyone may have written.
+#[no_mangle]
+pub extern "C" fn rosmarel_open(index: &[u8], opened: &mut [u64; 7]) -> u32
+    ensures { λ r. ⌜ (r ≡ loadNo (openDef 128 (now (index .entry)))) × (now (opened .exit) ≡ wordsOf (loadOpened (openDef 128 (now (index .entry))))) ⌝ }
+{
+    match SSTableIndexV3::load(index) {
+        Loaded::Opened(record) => {
+            *opened = words(record);
+            0
+        }
+        Loaded::Refused(no) => {
+            *opened = [0; 7];
+            no
+        }
+    }
+}
+
+// The address of block `id`.
+#[no_mangle]
+pub extern "C" fn rosmarel_get_block(
+    index: &[u8],
+    opened: &[u64; 7],
+    id: u64,
+    start: &mut u64,
+    end: &mut u64,
+    first_ordinal: &mut u64,
+) -> u32
+    ensures { λ r. ⌜ ByIdAllowed (openedAt (now (opened .entry)) .n) id r (record { start = now (start .exit); end = now (end .exit); «first_ordinal» = now («first_ordinal» .exit) }) ⌝ }
+    ensures { λ r. ⌜ (Opens 128 (now (index .entry)) (openedAt (now (opened .entry))) → ByIdExact (blockIn 128 (now (index .entry))) (openedAt (now (opened .entry)) .n) id r (record { start = now (start .exit); end = now (end .exit); «first_ordinal» = now («first_ordinal» .exit) })) ⌝ }
+{
+    match opened_at(opened).get_block(index, id) {
+        BlockById::Block(block) => {
+            *start = block.start;
+            *end = block.end;
+            *first_ordinal = block.first_ordinal;
+            0
+        }
+        BlockById::Refused(no) => {
+            *start = 0;
+            *end = 0;
+            *first_ordinal = 0;
+            no
+        }
+    }
+}
+
+// The block that holds the ordinal, with its address.
+#[no_mangle]
+pub extern "C" fn rosmarel_locate_with_ord(
+    index: &[u8],
+    opened: &[u64; 7],
+    ord: u64,
+    id: &mut u64,
+    start: &mut u64,
+    end: &mut u64,
+    first_ordinal: &mut u64,
+) -> u32
+    ensures { λ r. ⌜ LocatedAllowed 18 (openedAt (now (opened .entry)) .n) r (now (id .exit)) (record { start = now (start .exit); end = now (end .exit); «first_ordinal» = now («first_ordinal» .exit) }) ⌝ }
+    ensures { λ r. ⌜ (Opens 128 (now (index .entry)) (openedAt (now (opened .entry))) → ByOrdExact (blockIn 128 (now (index .entry))) (openedAt (now (opened .entry)) .n) ord r (now (id .exit)) (record { start = now (start .exit); end = now (end .exit); «first_ordinal» = now («first_ordinal» .exit) })) ⌝ }
+{
+    match opened_at(opened).locate_with_ord(index, ord) {
+        Located::At(found, block) => {
+            *id = found as u64;
+            *start = block.start;
+            *end = block.end;
+            *first_ordinal = block.first_ordinal;
+            0
+        }
+        Located::Refused(no) => {
+            *id = 0;
+            *start = 0;
+            *end = 0;
+            *first_ordinal = 0;
+            no
+        }
+    }
+}
+
+// The block that may hold the key.
+#[no_mangle]
+pub extern "C" fn rosmarel_locate_with_key(
+    index: &[u8],
+    opened: &[u64; 7],
+    key: &[u8],
+    id: &mut u64,
+) -> u32
+    ensures { λ r. ⌜ ByKeyAllowed (openedAt (now (opened .entry)) .n) r (now (id .exit)) ⌝ }
+    ensures { λ r. ⌜ (Opens 128 (now (index .entry)) (openedAt (now (opened .entry))) → ByKeyExact (separatorIn (now (index .entry))) (openedAt (now (opened .entry)) .n) (now (key .entry)) r (now (id .exit))) ⌝ }
+{
+    match opened_at(opened).locate_with_key(index, key) {
+        LocatedId::Id(found) => {
+            *id = found as u64;
+            0
+        }
+        LocatedId::Refused(no) => {
+            *id = 0;
+            no
+        }
+    }
+}
+
+// The block that may hold the key, with its address.
+#[no_mangle]
+pub extern "C" fn rosmarel_get_block_with_key(
+    index: &[u8],
+    opened: &[u64; 7],
+    key: &[u8],
+    id: &mut u64,
+    start: &mut u64,
+    end: &mut u64,
+    first_ordinal: &mut u64,
+) -> u32
+    ensures { λ r. ⌜ LocatedAllowed 19 (openedAt (now (opened .entry)) .n) r (now (id .exit)) (record { start = now (start .exit); end = now (end .exit); «first_ordinal» = now («first_ordinal» .exit) }) ⌝ }
+    ensures { λ r. ⌜ (Opens 128 (now (index .entry)) (openedAt (now (opened .entry))) → AddrByKeyExact (separatorIn (now (index .entry))) (blockIn 128 (now (index .entry))) (openedAt (now (opened .entry)) .n) (now (key .entry)) r (now (id .exit)) (record { start = now (start .exit); end = now (end .exit); «first_ordinal» = now («first_ordinal» .exit) })) ⌝ }
+{
+    match opened_at(opened).get_block_with_key(index, key) {
+        Located::At(found, block) => {
+            *id = found as u64;
+            *start = block.start;
+            *end = block.end;
+            *first_ordinal = block.first_ordinal;
+            0
+        }
+        Located::Refused(no) => {
+            *id = 0;
+            *start = 0;
+            *end = 0;
+            *first_ordinal = 0;
+            no
+        }
+    }
+}
+
+// Where the separator of block `id` stands in the index: an unknown id, or a hit on row 20, is 0 and 0.
+#[no_mangle]
+pub extern "C" fn rosmarel_separator(
+    index: &[u8],
+    opened: &[u64; 7],
+    id: u64,
+    offset: &mut u64,
+    len: &mut u64,
+)
+    ensures { λ _. ⌜ (now (offset .exit) ≡ placeOffset (placeDef 128 (openedAt (now (opened .entry))) (now (index .entry)) id)) × (now (len .exit) ≡ placeLen (placeDef 128 (openedAt (now (opened .entry))) (now (index .entry)) id)) ⌝ }
+{
+    match opened_at(opened).separator_place(index, id) {
+        Place::Part(from, long) => {
+            *offset = from as u64;
+            *len = long as u64;
+        }
+        Place::Missing => {
+            *offset = 0;
+            *len = 0;
+        }
+    }
+}

@@ -1,0 +1,61 @@
+-- What a slice's store answers and leaves: for records that hit a row, and for others as the store's writer (row 9).
+use mathlib.Core.Path.{_≡_, refl, ap}
+use mathlib.Core.Bool.{Bool, true, false, cond}
+use mathlib.Core.List.{List}
+use Prim.Native.Nat.{ℕ, zero, suc}
+use native.Mathlib.Omega.{arith}
+use lib.Dec.{ltb}
+use lib.ListN.{length}
+use lib.Seq.{sets}
+use borrow.Author.Tests.{lt-ltb}
+use Rattle.slope.specs.Slope.{bestSlope}
+use Rattle.group.specs.declared.BlockAddr.{BlockAddr}
+use Rattle.store.specs.declared.Serialized.the-variants.{Len, Short}
+use Rattle.store.specs.Store.{storeBytes}
+use Rattle.store.specs.Answers.{storeAnswer, storeOut}
+use Rattle.store_slice.specs.Slice.{recordsNo, sliceNo, storedStep, outStep, sliceStored, sliceOut}
+
+module _ (bs : List BlockAddr) (out : List ℕ) (none : recordsNo bs ≡ 0) where
+  abbrev bytes : List ℕ
+  bytes = storeBytes bestSlope 128 bs
+
+  only-nine : sliceNo bs (length out) ≡ cond (ltb (length out) (length bytes)) 9 0
+  unfolding sliceNo
+  only-nine = simp none
+
+  len-by : (t : Bool) (len : ℕ) → Len len ≡ cond t Short (Len (length bytes)) → record { no = 0; len = len } ≡ storedStep (cond t 9 0) bs
+  unfolding storedStep
+  len-by true len e = absurd (let z : _≡_ {A = ℕ} 0 1 = cc in omega arith)
+  len-by false len e = let same : len ≡ length bytes = cc in ap (λ (l : ℕ). record { no = 0; len = l }) same
+
+  short-by : (t : Bool) → Short ≡ cond t Short (Len (length bytes)) → record { no = 9; len = 0 } ≡ storedStep (cond t 9 0) bs
+  unfolding storedStep
+  short-by true e = refl
+  short-by false e = absurd (let z : _≡_ {A = ℕ} 0 1 = cc in omega arith)
+
+  out-by : (t : Bool) → cond t out (sets out 0 bytes) ≡ outStep (cond t 9 0) bs out
+  unfolding outStep
+  out-by true = refl
+  out-by false = refl
+
+  pub stored-len : (len : ℕ) → Len len ≡ storeAnswer out bytes → record { no = 0; len = len } ≡ sliceStored bs out
+  unfolding storeAnswer
+  stored-len len e = rw only-nine (len-by (ltb (length out) (length bytes)) len e)
+
+  pub stored-short : Short ≡ storeAnswer out bytes → record { no = 9; len = 0 } ≡ sliceStored bs out
+  unfolding storeAnswer
+  stored-short e = rw only-nine (short-by (ltb (length out) (length bytes)) e)
+
+  pub stored-out : storeOut out bytes ≡ sliceOut bs out
+  unfolding storeOut
+  stored-out = rw only-nine (out-by (ltb (length out) (length bytes)))
+
+-- records that hit a row
+hit-no : (bs : List BlockAddr) (room k : ℕ) → recordsNo bs ≡ suc k → sliceNo bs room ≡ suc k
+unfolding sliceNo
+hit-no bs room k e = simp (e, lt-ltb 0 (suc k) (omega arith))
+
+pub stored-refused : (bs : List BlockAddr) (out : List ℕ) (no : ℕ) → recordsNo bs ≡ no → (no ≡ 0 → ⊥) → (record { no = no; len = 0 } ≡ sliceStored bs out) × (out ≡ sliceOut bs out)
+unfolding storedStep outStep
+stored-refused bs out zero e hit = absurd (hit refl)
+stored-refused bs out (suc k) e hit = (rw (hit-no bs (length out) k e) refl, rw (hit-no bs (length out) k e) refl)

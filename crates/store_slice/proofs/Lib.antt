@@ -1,0 +1,5 @@
+pub mod Answer
+pub mod Copied
+pub mod Kept
+pub mod Scan
+pub mod Sized

@@ -1,0 +1,47 @@
+-- The store of one lent slice of block records (document 01, "Slopes and bits", rows 3, 4, 5, 7 and 9).
+use Prim.Native.Nat.{ℕ, zero, suc}
+use mathlib.Core.List.{List, [], _∷_}
+use mathlib.Core.Bool.{Bool, false, _||_, cond}
+use lib.Dec.{ltb}
+use lib.ListN.{length}
+use lib.Seq.{sets}
+use Rattle.slope.specs.Slope.{bestSlope}
+use Rattle.group.specs.declared.BlockAddr.{BlockAddr}
+use Rattle.group.specs.Rows.{numbersBad, joinBad, ordinalBad}
+use Rattle.store.specs.Store.{storeBytes}
+use Rattle.store_slice.specs.declared.Stored.{Stored}
+
+-- some block is bad
+unfoldable pub anyBad : (BlockAddr → Bool) → List BlockAddr → Bool
+anyBad bad [] = false
+anyBad bad (b ∷ bs) = bad b || anyBad bad bs
+
+-- some block behind the first is bad, seen with the one before it
+unfoldable pub pairBad : (BlockAddr → BlockAddr → Bool) → List BlockAddr → Bool
+pairBad bad [] = false
+pairBad bad (b ∷ []) = false
+pairBad bad (b ∷ c ∷ bs) = bad b c || pairBad bad (c ∷ bs)
+
+-- the rows in their order, each over all records before the next: 3, 4, 5, then 7: over 65,536 records
+unfoldable pub recordsNo : List BlockAddr → ℕ
+recordsNo bs =
+    cond (anyBad numbersBad bs) 3 (cond (pairBad joinBad bs) 4 (cond (pairBad ordinalBad bs) 5 (cond (ltb 65536 (length bs)) 7 0)))
+
+-- then 9: the output is shorter than the store
+unfoldable pub sliceNo : List BlockAddr → ℕ → ℕ
+sliceNo bs room = cond (ltb 0 (recordsNo bs)) (recordsNo bs) (cond (ltb room (length (storeBytes bestSlope 128 bs))) 9 0)
+
+-- the number and the store's length; the store from byte 0 on with the rest as it was, or what was there
+unfoldable pub storedStep : ℕ → List BlockAddr → Stored
+storedStep zero bs = record { no = 0; len = length (storeBytes bestSlope 128 bs) }
+storedStep (suc k) bs = record { no = suc k; len = 0 }
+
+unfoldable pub outStep : ℕ → List BlockAddr → List ℕ → List ℕ
+outStep zero bs out = sets out 0 (storeBytes bestSlope 128 bs)
+outStep (suc k) bs out = out
+
+abbrev pub sliceStored : List BlockAddr → List ℕ → Stored
+sliceStored bs out = storedStep (sliceNo bs (length out)) bs
+
+abbrev pub sliceOut : List BlockAddr → List ℕ → List ℕ
+sliceOut bs out = outStep (sliceNo bs (length out)) bs out

@@ -1,0 +1,82 @@
+// Rows 3, 4, 5 and 7 over all records of a slice.
+ghost use mathlib.Core.Path.{_≡_};
+ghost use Rattle.store_slice.specs.Slice.{recordsNo};
+ghost use Rattle.store_slice.specs.Records.{seenNone, seenWith, seenNo};
+use group::BlockAddr;
+
+// The most records that a store has.
+const MAX_BLOCKS: usize = 65_536;
+
+// Whether records seen so far break rows 3, 4 and 5, and the last of them, if there is some.
+pub struct Seen {
+    pub some: bool,
+    pub last: BlockAddr,
+    pub numbers_bad: bool,
+    pub join_bad: bool,
+    pub ordinal_bad: bool,
+}
+
+impl Seen {
+    fn none() -> Seen
+        ensures { λ r. ⌜ r ≡ seenNone ⌝ }
+    {
+        let last = BlockAddr {
+            start: 0,
+            end: 0,
+            first_ordinal: 0,
+        };
+        Seen {
+            some: false,
+            last: last,
+            numbers_bad: false,
+            join_bad: false,
+            ordinal_bad: false,
+        }
+    }
+
+    // One record more.
+    fn with(self, block: BlockAddr) -> Seen
+        ensures { λ r. ⌜ r ≡ seenWith self block ⌝ }
+    {
+        let before = self.last;
+        Seen {
+            some: true,
+            last: block,
+            numbers_bad: self.numbers_bad | group::rows::numbers_bad(block),
+            join_bad: self.join_bad | (self.some & group::rows::join_bad(before, block)),
+            ordinal_bad: self.ordinal_bad | (self.some & group::rows::ordinal_bad(before, block)),
+        }
+    }
+
+    // The first row that these n records hit, or 0.
+    fn no(self, n: usize) -> u32
+        ensures { λ r. ⌜ r ≡ seenNo self n ⌝ }
+    {
+        if self.numbers_bad {
+            return 3;
+        }
+        if self.join_bad {
+            return 4;
+        }
+        if self.ordinal_bad {
+            return 5;
+        }
+        if n > MAX_BLOCKS {
+            return 7;
+        }
+        0
+    }
+}
+
+// The first row that the records hit, or 0. All of them are looked at.
+pub fn rows_no(blocks: &[BlockAddr]) -> u32
+    ensures { λ r. ⌜ r ≡ recordsNo (now (blocks .entry)) ⌝ }
+{
+    let mut seen = Seen::none();
+    let mut i: usize = 0;
+    while i < blocks.len() {
+        seen = seen.with(blocks[i]);
+        i += 1;
+    }
+    seen.no(blocks.len())
+}
