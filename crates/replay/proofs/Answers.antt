@@ -1,5 +1,5 @@
 -- What each lookup and the listing answer in the entries' index, as the answer's five numbers.
-use Prim.Native.Nat.{ℕ, zero, suc, _+_, _-_, _≤_, _<_}
+use Prim.Native.Nat.{ℕ, zero, suc, _+_, _-_, _≤_}
 use mathlib.Core.Path.{_≡_, refl, sym, ap, ap₂, _∙_}
 use mathlib.Core.List.{List, [], _++_}
 use native.Mathlib.Nat.{zero-add, le-refl}
@@ -13,13 +13,12 @@ use Rattle.group.specs.declared.BlockAddr.{BlockAddr}
 use Rattle.builder.specs.Plain.{Entry}
 use Rattle.automaton.specs.Table.{tableNo}
 use Rattle.index.specs.declared.SSTableIndexV3.{SSTableIndexV3}
-use Rattle.index.specs.declared.Place.{Place}
 use Rattle.index.specs.declared.Place.the-variants.{Part, Missing}
-use Rattle.index.specs.Answers.{partAt, placeOffset, placeLen}
+use Rattle.index.specs.Answers.{partAt}
 use Rattle.index.specs.Lookups.{placeDef}
-use Rattle.listing.specs.Listing.{listNo, Listing}
+use Rattle.listing.specs.Listing.{Listing}
 use Rattle.demands.specs.Demand3.{GetBlock, LocateWithOrd, LocateWithKey, GetBlockWithKey, GetBlockForAutomaton}
-use Rattle.replay.specs.Made.{cells, entriesIndex}
+use Rattle.replay.specs.Made.{cells}
 use Rattle.replay.specs.Replay.{IdAnswer, OrdAnswer, KeyAnswer, AddrAnswer, SeparatorAnswer, MarkAnswer}
 use Rattle.replay.specs.Asked.{Indexed}
 

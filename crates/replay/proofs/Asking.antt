@@ -1,5 +1,5 @@
 -- The questions of a list, asked one by one: each answer in front of the others'.
-use Prim.Native.Nat.{ℕ, zero, suc, _+_, _-_, _*_, _≤_, _<_}
+use Prim.Native.Nat.{ℕ, suc, _+_, _-_, _*_, _≤_, _<_}
 use mathlib.Core.Path.{_≡_, refl, sym, ap, _∙_}
 use mathlib.Core.List.{List, [], _∷_, _++_}
 use native.Mathlib.Nat.{sub-zero, add-zero}
@@ -12,7 +12,7 @@ use Rattle.index.specs.declared.Loaded.the-variants.{Opened as Index, Refused}
 use Rattle.index.specs.Answers.{loadNo}
 use Rattle.replay.specs.Format.{Question, questionLen, questionAt, items, behind}
 use Rattle.replay.specs.Made.{cells}
-use Rattle.replay.specs.Replay.{AnswerIn, Answered, none, more}
+use Rattle.replay.specs.Replay.{AnswerIn, none, more}
 use Rattle.replay.specs.Asked.{Given, Asks, Opened}
 use Rattle.replay.proofs.Items.{behind-next, behind-there}
 use Rattle.replay.proofs.Turns.{cells-turn}

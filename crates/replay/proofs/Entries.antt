@@ -1,12 +1,12 @@
 -- The numbers of a list's calls and the finish behind them are those of the machine's entries.
-use mathlib.Core.Path.{_≡_, refl, sym, ap, _∙_}
+use mathlib.Core.Path.{_≡_, refl}
 use mathlib.Core.List.{List, []}
-use mathlib.Core.Bool.{Bool, true, false, cond}
-use Prim.Native.Nat.{ℕ, _+_, _≤_, _<_}
+use mathlib.Core.Bool.{cond}
+use Prim.Native.Nat.{ℕ, _≤_, _<_}
 use native.Mathlib.Omega.{arith}
 use lib.Dec.{ltb}
 use lib.ListN.{length, take}
-use lib.Seq.{sets, length-sets}
+use lib.Seq.{sets}
 use borrow.Author.Tests.{ltb-true, ltb-false, lt-ltb, le-ltb}
 use Rattle.keys.proofs.Order.{by-test}
 use Rattle.serialize.proofs.Stores.{sets-part}
@@ -15,7 +15,7 @@ use Rattle.builder.specs.Calls.{After}
 use Rattle.builder.specs.Plain.{Entry, plainNumbers, separatorsOf, runNumbers, runEnd}
 use Rattle.builder.specs.Finish.{Finish, indexOf, finishStep, finishDef}
 use Rattle.builder.proofs.Machine.{run-fresh}
-use Rattle.builder.proofs.Finishing.{finishNumber, finished, TooShort, Finishes, finish-fresh}
+use Rattle.builder.proofs.Finishing.{finished, Finishes, finish-fresh}
 use Rattle.replay.specs.Format.{calls}
 use Rattle.replay.specs.Made.{freshOf, roomsIn, entriesOf, entriesIndex, entriesDirectory, isShort, finishCells, finishOut}
 use Rattle.replay.specs.Steps.{finishedCells}

@@ -1,5 +1,5 @@
 -- The items of a list by their tags, that an item there is lies inside the list, and the walk over items.
-use mathlib.Core.Path.{_≡_, refl, sym, ap, _∙_}
+use mathlib.Core.Path.{_≡_, refl}
 use mathlib.Core.Bool.{Bool, true, false, not, _||_, cond}
 use mathlib.Core.List.{List}
 use Prim.Native.Nat.{ℕ, zero, suc, _+_, _-_, _≤_, _<_}
@@ -12,13 +12,20 @@ use Rattle.builder.proofs.Views.{or-false}
 use Rattle.replay.specs.Format.{tagAt, stringLen, within, callLen, questionLen, behind, callCount, questionCount, questionsFrom, listBad}
 
 module _ (s : List ℕ) (at : ℕ) where
+  -- a question has one number, or one key, and nothing else
+  abbrev asksNumber : Bool
+  asksNumber = eqb (tagAt s at) 2 || (eqb (tagAt s at) 3 || eqb (tagAt s at) 6)
+
+  abbrev asksKey : Bool
+  asksKey = eqb (tagAt s at) 4 || eqb (tagAt s at) 5
+
   pub within-none : (len : ℕ) → length s - at < len → within s at len ≡ 0
   within-none len h = rw (lt-ltb (length s) (at + len) (omega arith))
 
   pub within-some : (len : ℕ) → at ≤ length s → len ≤ length s - at → within s at len ≡ len
   within-some len h k = rw (le-ltb (length s) (at + len) (omega arith))
 
-  -- ---- a call by its tag
+  -- ---- an item by its tag
 
   pub no-call : length s ≤ at → callLen s at ≡ 0
   unfolding callLen
@@ -43,7 +50,7 @@ module _ (s : List ℕ) (at : ℕ) where
 
     -- ---- a question by the code's tests of its tag
 
-    module _ (number key : Bool) (n : number ≡ eqb (tagAt s at) 2 || (eqb (tagAt s at) 3 || eqb (tagAt s at) 6)) (k : key ≡ eqb (tagAt s at) 4 || eqb (tagAt s at) 5) where
+    module _ (number key : Bool) (n : number ≡ asksNumber) (k : key ≡ asksKey) where
       pub number-len : number ≡ true → questionLen s at ≡ within s at 9
       unfolding questionLen
       number-len t = rw (lt-leb (length s) at h, ← n, t)
@@ -89,8 +96,8 @@ module _ (s : List ℕ) (at : ℕ) where
   unfolding questionLen
   question-fits =
       either-fits (leb (length s) at) 0 _ none-fits
-      (either-fits (eqb (tagAt s at) 2 || (eqb (tagAt s at) 3 || eqb (tagAt s at) 6)) _ _ (within-fits 9)
-      (either-fits (eqb (tagAt s at) 4 || eqb (tagAt s at) 5) _ _ (within-fits (5 + stringLen s (at + 1)))
+      (either-fits asksNumber _ _ (within-fits 9)
+      (either-fits asksKey _ _ (within-fits (5 + stringLen s (at + 1)))
       (either-fits (eqb (tagAt s at) 7) _ 0 (within-fits (13 + stringLen s (at + 9))) none-fits)))
 
   -- the code's item, a call or a question
@@ -104,6 +111,12 @@ module _ (s : List ℕ) (at : ℕ) where
       (λ t. absurd (let z : r ≡ 0 = rw t at e in let y : ⊥ = omega arith in y))
       (λ t. ltb-false (length s) (at + len) t)
 
+  starts-inside : (len : ℕ) → (length s ≤ at → len ≡ 0) → 0 < len → at < length s
+  starts-inside len f h =
+      by-test (leb (length s) at)
+      (λ t. absurd (let z : len ≡ 0 = f (leb-true (length s) at t) in let y : ⊥ = omega arith in y))
+      (λ t. leb-false (length s) at t)
+
   -- ---- a call that is there: its parts lie inside
 
   pub record CallThere : Type 0 where
@@ -115,10 +128,7 @@ module _ (s : List ℕ) (at : ℕ) where
   pub call-there : 0 < callLen s at → CallThere
   unfolding Fits
   call-there h =
-      let starts : at < length s =
-      by-test (leb (length s) at)
-      (λ t. absurd (let z : callLen s at ≡ 0 = no-call (leb-true (length s) at t) in let y : ⊥ = omega arith in y))
-      (λ t. leb-false (length s) at t) in
+      let starts : at < length s = starts-inside (callLen s at) no-call h in
       record {
         starts = starts;
         ends = call-fits (λ z. omega arith);
@@ -131,12 +141,6 @@ module _ (s : List ℕ) (at : ℕ) where
 
   -- ---- a question that is there: its parts lie inside
 
-  abbrev asksNumber : Bool
-  asksNumber = eqb (tagAt s at) 2 || (eqb (tagAt s at) 3 || eqb (tagAt s at) 6)
-
-  abbrev asksKey : Bool
-  asksKey = eqb (tagAt s at) 4 || eqb (tagAt s at) 5
-
   pub record QuestionThere : Type 0 where
     pub starts : at < length s
     pub ends : at + questionLen s at ≤ length s
@@ -147,10 +151,7 @@ module _ (s : List ℕ) (at : ℕ) where
   pub question-there : 0 < questionLen s at → QuestionThere
   unfolding Fits
   question-there h =
-      let starts : at < length s =
-      by-test (leb (length s) at)
-      (λ t. absurd (let z : questionLen s at ≡ 0 = no-question (leb-true (length s) at t) in let y : ⊥ = omega arith in y))
-      (λ t. leb-false (length s) at t) in
+      let starts : at < length s = starts-inside (questionLen s at) no-question h in
       record {
         starts = starts;
         ends = question-fits (λ z. omega arith);

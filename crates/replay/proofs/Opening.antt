@@ -3,7 +3,6 @@ use Prim.Native.Nat.{ℕ, _≤_, _<_}
 use mathlib.Core.Path.{_≡_, refl, sym}
 use mathlib.Core.List.{List, []}
 use mathlib.Core.Logic.{inl, inr}
-use mathlib.Core.Bool.{true, false, _||_}
 use native.Mathlib.Omega.{arith}
 use lib.Dec.{ltb}
 use lib.ListN.{length}
@@ -13,12 +12,10 @@ use Rattle.group.specs.declared.BlockAddr.{BlockAddr}
 use Rattle.builder.specs.Plain.{Entry}
 use Rattle.builder.specs.Finish.{indexOf}
 use Rattle.builder.proofs.Rules.{EntriesOk, run-rules}
-use Rattle.automaton.specs.Table.{tableNo}
 use Rattle.index.specs.declared.SSTableIndexV3.{SSTableIndexV3}
-use Rattle.index.specs.declared.Place.the-variants.{Missing}
 use Rattle.index.specs.Answers.{noBlock}
 use Rattle.index.specs.Opening.{footerNo, openNo, openDef, openedOf}
-use Rattle.index.specs.Lookups.{ByIdExact, placeDef}
+use Rattle.index.specs.Lookups.{ByIdExact}
 use Rattle.index.proofs.OpenFacts.{OpenFacts}
 use Rattle.index.proofs.LookupLaws.{place-known}
 use Rattle.listing.proofs.Rows.{table-refused}
@@ -26,7 +23,7 @@ use Rattle.listing.proofs.ListedOpened.{opened-passes, opened-inside, list-fact
 use Rattle.demands.specs.Demand3.{Finds, block}
 use Rattle.demands.proofs.Found.{entries-open, found}
 use Rattle.replay.specs.Format.{calls}
-use Rattle.replay.specs.Made.{freshOf, entriesOf, entriesIndex, isShort, openNumber}
+use Rattle.replay.specs.Made.{freshOf, entriesOf, isShort, openNumber}
 use Rattle.replay.specs.Asked.{Indexed, Given}
 use Rattle.replay.proofs.Entries.{given, some-index, none-index}
 

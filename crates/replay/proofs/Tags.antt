@@ -3,7 +3,7 @@ use Prim.Native.Nat.{ℕ, _+_}
 use mathlib.Core.Path.{_≡_}
 use mathlib.Core.List.{List}
 use borrow.Author.Tests.{ne-eqb}
-use Rattle.replay.specs.Format.{Question, byId, byOrdinal, byKey, addressByKey, separatorOf, markOf, tagAt, numberAt, stringAt, questionAt}
+use Rattle.replay.specs.Format.{byId, byOrdinal, byKey, addressByKey, separatorOf, markOf, tagAt, numberAt, stringAt, questionAt}
 
 module _ (s : List ℕ) (at : ℕ) where
   module _ (n : ℕ) (e : n ≡ numberAt s 8 (at + 1)) where

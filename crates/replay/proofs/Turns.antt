@@ -1,7 +1,7 @@
 -- The calls of a list, made one by one: what is left behind each, and its five numbers in front of the others'.
 use mathlib.Core.Path.{_≡_, refl, sym, ap, _∙_}
 use mathlib.Core.List.{List, _++_}
-use Prim.Native.Nat.{ℕ, zero, suc, _+_, _-_, _*_, _≤_, _<_}
+use Prim.Native.Nat.{ℕ, suc, _+_, _-_, _*_, _≤_, _<_}
 use native.Mathlib.Nat.{sub-zero}
 use native.Mathlib.Omega.{arith}
 use lib.ListN.{length}
@@ -10,7 +10,7 @@ use borrow.Author.Tests.{ne-eqb}
 use Rattle.serialize.proofs.Stores.{sets-append}
 use Rattle.group.specs.declared.BlockAddr.{BlockAddr}
 use Rattle.builder.specs.Calls.{After, addDef, shortenDef}
-use Rattle.builder.specs.Plain.{Call, add, shortenLast, callDef, runNumbers, runEnd}
+use Rattle.builder.specs.Plain.{callDef, runNumbers, runEnd}
 use Rattle.replay.specs.Format.{tagAt, stringAt, callLen, callAt, items, behind, calls, callCount, questionsFrom}
 use Rattle.replay.specs.Made.{cells, callCells, freshOf}
 use Rattle.replay.specs.Steps.{leaves, blockIn}

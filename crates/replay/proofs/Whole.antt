@@ -3,7 +3,6 @@ use Prim.Native.Nat.{ℕ, zero, suc, _+_, _*_, _≤_, _<_}
 use mathlib.Core.Path.{_≡_, refl, sym, ap, subst, _∙_}
 use mathlib.Core.List.{List, [], _∷_, _++_}
 use mathlib.Core.Bool.{true, false}
-use native.Mathlib.Nat.{zero-add}
 use native.Mathlib.Omega.{arith}
 use lib.Dec.{ltb}
 use lib.ListN.{length, take}
@@ -12,12 +11,11 @@ use borrow.Author.Tests.{lt-ltb, le-ltb, ltb-true, ltb-false}
 use Rattle.keys.proofs.Order.{by-test}
 use Rattle.serialize.proofs.Stores.{sets-append}
 use Rattle.builder.specs.Calls.{After}
-use Rattle.builder.specs.Plain.{Entry, Call, plainNumbers, runNumbers, runEnd}
-use Rattle.builder.specs.Finish.{Finish}
+use Rattle.builder.specs.Plain.{Entry, Call, runNumbers, runEnd}
 use Rattle.builder.proofs.Finishing.{finished}
 use Rattle.index.specs.Opening.{openDef}
 use Rattle.replay.specs.Format.{callLen, callAt, questionLen, questionAt, behind, items, calls, questions, callCount, questionCount, questionsFrom, listBad}
-use Rattle.replay.specs.Made.{cells, callCells, freshOf, roomsIn, entriesOf, isShort, finishCells, openNumber}
+use Rattle.replay.specs.Made.{cells, callCells, freshOf, entriesOf, isShort, finishCells, openNumber}
 use Rattle.replay.specs.Steps.{leaves, finishedCells}
 use Rattle.replay.specs.Replay.{replayNo, Replayed}
 use Rattle.replay.specs.Asked.{Given, Opened}

@@ -29,9 +29,9 @@ fn read_answer(answer: Answer, next: usize) -> Called
     ensures { λ r. ⌜ ((B K : List ℕ) → leaves r B K ≡ after answer B K) × (r .next ≡ next) ⌝ }
 {
     match answer {
-        Answer::Taken(builder) => Called {
+        Answer::Taken(taken) => Called {
             no: 0,
-            builder,
+            builder: taken,
             next,
         },
         Answer::Refused(no, builder) => Called { no, builder, next },

@@ -1,7 +1,7 @@
 // A list of calls and questions in bytes.
 ghost use mathlib.Core.Path.{_≡_};
 ghost use mathlib.Core.Bool.{cond, _||_};
-ghost use Prim.Native.Nat.{_+_, _*_, _^_, _≤_, _<_};
+ghost use Prim.Native.Nat.{_+_, _^_, _≤_, _<_};
 ghost use lib.Dec.{eqb};
 ghost use lib.ListN.{length};
 ghost use Rattle.replay.specs.Format.{numberAt, stringLen, stringAt, within, callLen, questionLen, behind, callCount, questionCount, listBad};

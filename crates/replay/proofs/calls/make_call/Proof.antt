@@ -1,5 +1,5 @@
 -- `replay::calls::make_call` meets its contract: an add or a shorten with the list's arguments, on the builder and the areas as they were left.
-use mathlib.Core.Path.{refl, sym, _∙_}
+use mathlib.Core.Path.{_∙_}
 use native.Mathlib.Omega.{arith}
 use Rattle.replay.proofs.Items.{CallThere, call-there}
 use Rattle.replay.specs.Steps.{leaves}
