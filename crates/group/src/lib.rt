@@ -5,6 +5,7 @@ pub mod rows;
 pub mod write;
 
 // A block: where it starts and ends in the file, and its first term's ordinal.
+#[repr(C)]
 pub struct BlockAddr {
     pub start: u64,
     pub end: u64,
