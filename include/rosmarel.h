@@ -13,7 +13,7 @@
  * - Parts that are lent to one call don't overlap, unless both are const. An out-parameter lies in none of them and is
  *   no other out-parameter.
  * - A bool is 0 or 1.
- * - Stack: no call takes more than 64 KB.
+ * - Stack: rosmarel_store takes about 1.6 MB, however few the blocks; no other call takes more than 64 KB.
  */
 #ifndef ROSMAREL_H
 #define ROSMAREL_H
@@ -26,18 +26,25 @@
 extern "C" {
 #endif
 
+/* A block: start <= end, both and the first ordinal below 2^48. */
+typedef struct rosmarel_block_addr {
+    uint64_t start;
+    uint64_t end;
+    uint64_t first_ordinal;
+} rosmarel_block_addr;
+
 /* What the calls return: the first row that is hit. */
 enum rosmarel_no {
     ROSMAREL_OK = 0,
     ROSMAREL_AREAS = 1,          /* add, shorten, finish: n over 65,536, or it or the last key doesn't fit the areas */
     ROSMAREL_KEY_LONG = 2,       /* add, shorten: a key longer than 1,024 */
-    ROSMAREL_NUMBERS = 3,        /* add: end < start, or end or ordinal of 2^48 or more */
-    ROSMAREL_JOIN = 4,           /* add: start isn't the end of the block before */
-    ROSMAREL_ORDINAL = 5,        /* add: ordinal not above the one before */
+    ROSMAREL_NUMBERS = 3,        /* add, store: end < start, or end or ordinal of 2^48 or more */
+    ROSMAREL_JOIN = 4,           /* add, store: start isn't the end of the block before */
+    ROSMAREL_ORDINAL = 5,        /* add, store: ordinal not above the one before */
     ROSMAREL_KEY_ORDER = 6,      /* add, shorten: key not above the last separator */
-    ROSMAREL_FULL = 7,           /* add: no room for the block */
+    ROSMAREL_FULL = 7,           /* add: no room for the block; store: over 65,536 blocks */
     ROSMAREL_BLOCKS = 8,         /* finish: a lent block breaks 2 to 6, or the keys don't touch */
-    ROSMAREL_OUTPUT_SHORT = 9,   /* finish: output shorter than the result */
+    ROSMAREL_OUTPUT_SHORT = 9,   /* finish, store: output shorter than the result */
     ROSMAREL_FOOTER = 10,        /* open: under 8 bytes, or the directory is longer than the file */
     ROSMAREL_NO_DIRECTORY = 11,  /* open: directory length 0 */
     ROSMAREL_DIRECTORY = 12,     /* open: count, offsets, key lengths or directory length broken */
@@ -77,6 +84,10 @@ uint32_t rosmarel_finish(uint64_t n, const uint64_t *blocks, size_t blocks_len, 
 /* The total that rosmarel_finish would need. */
 uint32_t rosmarel_finish_len(uint64_t n, const uint64_t *blocks, size_t blocks_len, const uint8_t *keys,
                              size_t keys_len, uint64_t *total);
+
+/* Writes the store alone of the blocks to the front of out; its length is *len. */
+uint32_t rosmarel_store(const rosmarel_block_addr *blocks, size_t blocks_len, uint8_t *out, size_t out_len,
+                        uint64_t *len);
 
 /* How many bytes two keys share at their front. It can't be refused. */
 uint64_t rosmarel_common_prefix_len(const uint8_t *left, size_t left_len, const uint8_t *right, size_t right_len);

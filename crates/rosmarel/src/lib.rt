@@ -2,4 +2,5 @@
 mod build;
 mod lookup;
 mod pattern;
+mod slice;
 mod words;

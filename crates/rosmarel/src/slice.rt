@@ -1,0 +1,21 @@
+// The store of one lent slice of blocks.
+ghost use mathlib.Core.Path.{_≡_};
+ghost use Rattle.store_slice.specs.Slice.{sliceStored, sliceOut};
+use group::BlockAddr;
+use store_slice::Stored;
+
+// Hands out the length of an answer, and returns its number.
+fn answer(stored: Stored, len: &mut u64) -> u32
+    ensures { λ r. ⌜ (r ≡ stored .no) × (now (len .exit) ≡ stored .len) ⌝ }
+{
+    *len = stored.len as u64;
+    stored.no
+}
+
+// Writes the store of the blocks from the front of `out` on.
+#[no_mangle]
+pub extern "C" fn rosmarel_store(blocks: &[BlockAddr], out: &mut [u8], len: &mut u64) -> u32
+    ensures { λ r. ⌜ (r ≡ sliceStored (now (blocks .entry)) (now (out .entry)) .no) × (now (out .exit) ≡ sliceOut (now (blocks .entry)) (now (out .entry))) × (now (len .exit) ≡ sliceStored (now (blocks .entry)) (now (out .entry)) .len) ⌝ }
+{
+    answer(store_slice::serialize(blocks, out), len)
+}
