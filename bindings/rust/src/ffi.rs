@@ -18,7 +18,7 @@ pub struct Finished {
 // Lengths come back as u64; on x86-64 they are usize.
 const _: () = assert!(size_of::<usize>() == size_of::<u64>());
 
-// Nothing compares these with the archive: they follow its header by hand. A slice is a pointer and a length in elements.
+// A slice is a pointer and a length in elements. The linker compares names alone; tests/declarations.rs compares the rest.
 unsafe extern "C" {
     fn rosmarel_add(
         n: *mut u64,
