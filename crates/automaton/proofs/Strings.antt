@@ -11,7 +11,7 @@ use lib.Seq.{take-suc}
 use Rattle.automaton.specs.Bits.{bit, Exactly}
 use Rattle.automaton.specs.Table.{WellFormed, states, flag, next}
 use Rattle.automaton.specs.Words.{Bytes, run, Hits, Word, CanMatch, Reach}
-use Rattle.automaton.specs.Live.{Byte}
+use Rattle.automaton.specs.Live.{LiveByte}
 use Rattle.automaton.proofs.Exact.{exactly-map}
 
 pub run-append : (t : List ℕ) (s : ℕ) (p q : List ℕ) → run t s (p ++ q) ≡ run t (run t s p) q
@@ -77,7 +77,7 @@ word-cases {t} {s} P C f g m = go (m .word) (m .hits) (m .good)
     go (b ∷ w) h p = let (l, i) = hits-tail s b h in g b w l i p
 
 -- a byte of a range, and any string after it
-pub byte-word : {t : List ℕ} {s lo hi : ℕ} (P : List ℕ → Type 0) → hi ≤ 256 → ((b : ℕ) (w : List ℕ) → lo ≤ b → b < hi → P (b ∷ w)) → Byte t s lo hi → Word t s P
+pub byte-word : {t : List ℕ} {s lo hi : ℕ} (P : List ℕ → Type 0) → hi ≤ 256 → ((b : ℕ) (w : List ℕ) → lo ≤ b → b < hi → P (b ∷ w)) → LiveByte t s lo hi → Word t s P
 byte-word {s = s} P l f y = word-cons s (y .byte) P (λ w. Unit {0}) (omega (arith, y .high)) (λ w u. f (y .byte) w (y .low) (y .high)) (y .rest)
 
 -- ---- can match

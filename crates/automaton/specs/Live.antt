@@ -18,7 +18,7 @@ pub record Live (t live : List ℕ) : Type 0 where
   pub down : (s b : ℕ) → s < states t → b < 256 → CanMatch t (next t s b) → liveBit live s b ≡ 1
 
 -- a byte from lo on and below hi leads from s to a state that can match
-pub record Byte (t : List ℕ) (s lo hi : ℕ) : Type 0 where
+pub record LiveByte (t : List ℕ) (s lo hi : ℕ) : Type 0 where
   pub byte : ℕ
   pub low : lo ≤ byte
   pub high : byte < hi

@@ -6,7 +6,7 @@ ghost use lib.ListN.{length, getD};
 ghost use Rattle.automaton.specs.Bits.{bit, Exactly};
 ghost use Rattle.automaton.specs.Table.{WellFormed, states};
 ghost use Rattle.automaton.specs.Words.{Reach};
-ghost use Rattle.automaton.specs.Live.{Live, Byte};
+ghost use Rattle.automaton.specs.Live.{Live, LiveByte};
 
 // Of the 64 next states from `at` on, the word of those that can match.
 fn live_word(table: &[u8], reach: u64, at: usize) -> u64
@@ -41,7 +41,7 @@ pub fn live(table: &[u8], reach: u64) -> [u64; 256]
 // The table is there for the contract alone.
 pub fn any_byte(table: &[u8], live: &[u64; 256], state: usize, lo: usize, hi: usize) -> bool
     requires { ⌜ WellFormed (now table) × Live (now table) (now live) × (state < states (now table)) × (hi ≤ 256) ⌝ }
-    ensures { λ r. ⌜ Exactly r (Byte (now (table .entry)) state lo hi) ⌝ }
+    ensures { λ r. ⌜ Exactly r (LiveByte (now (table .entry)) state lo hi) ⌝ }
 {
     let mut b = lo;
     while b < hi {

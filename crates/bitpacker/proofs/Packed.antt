@@ -13,7 +13,7 @@ use Rattle.serialize.proofs.Digits.{length-digits, digits-add}
 use Rattle.serialize.proofs.Stores.{sets-append, sets-part}
 use Rattle.bitpacker.specs.declared.BitPacker.{BitPacker}
 use Rattle.bitpacker.specs.Bits.{bytesOf}
-use Rattle.bitpacker.specs.Packer.{Waiting, joinedTo, wordsOf, leaving, after}
+use Rattle.bitpacker.specs.Packer.{Waiting, joinedTo, wordsOf, leaving, packedWith}
 use Rattle.bitpacker.proofs.Words.{low-digits, joined-lt}
 
 -- p took b bits that spell N; d is the output as it was, and l as it is
@@ -51,8 +51,8 @@ module _ {d l : List ℕ} {p : BitPacker} {b N : ℕ} (k : Packed d l p b N) whe
       rw (← (k .count), add-comm (8 * p .written) (p .filled), pow-add 2 (p .filled) (8 * p .written)) (div-lt-iff-lt-mul (pow-pos (8 * p .written)) .0 h)
 
   -- a field more
-  pub packed-write : (v n : ℕ) → v < 2 ^ n → Packed d (sets l (p .written) (leaving p v n)) (after p v n) (b + n) (v * 2 ^ b + N)
-  unfolding leaving after
+  pub packed-write : (v n : ℕ) → v < 2 ^ n → Packed d (sets l (p .written) (leaving p v n)) (packedWith p v n) (b + n) (v * 2 ^ b + N)
+  unfolding leaving packedWith
   packed-write v n small =
       let w = p .written in
       let f = p .filled in
@@ -74,7 +74,7 @@ module _ {d l : List ℕ} {p : BitPacker} {b N : ℕ} (k : Packed d l p b N) whe
       }
 
   -- the same from what `write` ensures
-  pub packed-wrote : (v n : ℕ) {p′ : BitPacker} {l′ : List ℕ} → v < 2 ^ n → (p′ ≡ after p v n) × (l′ ≡ sets l (p .written) (leaving p v n))
+  pub packed-wrote : (v n : ℕ) {p′ : BitPacker} {l′ : List ℕ} → v < 2 ^ n → (p′ ≡ packedWith p v n) × (l′ ≡ sets l (p .written) (leaving p v n))
       → Packed d l′ p′ (b + n) (v * 2 ^ b + N)
   packed-wrote v n small e = rw (e .0, e .1) (packed-write v n small)
 

@@ -21,8 +21,8 @@ wordsOf p n = (p .filled + n) / 64
 unfoldable pub leaving : BitPacker → ℕ → ℕ → List ℕ
 leaving p value n = leBytes (8 * wordsOf p n) (joinedTo p value)
 
-unfoldable pub after : BitPacker → ℕ → ℕ → BitPacker
-after p value n = record {
+unfoldable pub packedWith : BitPacker → ℕ → ℕ → BitPacker
+packedWith p value n = record {
   buffer = joinedTo p value / 2 ^ (64 * wordsOf p n);
   filled = (p .filled + n) % 64;
   written = p .written + 8 * wordsOf p n;

@@ -5,7 +5,7 @@ ghost use lib.ListN.{length, take, drop};
 ghost use lib.Seq.{sets};
 ghost use Rattle.serialize.specs.Digits.{leVal, leBytes};
 ghost use Rattle.bitpacker.specs.Bits.{numBits, bytesOf};
-ghost use Rattle.bitpacker.specs.Packer.{Waiting, leaving, after};
+ghost use Rattle.bitpacker.specs.Packer.{Waiting, leaving, packedWith};
 
 // How many bits a number takes: 64 for every one that takes more than 56.
 pub fn compute_num_bits(value: u64) -> u8
@@ -58,7 +58,7 @@ impl BitPacker {
     // Appends a field of `num_bits` bits.
     pub fn write(self, value: u64, num_bits: u8, out: &mut [u8]) -> BitPacker
         requires { ⌜ Waiting self × («num_bits» ≤ 56) × (value < 2 ^ «num_bits») × (8 * self .written + self .filled + «num_bits» ≤ 8 * length (now out)) ⌝ }
-        ensures { λ r. ⌜ (r ≡ after self value «num_bits») × (now (out .exit) ≡ sets (now (out .entry)) (self .written) (leaving self value «num_bits»)) ⌝ }
+        ensures { λ r. ⌜ (r ≡ packedWith self value «num_bits») × (now (out .exit) ≡ sets (now (out .entry)) (self .written) (leaving self value «num_bits»)) ⌝ }
     {
         let filled = self.filled;
         let written = self.written;

@@ -8,13 +8,13 @@ use lib.ListN.{length, drop, length-take}
 use Rattle.group.specs.Legal.{NumbersOk}
 use Rattle.directory.specs.Read.{keyOffset, keyLength}
 use Rattle.index.specs.declared.SSTableIndexV3.{SSTableIndexV3}
-use Rattle.index.specs.Parts.{directoryPart, blocksIn, blockIn, separatorIn}
+use Rattle.index.specs.Parts.{directoryPart, countIn, blockIn, separatorIn}
 use Rattle.index.specs.Opening.{Opens}
 use Rattle.index.specs.Answers.{partAt}
 use Rattle.index.specs.Lookups.{placeDef}
 use Rattle.index.proofs.OpenFacts.{OpenFacts, opens-facts}
 use Rattle.index.proofs.LookupLaws.{opened-legal, place-separator}
-use Rattle.block_lines.specs.Lines.{line}
+use Rattle.block_lines.specs.Lines.{lineOf}
 use Rattle.block_lines.proofs.Written.{line-short}
 
 module _ (f : List ℕ) (opened : SSTableIndexV3) (o : Opens 128 f opened) (id : ℕ) (h : id < opened .n) where
@@ -33,12 +33,12 @@ module _ (f : List ℕ) (opened : SSTableIndexV3) (o : Opens 128 f opened) (id :
       let d = directoryPart f in
       omega (
         arith,
-        length-take (keyLength d id) (drop (4 + 8 * blocksIn f + keyOffset d id) d),
+        length-take (keyLength d id) (drop (4 + 8 * countIn f + keyOffset d id) d),
         facts .rules .pairs .short id (rw (facts .count) at h),
       )
 
   pub separator-is : partAt f (placeDef 128 opened f id) ≡ separatorIn f id
   separator-is = place-separator 128 f opened facts id h
 
-  pub line-fits : length (line id (blockIn 128 f id) (separatorIn f id)) ≤ 2103
+  pub line-fits : length (lineOf id (blockIn 128 f id) (separatorIn f id)) ≤ 2103
   line-fits = line-short id (blockIn 128 f id) id-small block-small (separatorIn f id) separator-small

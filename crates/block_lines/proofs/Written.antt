@@ -11,7 +11,7 @@ use borrow.Rule.Slice.PartMut.{putMid}
 use Rattle.serialize.proofs.Stores.{sets-append, sets-in-part}
 use Rattle.group.specs.declared.BlockAddr.{BlockAddr}
 use Rattle.group.specs.Legal.{limit, NumbersOk}
-use Rattle.block_lines.specs.Lines.{decimal, separatorText, line}
+use Rattle.block_lines.specs.Lines.{decimal, separatorText, lineOf}
 use Rattle.block_lines.proofs.Digits.{length-decimal, length-hex}
 
 -- a text w copied into the output from `at` on
@@ -64,8 +64,8 @@ module _ (id : ℕ) (b : BlockAddr) where
   abbrev pub to-separator : List ℕ → List ℕ
   to-separator separator = to-ordinal ++ (32 ∷ separatorText separator)
 
-  pub parts-line : (separator : List ℕ) → to-separator separator ++ (10 ∷ []) ≡ line id b separator
-  unfolding line
+  pub parts-line : (separator : List ℕ) → to-separator separator ++ (10 ∷ []) ≡ lineOf id b separator
+  unfolding lineOf
   parts-line separator =
       regroup (decimal id) (32 ∷ decimal (b .start)) (32 ∷ decimal (b .end)) (32 ∷ decimal (b .«first_ordinal»)) (32 ∷ separatorText separator) (10 ∷ [])
 
@@ -107,6 +107,6 @@ module _ (id : ℕ) (b : BlockAddr) (h : id < 65536) (ok : NumbersOk b) where
   separator-reach separator short =
       omega (arith, reach .ordinal, separator-digits separator short, length-append (to-ordinal id b) (32 ∷ separatorText separator))
 
-  pub line-short : (separator : List ℕ) → length separator ≤ 1024 → length (line id b separator) ≤ 2103
+  pub line-short : (separator : List ℕ) → length separator ≤ 1024 → length (lineOf id b separator) ≤ 2103
   line-short separator short =
       rw (← (parts-line id b separator)) (omega (arith, separator-reach separator short, length-append (to-separator id b separator) (10 ∷ [])))

@@ -27,8 +27,8 @@ abbrev pub separatorText : List ℕ → List ℕ
 separatorText [] = 45 ∷ []
 separatorText (b ∷ bs) = hex (b ∷ bs)
 
-unfoldable pub line : ℕ → BlockAddr → List ℕ → List ℕ
-line id b separator =
+unfoldable pub lineOf : ℕ → BlockAddr → List ℕ → List ℕ
+lineOf id b separator =
     decimal id
     ++ (32 ∷ decimal (b .start)
     ++ (32 ∷ decimal (b .end) ++ (32 ∷ decimal (b .«first_ordinal») ++ (32 ∷ separatorText separator ++ (10 ∷ [])))))

@@ -7,7 +7,7 @@ ghost use lib.ListN.{length};
 ghost use lib.Seq.{sets};
 ghost use Rattle.index.specs.Parts.{blockIn, separatorIn};
 ghost use Rattle.index.specs.Opening.{Opens};
-ghost use Rattle.block_lines.specs.Lines.{line as lineOf};
+ghost use Rattle.block_lines.specs.Lines.{lineOf};
 use group::BlockAddr;
 use index::BlockById;
 use index::SSTableIndexV3;

@@ -5,7 +5,7 @@ ghost use Prim.Native.Nat.{_+_, _*_, _≤_, _<_};
 ghost use lib.ListN.{length, drop};
 ghost use lib.Seq.{sets};
 ghost use Rattle.group.specs.Legal.{NumbersOk};
-ghost use Rattle.block_lines.specs.Lines.{decimal, hexDigit, hex, separatorText, line};
+ghost use Rattle.block_lines.specs.Lines.{decimal, hexDigit, hex, separatorText, lineOf};
 use group::BlockAddr;
 
 // No number of 64 bits has more digits.
@@ -84,8 +84,8 @@ fn put_separator(out: &mut [u8], at: usize, bytes: &[u8]) -> usize
 // Writes a line to the front of `out`. Returns its length.
 pub fn put_line(out: &mut [u8], id: usize, block: BlockAddr, separator: &[u8]) -> usize
     requires { ⌜ (id < 65536) × NumbersOk block × (length (now separator) ≤ 1024) × (2103 ≤ length (now out)) ⌝ }
-    ensures { λ r. ⌜ r ≡ length (line id block (now (separator .entry))) ⌝ }
-    ensures { λ _. ⌜ now (out .exit) ≡ sets (now (out .entry)) 0 (line id block (now (separator .entry))) ⌝ }
+    ensures { λ r. ⌜ r ≡ length (lineOf id block (now (separator .entry))) ⌝ }
+    ensures { λ _. ⌜ now (out .exit) ≡ sets (now (out .entry)) 0 (lineOf id block (now (separator .entry))) ⌝ }
 {
     let mut at = put_decimal(out, 0, id as u64);
     at = put_number(out, at, block.start);

@@ -9,15 +9,15 @@ use lib.Seq.{sets, take-nil, take-take, getD-take, getD-drop, getD-set-same, get
 use borrow.Author.Tests.{ne-eqb}
 use Rattle.serialize.proofs.Stores.{sets-part, sets-outside-take}
 use Rattle.group.specs.declared.BlockAddr.{BlockAddr}
-use Rattle.builder.specs.Area.{stride, keyOffset, keyLen, areaBlock, areaKey, areaView, viewOf}
+use Rattle.builder.specs.Area.{stride, areaKeyOffset, areaKeyLen, areaBlock, areaKey, areaView, viewOf}
 use Rattle.builder.specs.Calls.{After}
 use Rattle.builder.specs.Plain.{Entry, Rooms, roomsOf, keyBytesTaken, plainView}
 
 -- e is block i, and its key starts at `at`
 pub record Held (e : Entry) (i at : ℕ) (B K : List ℕ) : Type 0 where
   pub block : areaBlock B i ≡ e .block
-  pub offset : keyOffset B i ≡ at
-  pub len : keyLen B i ≡ length (e .key)
+  pub offset : areaKeyOffset B i ≡ at
+  pub len : areaKeyLen B i ≡ length (e .key)
   pub key : areaKey B K i ≡ e .key
 
 -- each entry is held at its index, behind the keys of those before it; entries stand newest first
@@ -101,7 +101,7 @@ holds-kept (e ∷ es) B K B′ K′ m k h g p q w =
         block = rw (same (stride * i) (omega arith), same (stride * i + 1) (omega arith), same (stride * i + 2) (omega arith)) (w .0 .block);
         offset = same (stride * i + 3) (omega arith) ∙ w .0 .offset;
         len = same (stride * i + 4) (omega arith) ∙ w .0 .len;
-        key = rw (same (stride * i + 3) (omega arith), same (stride * i + 4) (omega arith), front-part k K K′ (keyOffset B i) (keyLen B i) (omega (arith, w .0 .offset, w .0 .len)) q) (w .0 .key);
+        key = rw (same (stride * i + 3) (omega arith), same (stride * i + 4) (omega arith), front-part k K K′ (areaKeyOffset B i) (areaKeyLen B i) (omega (arith, w .0 .offset, w .0 .len)) q) (w .0 .key);
       },
       holds-kept es B K B′ K′ m k (omega arith) (omega arith) p q (w .1),
     )

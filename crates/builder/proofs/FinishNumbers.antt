@@ -5,7 +5,7 @@ use mathlib.Core.List.{List}
 use lib.ListN.{length}
 use lib.Seq.{sets}
 use borrow.Author.Tests.{lt-ltb, le-ltb}
-use Rattle.builder.specs.Rows.{orElse}
+use Rattle.group.specs.Rows.{orElse}
 use Rattle.builder.specs.Finish.{listNo, areaDirectory, areaIndex, finishNo, Finish, finishStep, finishDef, finishLenDef, lenStep}
 use Rattle.builder.specs.declared.SSTableIndexBuilder.{SSTableIndexBuilder}
 use Rattle.builder.specs.declared.FinishLen.the-variants.{Total, Refused}

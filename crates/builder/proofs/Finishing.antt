@@ -17,13 +17,14 @@ use Rattle.slope.specs.Slope.{bestSlope}
 use Rattle.slope.proofs.Widths.{bestSlope-lt}
 use Rattle.group.specs.Blocks.{blockAt, blocksAt}
 use Rattle.group.proofs.Blocks.{length-blocksAt, blocksAt-at}
+use Rattle.group.specs.Rows.{orElse}
 use Rattle.directory.specs.Directory.{directoryBytes}
 use Rattle.directory.specs.Keys.{keyAt}
 use Rattle.directory.proofs.Keys.{length-keysAt, keysAt-at}
 use Rattle.directory.proofs.Lengths.{Bounded}
 use Rattle.store.proofs.ReadBack.{Storable}
-use Rattle.builder.specs.Area.{stride, keyOffset, areaBlock, areaKey, areaView}
-use Rattle.builder.specs.Rows.{blockNo, orElse}
+use Rattle.builder.specs.Area.{stride, areaKeyOffset, areaBlock, areaKey, areaView}
+use Rattle.builder.specs.Rows.{blockNo}
 use Rattle.builder.specs.Calls.{After}
 use Rattle.builder.specs.Plain.{Entry, Call, roomsOf, plainEnd, runEnd, blocksOf, separatorsOf, SameLists}
 use Rattle.builder.specs.Index.{indexBytes}
@@ -67,10 +68,10 @@ module _ (es : List Entry) (ok : EntriesOk es) where
 -- ---- the areas' index is the entries'
 
 module _ (B K : List ℕ) where
-  offsets-good : (m : ℕ) → ((i : ℕ) → i < m → keyOffset B i ≡ areaView i B K .nextKey) → offsetsBad m B K ≡ false
+  offsets-good : (m : ℕ) → ((i : ℕ) → i < m → areaKeyOffset B i ≡ areaView i B K .nextKey) → offsetsBad m B K ≡ false
   unfolding offsetsBad
   offsets-good zero h = refl
-  offsets-good (suc m) h = rw (offsets-good m (λ i l. h i (omega arith)), eq-eqb (keyOffset B m) (areaView m B K .nextKey) (h m (omega arith)))
+  offsets-good (suc m) h = rw (offsets-good m (λ i l. h i (omega arith)), eq-eqb (areaKeyOffset B m) (areaView m B K .nextKey) (h m (omega arith)))
 
   rules-good : (m : ℕ) → ((i : ℕ) → i < m → blockNo (areaView i B K) (areaKey B K i) (areaBlock B i) ≡ 0) → rulesBad m B K ≡ false
   unfolding rulesBad

@@ -11,7 +11,7 @@ use Rattle.keys.specs.Order.{_≺_}
 use Rattle.keys.proofs.Order.{by-test}
 use Rattle.group.specs.Blocks.{blockOf}
 use Rattle.group.specs.Legal.{NumbersOk, Follows, Legal}
-use Rattle.builder.specs.Area.{View, keyOffset, areaBlock, areaKey, areaView}
+use Rattle.builder.specs.Area.{View, areaKeyOffset, areaBlock, areaKey, areaView}
 use Rattle.builder.specs.Rows.{blockNo}
 use Rattle.builder.specs.Calls.{After}
 use Rattle.builder.specs.Plain.{Entry, Rooms, roomsOf, keyBytesTaken, plainView, blocksOf, separatorsOf}
@@ -82,11 +82,11 @@ before-ok e [] (first k) = none
 before-ok e (p ∷ es) (more k b ok) = ok
 
 -- what the first i blocks show is what the entries before entry i show: keys touch, and no block breaks rows 2 to 6
-pub keys-touch : (es : List Entry) (a : After) → Rep es a → (i : ℕ) → i < length es → keyOffset (a .blocks) i ≡ areaView i (a .blocks) (a .keys) .nextKey
+pub keys-touch : (es : List Entry) (a : After) → Rep es a → (i : ℕ) → i < length es → areaKeyOffset (a .blocks) i ≡ areaView i (a .blocks) (a .keys) .nextKey
 unfolding Holds
 keys-touch [] a r = λ i h. absurd (omega arith)
 keys-touch (e ∷ es) a r =
-    each e es (λ (i : ℕ). keyOffset (a .blocks) i ≡ areaView i (a .blocks) (a .keys) .nextKey)
+    each e es (λ (i : ℕ). areaKeyOffset (a .blocks) i ≡ areaView i (a .blocks) (a .keys) .nextKey)
     (r .holds .0 .offset ∙ sym (ap (λ (v : View). v .nextKey) (rep-view es _ (rep-before e es a r)) ∙ plain-next (roomsOf a) es))
     (λ i h. keys-touch es _ (rep-before e es a r) i h)
 

@@ -12,9 +12,9 @@ use Rattle.keys.specs.Shorten.{shorten}
 use Rattle.keys.proofs.Order.{by-test}
 use Rattle.keys.proofs.Shorten.{shorten-length}
 use Rattle.group.specs.declared.BlockAddr.{BlockAddr}
-use Rattle.group.specs.Rows.{numbersBad, joinBad, ordinalBad}
+use Rattle.group.specs.Rows.{numbersBad, joinBad, ordinalBad, orElse}
 use Rattle.builder.specs.Area.{View, stride, viewOf}
-use Rattle.builder.specs.Rows.{areaBad, keyLong, keyBad, roomBad, blockNo, orElse, addNo, shortenNo}
+use Rattle.builder.specs.Rows.{areaBad, keyLong, keyBad, roomBad, blockNo, addNo, shortenNo}
 use Rattle.builder.specs.Calls.{After, addStep, addDef, shortBlocks, shortKeys, shortenStep, shortenDef}
 use Rattle.builder.specs.Plain.{Entry, Call, add, shortenLast, roomsOf, keyBytesTaken, plainView, callNo, taken, plainNext, plainNumbers, plainEnd, callDef, runNumbers, runEnd}
 use Rattle.builder.proofs.Views.{area-good}

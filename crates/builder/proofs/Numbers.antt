@@ -11,11 +11,11 @@ use borrow.Author.Tests.{eqb-false, ltb-false, lt-ltb, le-ltb, not-false}
 use Rattle.keys.specs.Order.{less, _≺_}
 use Rattle.group.specs.declared.BlockAddr.{BlockAddr}
 use Rattle.group.specs.Legal.{NumbersOk, Follows}
-use Rattle.group.specs.Rows.{numbersBad, joinBad, ordinalBad}
+use Rattle.group.specs.Rows.{numbersBad, joinBad, ordinalBad, orElse}
 use Rattle.group.proofs.Legal as legal
 use Rattle.builder.specs.declared.SSTableIndexBuilder.{SSTableIndexBuilder}
 use Rattle.builder.specs.Area.{View, stride, viewOf}
-use Rattle.builder.specs.Rows.{areaBad, AreaOk, keyLong, keyBad, roomBad, blockNo, orElse, addNo, shortenNo}
+use Rattle.builder.specs.Rows.{areaBad, AreaOk, keyLong, keyBad, roomBad, blockNo, addNo, shortenNo}
 use Rattle.builder.specs.Calls.{After, addStep, addDef, shortBlocks, shortKeys, shortenStep, shortenDef}
 use Rattle.builder.proofs.Views.{or-false, area-ok}
 

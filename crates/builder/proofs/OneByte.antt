@@ -11,7 +11,7 @@ use borrow.Author.Tests.{eqb-false}
 use Rattle.keys.specs.Shorten.{shorten}
 use Rattle.keys.proofs.Order.{by-test}
 use Rattle.keys.proofs.Shorten.{Raised, shorten-one-byte, sets-part, sets-part-one}
-use Rattle.builder.specs.Area.{stride, keyOffset, keyLen, areaView}
+use Rattle.builder.specs.Area.{stride, areaKeyOffset, areaKeyLen, areaView}
 use Rattle.builder.specs.Rows.{AreaOk}
 use Rattle.builder.specs.Calls.{shortBlocks, shortKeys}
 use Rattle.builder.proofs.Views.{next-some}
@@ -50,9 +50,9 @@ module _ (K next : List ℕ) (at len : ℕ) (fits : at + len ≤ length K) where
       (shorten-one-byte (take len (drop at K)) next)
 
 pub short-keys-one-byte : (n : ℕ) (B K next : List ℕ) → AreaOk (areaView n B K)
-    → (shortKeys n B K next ≡ K) ⊎ OneRaised (keyOffset B (n - 1)) (keyLen B (n - 1)) K (shortKeys n B K next)
+    → (shortKeys n B K next ≡ K) ⊎ OneRaised (areaKeyOffset B (n - 1)) (areaKeyLen B (n - 1)) K (shortKeys n B K next)
 unfolding shortKeys areaView
 short-keys-one-byte n B K next ok =
     by-test (eqb n 0)
     (λ e. simp e (inl refl))
-    (λ e. simp e (one-byte K next (keyOffset B (n - 1)) (keyLen B (n - 1)) (omega (arith, ok .within, next-some n B K (eqb-false n 0 e)))))
+    (λ e. simp e (one-byte K next (areaKeyOffset B (n - 1)) (areaKeyLen B (n - 1)) (omega (arith, ok .within, next-some n B K (eqb-false n 0 e)))))

@@ -11,8 +11,8 @@ use borrow.Author.Tests.{eqb-true, eqb-false, eq-eqb, ne-eqb, not-false}
 use Rattle.keys.proofs.Order.{by-test}
 use Rattle.group.specs.Legal.{Follows}
 use Rattle.directory.specs.Facts.{KeysArea}
-use Rattle.store.specs.Facts.{GroupLen, StoreArea}
-use Rattle.builder.specs.Area.{keyOffset, keyLen, areaBlock, areaKey, areaView, viewOf}
+use Rattle.store.specs.Facts.{GroupLenOk, StoreArea}
+use Rattle.builder.specs.Area.{areaKeyOffset, areaKeyLen, areaBlock, areaKey, areaView, viewOf}
 use Rattle.builder.specs.Rows.{areaBad, AreaOk, blockNo}
 use Rattle.builder.specs.Finish.{offsetsBad, rulesBad, listNo}
 use Rattle.builder.specs.declared.SSTableIndexBuilder.{SSTableIndexBuilder}
@@ -50,12 +50,12 @@ module _ (bad test : ℕ → Bool) (turn : (m : ℕ) → bad (suc m) ≡ (bad m 
 
 module _ (B K : List ℕ) where
   -- where the key of block m ends
-  pub next-suc : (m : ℕ) → areaView (suc m) B K .nextKey ≡ keyOffset B m + keyLen B m
+  pub next-suc : (m : ℕ) → areaView (suc m) B K .nextKey ≡ areaKeyOffset B m + areaKeyLen B m
   next-suc m =
       let one : suc m - 1 ≡ m = omega arith in
-      next-some (suc m) B K (λ z. omega arith) ∙ ap (λ (k : ℕ). keyOffset B k + keyLen B k) one
+      next-some (suc m) B K (λ z. omega arith) ∙ ap (λ (k : ℕ). areaKeyOffset B k + areaKeyLen B k) one
 
-  pub next-one : (m : ℕ) → areaView (m + 1) B K .nextKey ≡ keyOffset B m + keyLen B m
+  pub next-one : (m : ℕ) → areaView (m + 1) B K .nextKey ≡ areaKeyOffset B m + areaKeyLen B m
   next-one m = rw (add-one m) (next-suc m)
 
   pub last-suc : (m : ℕ) → areaView (suc m) B K .last ≡ areaBlock B m
@@ -65,21 +65,21 @@ module _ (B K : List ℕ) where
 
   -- ---- the offsets
 
-  pub offsets-hit : (m n : ℕ) → m < n → (keyOffset B m ≡ areaView m B K .nextKey → ⊥) → true ≡ offsetsBad n B K
+  pub offsets-hit : (m n : ℕ) → m < n → (areaKeyOffset B m ≡ areaView m B K .nextKey → ⊥) → true ≡ offsetsBad n B K
   unfolding offsetsBad
   offsets-hit m n h ne =
-      sym (some-hit (λ (k : ℕ). offsetsBad k B K) (λ (k : ℕ). not (eqb (keyOffset B k) (areaView k B K .nextKey))) (λ k. refl) m n h (ap not (ne-eqb _ _ ne)))
+      sym (some-hit (λ (k : ℕ). offsetsBad k B K) (λ (k : ℕ). not (eqb (areaKeyOffset B k) (areaView k B K .nextKey))) (λ k. refl) m n h (ap not (ne-eqb _ _ ne)))
 
-  pub offsets-next : (m : ℕ) → offsetsBad m B K ≡ false → keyOffset B m ≡ areaView m B K .nextKey → offsetsBad (m + 1) B K ≡ false
+  pub offsets-next : (m : ℕ) → offsetsBad m B K ≡ false → areaKeyOffset B m ≡ areaView m B K .nextKey → offsetsBad (m + 1) B K ≡ false
   unfolding offsetsBad
   offsets-next m f e =
-      none-next (λ (k : ℕ). offsetsBad k B K) (λ (k : ℕ). not (eqb (keyOffset B k) (areaView k B K .nextKey))) (λ k. refl) m f (ap not (eq-eqb _ _ e))
+      none-next (λ (k : ℕ). offsetsBad k B K) (λ (k : ℕ). not (eqb (areaKeyOffset B k) (areaView k B K .nextKey))) (λ k. refl) m f (ap not (eq-eqb _ _ e))
 
-  pub offsets-at : (n : ℕ) → offsetsBad n B K ≡ false → (i : ℕ) → i < n → keyOffset B i ≡ areaView i B K .nextKey
+  pub offsets-at : (n : ℕ) → offsetsBad n B K ≡ false → (i : ℕ) → i < n → areaKeyOffset B i ≡ areaView i B K .nextKey
   unfolding offsetsBad
   offsets-at n f i h =
-      eqb-true (keyOffset B i) (areaView i B K .nextKey)
-      (not-false _ (none-at (λ (k : ℕ). offsetsBad k B K) (λ (k : ℕ). not (eqb (keyOffset B k) (areaView k B K .nextKey))) (λ k. refl) n f i h))
+      eqb-true (areaKeyOffset B i) (areaView i B K .nextKey)
+      (not-false _ (none-at (λ (k : ℕ). offsetsBad k B K) (λ (k : ℕ). not (eqb (areaKeyOffset B k) (areaView k B K .nextKey))) (λ k. refl) n f i h))
 
   -- ---- rows 2 to 6
 
@@ -119,7 +119,7 @@ module _ (B K : List ℕ) where
       within = omega (arith, ok .within, next-rises n m h (omega arith));
     }
 
-    pub key-inside : AreaOk (areaView n B K) → (i : ℕ) → i < n → keyOffset B i + keyLen B i ≤ length K
+    pub key-inside : AreaOk (areaView n B K) → (i : ℕ) → i < n → areaKeyOffset B i + areaKeyLen B i ≤ length K
     unfolding areaView
     key-inside ok i h = omega (arith, front-ok ok (suc i) h .within, next-suc i)
 
@@ -190,5 +190,5 @@ store-area n B K ok = record {
   };
 }
 
-pub group-len : GroupLen 128
+pub group-len : GroupLenOk 128
 group-len = record { some = omega arith; few = omega arith }

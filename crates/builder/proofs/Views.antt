@@ -8,7 +8,7 @@ use lib.Dec.{ltb}
 use lib.ListN.{length}
 use borrow.Author.Tests.{eq-eqb, ne-eqb, lt-ltb, le-ltb, ltb-true, ltb-false}
 use Rattle.keys.proofs.Order.{by-test}
-use Rattle.builder.specs.Area.{View, stride, keyOffset, keyLen, areaBlock, areaKey, areaView}
+use Rattle.builder.specs.Area.{View, stride, areaKeyOffset, areaKeyLen, areaBlock, areaKey, areaView}
 use Rattle.builder.specs.Rows.{areaBad, AreaOk, roomBad}
 
 -- neither of two tests
@@ -46,12 +46,12 @@ module _ (n : ℕ) (B K : List ℕ) where
   area-none h =
       simp (eq-eqb n 0 h, le-ltb 65536 n (omega arith), le-ltb (length B) (stride * n) (omega arith), le-ltb (length K) 0 (omega arith))
 
-  pub area-offset : n ≤ 65536 → stride * n ≤ length B → (n ≡ 0 → ⊥) → length K < keyOffset B (n - 1) → true ≡ areaBad (areaView n B K)
+  pub area-offset : n ≤ 65536 → stride * n ≤ length B → (n ≡ 0 → ⊥) → length K < areaKeyOffset B (n - 1) → true ≡ areaBad (areaView n B K)
   unfolding areaBad areaView
   area-offset h k some l =
-      simp (le-ltb 65536 n h, le-ltb (length B) (stride * n) k, ne-eqb n 0 some, lt-ltb (length K) (keyOffset B (n - 1) + keyLen B (n - 1)) (omega arith))
+      simp (le-ltb 65536 n h, le-ltb (length B) (stride * n) k, ne-eqb n 0 some, lt-ltb (length K) (areaKeyOffset B (n - 1) + areaKeyLen B (n - 1)) (omega arith))
 
-  pub area-last : n ≤ 65536 → stride * n ≤ length B → (n ≡ 0 → ⊥) → ltb (length K) (keyOffset B (n - 1) + keyLen B (n - 1)) ≡ areaBad (areaView n B K)
+  pub area-last : n ≤ 65536 → stride * n ≤ length B → (n ≡ 0 → ⊥) → ltb (length K) (areaKeyOffset B (n - 1) + areaKeyLen B (n - 1)) ≡ areaBad (areaView n B K)
   unfolding areaBad areaView
   area-last h k some = simp (le-ltb 65536 n h, le-ltb (length B) (stride * n) k, ne-eqb n 0 some)
 
@@ -65,7 +65,7 @@ module _ (n : ℕ) (B K : List ℕ) where
   last-none h = simp (eq-eqb n 0 h)
 
   -- a last block
-  pub next-some : (n ≡ 0 → ⊥) → areaView n B K .nextKey ≡ keyOffset B (n - 1) + keyLen B (n - 1)
+  pub next-some : (n ≡ 0 → ⊥) → areaView n B K .nextKey ≡ areaKeyOffset B (n - 1) + areaKeyLen B (n - 1)
   unfolding areaView
   next-some h = simp (ne-eqb n 0 h)
 

@@ -13,18 +13,18 @@ use Rattle.builder.specs.declared.SSTableIndexBuilder.{SSTableIndexBuild
 abbrev pub stride : ℕ
 stride = 5
 
-abbrev pub keyOffset : List ℕ → ℕ → ℕ
-keyOffset B i = getD B (stride * i + 3) 0
+abbrev pub areaKeyOffset : List ℕ → ℕ → ℕ
+areaKeyOffset B i = getD B (stride * i + 3) 0
 
-abbrev pub keyLen : List ℕ → ℕ → ℕ
-keyLen B i = getD B (stride * i + 4) 0
+abbrev pub areaKeyLen : List ℕ → ℕ → ℕ
+areaKeyLen B i = getD B (stride * i + 4) 0
 
 -- block i and its key
 abbrev pub areaBlock : List ℕ → ℕ → BlockAddr
 areaBlock B i = blockAt B stride i
 
 abbrev pub areaKey : List ℕ → List ℕ → ℕ → List ℕ
-areaKey B K i = take (keyLen B i) (drop (keyOffset B i) K)
+areaKey B K i = take (areaKeyLen B i) (drop (areaKeyOffset B i) K)
 
 -- What the table's rows look at. The builder with its areas has one, and so has the plain machine.
 pub record View : Type 0 where
@@ -41,7 +41,7 @@ areaView m B K = record {
   n = m;
   last = cond (eqb m 0) (record { start = 0; end = 0; «first_ordinal» = 0 }) (areaBlock B (m - 1));
   lastKey = cond (eqb m 0) [] (areaKey B K (m - 1));
-  nextKey = cond (eqb m 0) 0 (keyOffset B (m - 1) + keyLen B (m - 1));
+  nextKey = cond (eqb m 0) 0 (areaKeyOffset B (m - 1) + areaKeyLen B (m - 1));
   room = length B;
   keyRoom = length K;
 }

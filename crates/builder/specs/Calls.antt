@@ -7,7 +7,7 @@ use lib.ListN.{length, set}
 use lib.Seq.{sets}
 use Rattle.keys.specs.Shorten.{shorten}
 use Rattle.group.specs.declared.BlockAddr.{BlockAddr}
-use Rattle.builder.specs.Area.{View, stride, keyOffset, areaKey, viewOf}
+use Rattle.builder.specs.Area.{View, stride, areaKeyOffset, areaKey, viewOf}
 use Rattle.builder.specs.Rows.{addNo, shortenNo}
 use Rattle.builder.specs.declared.SSTableIndexBuilder.{SSTableIndexBuilder}
 use Rattle.builder.specs.declared.Answer.{Answer}
@@ -42,7 +42,7 @@ unfoldable pub shortBlocks : ℕ → List ℕ → List ℕ → List ℕ → List
 shortBlocks n B K next = cond (eqb n 0) B (set B (stride * (n - 1) + 4) (length (shorten (areaKey B K (n - 1)) next)))
 
 unfoldable pub shortKeys : ℕ → List ℕ → List ℕ → List ℕ → List ℕ
-shortKeys n B K next = cond (eqb n 0) K (sets K (keyOffset B (n - 1)) (shorten (areaKey B K (n - 1)) next))
+shortKeys n B K next = cond (eqb n 0) K (sets K (areaKeyOffset B (n - 1)) (shorten (areaKey B K (n - 1)) next))
 
 -- a shorten whose number is known
 unfoldable pub shortenStep : ℕ → SSTableIndexBuilder → List ℕ → List ℕ → List ℕ → After

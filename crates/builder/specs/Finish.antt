@@ -8,10 +8,11 @@ use lib.Seq.{sets}
 use Rattle.slope.specs.Slope.{bestSlope}
 use Rattle.group.specs.declared.BlockAddr.{BlockAddr}
 use Rattle.group.specs.Blocks.{blocksAt}
+use Rattle.group.specs.Rows.{orElse}
 use Rattle.directory.specs.Directory.{directoryBytes}
 use Rattle.directory.specs.Keys.{keysAt}
-use Rattle.builder.specs.Area.{View, stride, keyOffset, areaBlock, areaKey, areaView, viewOf}
-use Rattle.builder.specs.Rows.{areaBad, blockNo, orElse}
+use Rattle.builder.specs.Area.{View, stride, areaKeyOffset, areaBlock, areaKey, areaView, viewOf}
+use Rattle.builder.specs.Rows.{areaBad, blockNo}
 use Rattle.builder.specs.Plain.{Entry, blocksOf, separatorsOf}
 use Rattle.builder.specs.Index.{indexBytes}
 use Rattle.builder.specs.declared.SSTableIndexBuilder.{SSTableIndexBuilder}
@@ -23,7 +24,7 @@ use Rattle.builder.specs.declared.FinishLen.the-variants.{Total, Refused
 -- the key offsets' rule is broken: the first offset is 0, the next is offset plus length
 unfoldable pub offsetsBad : ℕ → List ℕ → List ℕ → Bool
 offsetsBad zero B K = false
-offsetsBad (suc m) B K = offsetsBad m B K || not (eqb (keyOffset B m) (areaView m B K .nextKey))
+offsetsBad (suc m) B K = offsetsBad m B K || not (eqb (areaKeyOffset B m) (areaView m B K .nextKey))
 
 -- a lent block breaks 2 to 6
 unfoldable pub rulesBad : ℕ → List ℕ → List ℕ → Bool
@@ -60,9 +61,9 @@ pub record Finish : Type 0 where
   pub total : ℕ
   pub directory : ℕ
 
-abbrev pub finish : Finished → List ℕ → Finish
-finish (Written b total directory) out = record { no = 0; builder = b; out = out; total = total; directory = directory }
-finish (Unwritten k b) out = record { no = k; builder = b; out = out; total = 0; directory = 0 }
+abbrev pub finishOf : Finished → List ℕ → Finish
+finishOf (Written b total directory) out = record { no = 0; builder = b; out = out; total = total; directory = directory }
+finishOf (Unwritten k b) out = record { no = k; builder = b; out = out; total = 0; directory = 0 }
 
 -- a finish whose number is known: it writes the index from byte 0 and leaves the rest, or changes nothing
 unfoldable pub finishStep : ℕ → SSTableIndexBuilder → List ℕ → List ℕ → List ℕ → Finish

@@ -6,7 +6,7 @@ mod shorten;
 
 ghost use mathlib.Core.Path.{_≡_};
 ghost use Rattle.builder.specs.Calls.{after, addDef, shortenDef};
-ghost use Rattle.builder.specs.Finish.{finish as finishOf, finishDef, finishLenDef};
+ghost use Rattle.builder.specs.Finish.{finishOf, finishDef, finishLenDef};
 use group::BlockAddr;
 
 pub struct SSTableIndexBuilder {

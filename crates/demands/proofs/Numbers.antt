@@ -7,9 +7,9 @@ use native.Mathlib.Omega.{arith}
 use lib.Dec.{ltb}
 use lib.ListN.{getD}
 use Rattle.group.specs.declared.BlockAddr.{BlockAddr}
-use Rattle.group.specs.Rows.{numbersBad, joinBad, ordinalBad}
+use Rattle.group.specs.Rows.{numbersBad, joinBad, ordinalBad, orElse}
 use Rattle.builder.specs.Area.{View}
-use Rattle.builder.specs.Rows.{areaBad, keyLong, keyBad, roomBad, blockNo, orElse, addNo, shortenNo}
+use Rattle.builder.specs.Rows.{areaBad, keyLong, keyBad, roomBad, blockNo, addNo, shortenNo}
 use Rattle.builder.specs.Plain.{Entry, Call, add, shortenLast, Rooms, plainView, callNo, plainNext, plainNumbers}
 
 cond-le : (b : Bool) (x y : ℕ) → x ≤ 7 → y ≤ 7 → cond b x y ≤ 7

@@ -11,16 +11,16 @@ use Rattle.keys.specs.Order.{less}
 use Rattle.group.specs.declared.BlockAddr.{BlockAddr}
 use Rattle.group.specs.Legal.{limit}
 use Rattle.group.specs.Rows.{numbersBad, joinBad, ordinalBad}
+use Rattle.group.specs.Blocks.{noBlock}
 use Rattle.store.specs.Read.{Last}
 use Rattle.builder.specs.Area.{View}
 use Rattle.builder.specs.Rows.{keyLong, keyBad, roomBad, blockNo, addNo}
 use Rattle.builder.specs.Plain.{Entry, Rooms, keyBytesTaken, plainView, callNo, taken, plainNext, plainNumbers, plainEnd}
 use Rattle.builder.proofs.Views.{area-good}
 use Rattle.builder.proofs.Numbers.{add-none}
-use Rattle.index.specs.Answers.{noBlock}
 use Rattle.index.specs.Lookups.{ByIdExact, ByOrdExact}
-use Rattle.demands.specs.Demand3.{block}
-use Rattle.demands.specs.Cases.{block0, block1, block2, calls}
+use Rattle.demands.specs.Demand3.{entryBlock}
+use Rattle.demands.specs.Cases.{block0, block1, block2, workedCalls}
 
 -- ---- the list
 
@@ -57,26 +57,26 @@ module _ (rooms : Rooms) (blocks : 15 ≤ rooms .blocks) (keys : 3 ≤ rooms .ke
   unfolding blockNo keyLong keyBad numbersBad joinBad ordinalBad limit less plainView keyBytesTaken
   add-2 = added (plainView rooms two) (102 ∷ []) block2 refl (omega arith) (omega arith) (omega arith)
 
-  pub three-left : plainEnd rooms calls [] ≡ three
+  pub three-left : plainEnd rooms workedCalls [] ≡ three
   unfolding plainEnd callNo plainNext taken
   three-left = rw (add-0, add-1, add-2)
 
-  pub three-taken : plainNumbers rooms calls [] ≡ 0 ∷ 0 ∷ 0 ∷ []
+  pub three-taken : plainNumbers rooms workedCalls [] ≡ 0 ∷ 0 ∷ 0 ∷ []
   unfolding plainNumbers callNo plainNext taken
   three-taken = rw (add-0, add-1, add-2)
 
 -- ---- what is found
 
-pub id-2 : (k : ℕ) (addr : BlockAddr) → ByIdExact (block three) 3 2 k addr → (k ≡ 0) × (addr ≡ block2)
+pub id-2 : (k : ℕ) (addr : BlockAddr) → ByIdExact (entryBlock three) 3 2 k addr → (k ≡ 0) × (addr ≡ block2)
 id-2 k addr (inl p) = (p .0, p .2)
 id-2 k addr (inr p) = absurd (let z : ⊥ = omega arith in z)
 
-pub id-3 : (k : ℕ) (addr : BlockAddr) → ByIdExact (block three) 3 3 k addr → (k ≡ 17) × (addr ≡ noBlock)
+pub id-3 : (k : ℕ) (addr : BlockAddr) → ByIdExact (entryBlock three) 3 3 k addr → (k ≡ 17) × (addr ≡ noBlock)
 id-3 k addr (inl p) = absurd (let z : ⊥ = omega arith in z)
 id-3 k addr (inr p) = (p .0, p .2)
 
 abbrev ordinal : ℕ → ℕ
-ordinal i = block three i .«first_ordinal»
+ordinal i = entryBlock three i .«first_ordinal»
 
 pub in-0 : (id : ℕ) → Last ordinal 3 3 id → id ≡ 0
 in-0 zero l = refl
@@ -97,7 +97,7 @@ in-2 (suc (suc zero)) l = refl
 in-2 (suc (suc (suc id))) l = absurd (omega (arith, l .inside))
 
 -- the block of an ordinal, where its number among the three is known
-pub located : (ord at : ℕ) → ((id : ℕ) → Last ordinal 3 ord id → id ≡ at) → (k id : ℕ) (addr : BlockAddr) → ByOrdExact (block three) 3 ord k id addr
-    → (k ≡ 0) × (id ≡ at) × (addr ≡ block three at)
-located ord at is k id addr (inl p) = (p .0, is id (p .1), p .2 ∙ ap (block three) (is id (p .1)))
+pub located : (ord at : ℕ) → ((id : ℕ) → Last ordinal 3 ord id → id ≡ at) → (k id : ℕ) (addr : BlockAddr) → ByOrdExact (entryBlock three) 3 ord k id addr
+    → (k ≡ 0) × (id ≡ at) × (addr ≡ entryBlock three at)
+located ord at is k id addr (inl p) = (p .0, is id (p .1), p .2 ∙ ap (entryBlock three) (is id (p .1)))
 located ord at is k id addr (inr p) = absurd (let z : ⊥ = omega (arith, p .3) in z)

@@ -10,6 +10,7 @@ use Rattle.slope.specs.Slope.{bestSlope, widthOf}
 use Rattle.group.specs.declared.BlockAddr.{BlockAddr}
 use Rattle.group.specs.declared.BlockAddrBlockMetadata.{BlockAddrBlockMetadata}
 use Rattle.group.specs.Write.{rangeValues, ordinalValues, fields, metaOf, groupNumber}
+use Rattle.group.specs.Blocks.{noBlock}
 use Rattle.store.specs.Store.{addrs, storeBytes}
 use Rattle.builder.specs.Calls.{After}
 use Rattle.builder.specs.Plain.{Call, add, blocksOf, separatorsOf, runNumbers}
@@ -17,7 +18,6 @@ use Rattle.automaton.specs.Bits.{Exactly}
 use Rattle.automaton.specs.Table.{tableNo}
 use Rattle.automaton.specs.Words.{Hits}
 use Rattle.pruning.specs.Interval.{Marked}
-use Rattle.index.specs.Answers.{noBlock}
 use Rattle.index.specs.Opening.{Opens, openedOf}
 use Rattle.demands.specs.Demand3.{GetBlock, LocateWithOrd, entries, finished, index}
 
@@ -34,8 +34,8 @@ abbrev pub block2 : BlockAddr
 block2 = record { start = 25; end = 30; «first_ordinal» = 9 }
 
 -- with keys 62, 64, 66
-abbrev pub calls : List Call
-calls = add (98 ∷ []) block0 ∷ add (100 ∷ []) block1 ∷ add (102 ∷ []) block2 ∷ []
+abbrev pub workedCalls : List Call
+workedCalls = add (98 ∷ []) block0 ∷ add (100 ∷ []) block1 ∷ add (102 ∷ []) block2 ∷ []
 
 -- a fresh builder with room for them in its areas, and for the index in the output
 pub record Room (fresh : After) (out : List ℕ) : Type 0 where
@@ -80,9 +80,9 @@ onlyEmpty = 2 ∷ 1 ∷ 0 ∷ replicate 512 1
 
 pub record Worked (fresh : After) (out : List ℕ) : Type 0 where
   -- the three adds are taken, and are the blocks and separators
-  pub taken : runNumbers calls fresh ≡ 0 ∷ 0 ∷ 0 ∷ []
-  pub blocks : blocksOf (entries calls fresh) ≡ block0 ∷ block1 ∷ block2 ∷ []
-  pub separators : separatorsOf (entries calls fresh) ≡ (98 ∷ []) ∷ (100 ∷ []) ∷ (102 ∷ []) ∷ []
+  pub taken : runNumbers workedCalls fresh ≡ 0 ∷ 0 ∷ 0 ∷ []
+  pub blocks : blocksOf (entries workedCalls fresh) ≡ block0 ∷ block1 ∷ block2 ∷ []
+  pub separators : separatorsOf (entries workedCalls fresh) ≡ (98 ∷ []) ∷ (100 ∷ []) ∷ (102 ∷ []) ∷ []
   -- range slope 11 width 3, ordinal slope 5 width 2
   pub range-slope : group .«range_start_slope» ≡ 11
   pub range-width : group .«range_start_nbits» ≡ 3
@@ -92,24 +92,24 @@ pub record Worked (fresh : After) (out : List ℕ) : Type 0 where
   pub five-fields : inTurn rangeFields ordinalFields ≡ 3 ∷ 1 ∷ 7 ∷ 1 ∷ 1 ∷ []
   pub bits : groupNumber group block0 (block1 ∷ block2 ∷ []) ≡ 3 + 2 ^ 3 * (1 + 2 ^ 2 * (7 + 2 ^ 3 * (1 + 2 ^ 2 * 1)))
   -- address bytes EB 05; store 46 bytes
-  pub address-bytes : addrs bestSlope 128 1 (blocksOf (entries calls fresh)) ≡ 235 ∷ 5 ∷ []
-  pub store : length (storeBytes bestSlope 128 (blocksOf (entries calls fresh))) ≡ 46
+  pub address-bytes : addrs bestSlope 128 1 (blocksOf (entries workedCalls fresh)) ≡ 235 ∷ 5 ∷ []
+  pub store : length (storeBytes bestSlope 128 (blocksOf (entries workedCalls fresh))) ≡ 46
   -- with keys 62, 64, 66 the index has 85; finish returns them, and they open
-  pub accepted : finished calls fresh out .no ≡ 0
-  pub total : finished calls fresh out .total ≡ 85
-  pub index-bytes : length (index calls fresh out) ≡ 85
-  pub opens : Opens 128 (index calls fresh out) (openedOf (index calls fresh out))
+  pub accepted : finished workedCalls fresh out .no ≡ 0
+  pub total : finished workedCalls fresh out .total ≡ 85
+  pub index-bytes : length (index workedCalls fresh out) ≡ 85
+  pub opens : Opens 128 (index workedCalls fresh out) (openedOf (index workedCalls fresh out))
   -- there: id 2 gives 25..30, id 3 gives 17
-  pub id-2 : (k : ℕ) (addr : BlockAddr) → GetBlock (index calls fresh out) (openedOf (index calls fresh out)) 2 k addr
+  pub id-2 : (k : ℕ) (addr : BlockAddr) → GetBlock (index workedCalls fresh out) (openedOf (index workedCalls fresh out)) 2 k addr
       → (k ≡ 0) × (addr ≡ block2)
-  pub id-3 : (k : ℕ) (addr : BlockAddr) → GetBlock (index calls fresh out) (openedOf (index calls fresh out)) 3 k addr
+  pub id-3 : (k : ℕ) (addr : BlockAddr) → GetBlock (index workedCalls fresh out) (openedOf (index workedCalls fresh out)) 3 k addr
       → (k ≡ 17) × (addr ≡ noBlock)
   -- ordinals 3, 4, 1,000,000 give blocks 0, 1, 2
-  pub ordinal-3 : (k id : ℕ) (addr : BlockAddr) → LocateWithOrd (index calls fresh out) (openedOf (index calls fresh out)) 3 k id addr
+  pub ordinal-3 : (k id : ℕ) (addr : BlockAddr) → LocateWithOrd (index workedCalls fresh out) (openedOf (index workedCalls fresh out)) 3 k id addr
       → (k ≡ 0) × (id ≡ 0) × (addr ≡ block0)
-  pub ordinal-4 : (k id : ℕ) (addr : BlockAddr) → LocateWithOrd (index calls fresh out) (openedOf (index calls fresh out)) 4 k id addr
+  pub ordinal-4 : (k id : ℕ) (addr : BlockAddr) → LocateWithOrd (index workedCalls fresh out) (openedOf (index workedCalls fresh out)) 4 k id addr
       → (k ≡ 0) × (id ≡ 1) × (addr ≡ block1)
-  pub ordinal-1000000 : (k id : ℕ) (addr : BlockAddr) → LocateWithOrd (index calls fresh out) (openedOf (index calls fresh out)) 1000000 k id addr
+  pub ordinal-1000000 : (k id : ℕ) (addr : BlockAddr) → LocateWithOrd (index workedCalls fresh out) (openedOf (index workedCalls fresh out)) 1000000 k id addr
       → (k ≡ 0) × (id ≡ 2) × (addr ≡ block2)
   -- point (1, 2^40): slope 0, width 42
   pub point-slope : bestSlope (2 ^ 40 ∷ []) ≡ 0

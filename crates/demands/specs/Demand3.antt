@@ -16,7 +16,7 @@ use Rattle.index.specs.Parts.{blockIn, separatorIn}
 use Rattle.index.specs.Opening.{Opens, openedOf}
 use Rattle.index.specs.Answers.{partAt}
 use Rattle.index.specs.Lookups.{ByIdAllowed, ByIdExact, LocatedAllowed, ByOrdExact, ByKeyAllowed, ByKeyExact, AddrByKeyExact, placeDef}
-use Rattle.listing.specs.Listing.{listNo, separatorAt, Listing, Leaves}
+use Rattle.listing.specs.Listing.{listingNo, separatorAt, Listing, ListingLeaves}
 
 -- what the contracts of the lookups and the listing promise of their numbers and values
 abbrev pub GetBlock : List ℕ → SSTableIndexV3 → ℕ → ℕ → BlockAddr → Type 0
@@ -36,33 +36,33 @@ GetBlockWithKey f opened key k id addr =
 
 abbrev pub GetBlockForAutomaton : List ℕ → SSTableIndexV3 → List ℕ → List ℕ → List ℕ → ℕ → ℕ → Type 0
 GetBlockForAutomaton f opened t marks written k count =
-    (k ≡ listNo 128 opened f t (length marks)) × Leaves t (separatorAt opened f) (opened .n) marks written k count
+    (k ≡ listingNo 128 opened f t (length marks)) × ListingLeaves t (separatorAt opened f) (opened .n) marks written k count
 
 -- entry i is block i, its final key separator i
-abbrev pub block : List Entry → ℕ → BlockAddr
-block es i = blockOf (blocksOf es) i
+abbrev pub entryBlock : List Entry → ℕ → BlockAddr
+entryBlock es i = blockOf (blocksOf es) i
 
-abbrev pub separator : List Entry → ℕ → List ℕ
-separator es i = getD (separatorsOf es) i []
+abbrev pub entrySeparator : List Entry → ℕ → List ℕ
+entrySeparator es i = getD (separatorsOf es) i []
 
 -- what is found in the index f of the entries, opened
 pub record Finds (es : List Entry) (f : List ℕ) (opened : SSTableIndexV3) : Type 0 where
   -- id i gives block i as its start, end and ordinal, and other ids none (17)
-  pub by-id : (id k : ℕ) (addr : BlockAddr) → GetBlock f opened id k addr → ByIdExact (block es) (length es) id k addr
+  pub by-id : (id k : ℕ) (addr : BlockAddr) → GetBlock f opened id k addr → ByIdExact (entryBlock es) (length es) id k addr
   -- an ordinal gives the last block whose first ordinal is at or below it, otherwise none (18)
   pub by-ordinal : (ord k id : ℕ) (addr : BlockAddr) → LocateWithOrd f opened ord k id addr
-      → ByOrdExact (block es) (length es) ord k id addr
+      → ByOrdExact (entryBlock es) (length es) ord k id addr
   -- a key gives the first block whose separator isn't below it, otherwise none (19); any address with it is block i's
-  pub by-key : (key : List ℕ) (k id : ℕ) → LocateWithKey f opened key k id → ByKeyExact (separator es) (length es) key k id
+  pub by-key : (key : List ℕ) (k id : ℕ) → LocateWithKey f opened key k id → ByKeyExact (entrySeparator es) (length es) key k id
   pub address-by-key : (key : List ℕ) (k id : ℕ) (addr : BlockAddr) → GetBlockWithKey f opened key k id addr
-      → AddrByKeyExact (separator es) (block es) (length es) key k id addr
+      → AddrByKeyExact (entrySeparator es) (entryBlock es) (length es) key k id addr
   -- the separator by id is separator i
-  pub separators : (id : ℕ) → id < length es → partAt f (placeDef 128 opened f id) ≡ separator es id
+  pub separators : (id : ℕ) → id < length es → partAt f (placeDef 128 opened f id) ≡ entrySeparator es id
   pub no-separator : (id : ℕ) → length es ≤ id → placeDef 128 opened f id ≡ Missing
   -- a listing whose automaton hits none of 21 to 23 and whose marks have n bytes is accepted: it writes n marks, mark i being 1
   -- exactly when the automaton accepts some byte string above separator i - 1 and not above separator i, and counts the ones
   pub listing : (t marks written : List ℕ) (k count : ℕ) → tableNo t ≡ 0 → length es ≤ length marks
-      → GetBlockForAutomaton f opened t marks written k count → (k ≡ 0) × Listing t (separator es) (length es) marks written count
+      → GetBlockForAutomaton f opened t marks written k count → (k ≡ 0) × Listing t (entrySeparator es) (length es) marks written count
 
 -- the finish behind a list of calls, on the builder and the areas as the calls left them
 abbrev pub finished : List Call → After → List ℕ → Finish

@@ -17,7 +17,7 @@ use Rattle.automaton.specs.Table.{tableNo, flag}
 use Rattle.automaton.specs.Words.{Word}
 use Rattle.automaton.proofs.Strings.{hits-nil, word-cases, hits-cons}
 use Rattle.pruning.specs.Interval.{startOf, Marked}
-use Rattle.example.specs.Example.{longer, ExampleNo, Shown, answerNo, answerLen, Leaves}
+use Rattle.example.specs.Example.{longer, ExampleNo, Shown, answerNo, answerLen, ExampleLeaves}
 use Rattle.example.specs.declared.ExampleAnswer.{ExampleAnswer}
 use Rattle.example.specs.declared.ExampleAnswer.the-variants.{Written, Refused}
 use Rattle.example.proofs.Bounds.{next-string}
@@ -38,7 +38,7 @@ exactly-leb a b = go (leb a b) refl
 -- ---- an answer with its number and what it leaves
 pub record Answered (t : List ℕ) (start : Option (List ℕ)) (end out new : List ℕ) (room : ℕ) (r : ExampleAnswer) : Type 0 where
   pub no : ExampleNo t start end room (answerNo r)
-  pub leaves : Leaves t start end out new (answerNo r) (answerLen r)
+  pub leaves : ExampleLeaves t start end out new (answerNo r) (answerLen r)
 
 module _ {t : List ℕ} {start : Option (List ℕ)} {end out new : List ℕ} where
   shown-marked : {len : ℕ} → Shown t start end out new len → Marked t start end

@@ -9,7 +9,7 @@ use Rattle.keys.specs.Order.{_≺_, _≼_}
 use Rattle.keys.proofs.Order.{less-append, prefix-≼, prefix-≺}
 use Rattle.automaton.specs.Table.{next}
 use Rattle.automaton.specs.Words.{Bytes, run, Hits}
-use Rattle.automaton.specs.Live.{Byte}
+use Rattle.automaton.specs.Live.{LiveByte}
 use Rattle.automaton.proofs.Exact.{same-or}
 use Rattle.automaton.proofs.Strings.{hits-tail, can-match-hits}
 use Rattle.pruning.proofs.Intervals.{≺-lower, ≼-lower, ≺-same, ≼-same, ≺-heads, ≼-heads, not-≺-nil, not-cons-≼-nil}
@@ -74,7 +74,7 @@ meet x b (inr g) (inl k) = absurd (omega (arith, g .0))
 meet x b (inr g) (inr k) = (g .0, g .1, k .1)
 
 -- they have such a byte
-pub leaving-byte : {t : List ℕ} (s : ℕ) (p w : List ℕ) (lo hi : ℕ) → Hits t s w → (p ++ (lo ∷ [])) ≼ w → w ≺ (p ++ (hi ∷ [])) → Byte t (run t s p) lo hi
+pub leaving-byte : {t : List ℕ} (s : ℕ) (p w : List ℕ) (lo hi : ℕ) → Hits t s w → (p ++ (lo ∷ [])) ≼ w → w ≺ (p ++ (hi ∷ [])) → LiveByte t (run t s p) lo hi
 unfolding run
 leaving-byte s [] [] lo hi i l h = absurd (not-cons-≼-nil lo [] l)
 leaving-byte s [] (b ∷ w) lo hi i l h = record {

@@ -9,7 +9,7 @@ use lib.Seq.{sets}
 use Rattle.keys.specs.Order.{_≼_}
 use Rattle.automaton.specs.Table.{tableNo}
 use Rattle.automaton.specs.Words.{Hits}
-use Rattle.pruning.specs.Interval.{Above, Marked}
+use Rattle.pruning.specs.Interval.{AboveStart, Marked}
 use Rattle.example.specs.declared.ExampleAnswer.{ExampleAnswer}
 use Rattle.example.specs.declared.ExampleAnswer.the-variants.{Written, Refused}
 
@@ -29,7 +29,7 @@ pub data ExampleNo (t : List ℕ) (start : Option (List ℕ)) (end : List ℕ) (
 pub record Shown (t : List ℕ) (start : Option (List ℕ)) (end out written : List ℕ) (len : ℕ) : Type 0 where
   pub word : List ℕ
   pub hits : Hits t 0 word
-  pub above : Above start word
+  pub above : AboveStart start word
   pub not-above : word ≼ end
   pub whole : len ≡ length word
   pub short : len ≤ longer start end + 64
@@ -45,5 +45,5 @@ answerLen (Written len) = len
 answerLen (Refused k) = 0
 
 -- what a call with number k leaves in the output: an example, or what was there
-abbrev pub Leaves : List ℕ → Option (List ℕ) → List ℕ → List ℕ → List ℕ → ℕ → ℕ → Type 0
-Leaves t start end out written k len = ((k ≡ 0) × Shown t start end out written len) ⊎ ((0 < k) × (len ≡ 0) × (written ≡ out))
+abbrev pub ExampleLeaves : List ℕ → Option (List ℕ) → List ℕ → List ℕ → List ℕ → ℕ → ℕ → Type 0
+ExampleLeaves t start end out written k len = ((k ≡ 0) × Shown t start end out written len) ⊎ ((0 < k) × (len ≡ 0) × (written ≡ out))

@@ -10,7 +10,7 @@ ghost use Prim.Native.Nat.{_+_, _≤_, _<_};
 ghost use lib.ListN.{length};
 ghost use Rattle.automaton.specs.Bits.{Exactly};
 ghost use Rattle.pruning.specs.Interval.{startOf};
-ghost use Rattle.example.specs.Example.{longer, ExampleNo, answerNo, answerLen, Leaves};
+ghost use Rattle.example.specs.Example.{longer, ExampleNo, answerNo, answerLen, ExampleLeaves};
 
 // The length of an example, or a row's number.
 pub enum ExampleAnswer {
@@ -57,7 +57,7 @@ pub fn example(
     out: &mut [u8],
 ) -> ExampleAnswer
     ensures { λ r. ⌜ ExampleNo (now (table .entry)) (startOf «has_start» (now («start_key» .entry))) (now («end_key» .entry)) (length (now (out .entry))) (answerNo r) ⌝ }
-    ensures { λ r. ⌜ Leaves (now (table .entry)) (startOf «has_start» (now («start_key» .entry))) (now («end_key» .entry)) (now (out .entry)) (now (out .exit)) (answerNo r) (answerLen r) ⌝ }
+    ensures { λ r. ⌜ ExampleLeaves (now (table .entry)) (startOf «has_start» (now («start_key» .entry))) (now («end_key» .entry)) (now (out .entry)) (now (out .exit)) (answerNo r) (answerLen r) ⌝ }
 {
     let no = automaton::table::check(table);
     if no != 0 {

@@ -10,15 +10,15 @@ ghost use lib.Seq.{sets};
 ghost use Rattle.keys.specs.Order.{_≺_, _≼_};
 ghost use Rattle.automaton.specs.Table.{WellFormed, states, next};
 ghost use Rattle.automaton.specs.Words.{run, Word};
-ghost use Rattle.automaton.specs.Live.{Byte};
-ghost use Rattle.pruning.specs.Interval.{Between};
+ghost use Rattle.automaton.specs.Live.{LiveByte};
+ghost use Rattle.pruning.specs.Interval.{MatchBetween};
 ghost use Rattle.example.specs.Distance.{Distances};
 
 // The first byte from lo on and below hi that leads to a state that can match; hi or more where there is none.
 fn first_byte(table: &[u8], distances: &[u8; 64], state: usize, lo: usize, hi: usize) -> usize
     requires { ⌜ WellFormed (now table) × Distances (now table) (now distances) × (state < states (now table)) × (hi ≤ 256) ⌝ }
     ensures { λ r. ⌜ (r < hi → (lo ≤ r) × (getD (now (distances .entry)) (next (now (table .entry)) state r) 0 < 64)) ⌝ }
-    ensures { λ r. ⌜ (hi ≤ r → Byte (now (table .entry)) state lo hi → ⊥) ⌝ }
+    ensures { λ r. ⌜ (hi ≤ r → LiveByte (now (table .entry)) state lo hi → ⊥) ⌝ }
 {
     let mut byte = lo;
     while byte < hi {
@@ -133,7 +133,7 @@ pub fn write_between(
     out: &mut [u8],
 ) -> usize
     requires { ⌜ WellFormed (now table) × Distances (now table) (now distances) × (max (length (now «start_key»)) (length (now «end_key»)) + 64 ≤ length (now out)) ⌝ }
-    ensures { λ r. ⌜ (r ≡ 0 → (now (out .exit) ≡ now (out .entry)) × (Between (now (table .entry)) 0 (now («start_key» .entry)) (now («end_key» .entry)) → ⊥)) ⌝ }
+    ensures { λ r. ⌜ (r ≡ 0 → (now (out .exit) ≡ now (out .entry)) × (MatchBetween (now (table .entry)) 0 (now («start_key» .entry)) (now («end_key» .entry)) → ⊥)) ⌝ }
     ensures { λ r. ⌜ (0 < r → (r ≤ max (length (now («start_key» .entry))) (length (now («end_key» .entry))) + 64) × Word (now (table .entry)) 0 (λ w. (now («start_key» .entry) ≺ w) × (w ≼ now («end_key» .entry)) × (r ≡ length w) × (now (out .exit) ≡ sets (now (out .entry)) 0 w))) ⌝ }
 {
     let n = keys::common_prefix_len(start_key, end_key);

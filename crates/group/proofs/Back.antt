@@ -14,12 +14,12 @@ use Rattle.serialize.proofs.Digits.{digits-below}
 use Rattle.bitpacker.specs.Bits.{bytesOf}
 use Rattle.bitpacker.specs.Fields.{groupVal, rangeBit, ordinalBit, groupBits}
 use Rattle.bitpacker.proofs.Fields.{group-read-back}
-use Rattle.slope.specs.Slope.{stored}
+use Rattle.slope.specs.Slope.{storedOf}
 use Rattle.slope.proofs.Widths.{stored-back}
 use Rattle.group.specs.Blocks.{blockOf}
 use Rattle.group.specs.Legal.{Legal}
 use Rattle.group.specs.Write.{rangeValues, ordinalValues, fields, groupNumber, addrBytes}
-use Rattle.group.specs.Read.{value, rangeRead, ordinalRead, blockRead}
+use Rattle.group.specs.Read.{valueRead, rangeRead, ordinalRead, blockRead}
 use Rattle.group.specs.Facts.{Takes, Fitting}
 use Rattle.group.specs.declared.BlockAddr.{BlockAddr}
 use Rattle.group.specs.declared.BlockAddrBlockMetadata.{BlockAddrBlockMetadata}
@@ -27,16 +27,16 @@ use Rattle.group.proofs.Blocks.{ends-rise, ordinals-rise}
 use Rattle.group.proofs.Written.{length-rangeValues, length-ordinalValues, length-fields, fields-at, takes-below, range-end-at, ordinal-at, length-addrBytes}
 
 -- what is stored of v reads as the first value + v
-pub value-back : (first s w i v : ℕ) → s * i ≤ v + 2 ^ (w - 1) → value first (stored s w i v) s i w ≡ first + v
-unfolding value
+pub value-back : (first s w i v : ℕ) → s * i ≤ v + 2 ^ (w - 1) → valueRead first (storedOf s w i v) s i w ≡ first + v
+unfolding valueRead
 value-back first s w i v h =
     let e = stored-back s w i v h in
-    let t : ltb (first + stored s w i v + s * i) (2 ^ (w - 1)) ≡ false = le-ltb (first + stored s w i v + s * i) (2 ^ (w - 1)) (omega arith) in
+    let t : ltb (first + storedOf s w i v + s * i) (2 ^ (w - 1)) ≡ false = le-ltb (first + storedOf s w i v + s * i) (2 ^ (w - 1)) (omega arith) in
     rw t (omega arith)
 
 -- the same of a field of a list of values
 field-back : (first s w : ℕ) (vs : List ℕ) → Takes s w vs → (j : ℕ) → j < length vs
-    → value first (getD (fields s w 1 vs) j 0) s (suc j) w ≡ first + getD vs j 0
+    → valueRead first (getD (fields s w 1 vs) j 0) s (suc j) w ≡ first + getD vs j 0
 field-back first s w vs t j h = rw (fields-at s w vs j h) (value-back first s w (suc j) (getD vs j 0) (t .shifted j h))
 
 module _ (m : BlockAddrBlockMetadata) (b : BlockAddr) (bs : List BlockAddr) (fit : Fitting m b bs) (legal : Legal (blockOf (b ∷ bs)) (suc (length bs)))

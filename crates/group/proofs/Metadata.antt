@@ -6,10 +6,10 @@ use native.Mathlib.Nat.{add-zero}
 use native.Mathlib.Omega.{arith}
 use lib.ListN.{length, take, drop, length-drop}
 use lib.Seq.{take-take, take-all, take-add, drop-drop}
-use Rattle.serialize.specs.Digits.{digits, leVal, leBytes, Below}
+use Rattle.serialize.specs.Digits.{digits, leVal, leBytes, Below, numberAt}
 use Rattle.serialize.proofs.Digits.{ofDigits-digits-lt, digits-ofDigits, ofDigits-take, ofDigits-take-lt, take-digits, below-drop}
 use Rattle.bitpacker.proofs.Words.{low-digits}
-use Rattle.group.specs.Meta.{metaBytes, number, metaAt}
+use Rattle.group.specs.Meta.{metaBytes, metaAt}
 use Rattle.group.specs.declared.BlockAddrBlockMetadata.{BlockAddrBlockMetadata}
 
 -- records with equal numbers are equal
@@ -62,14 +62,14 @@ part [] (suc n) (suc p) w h = refl
 part (x ∷ l) (suc n) (suc p) w h = part l n p w (omega arith)
 
 -- the number at `at` is v if its bytes are v's
-number-back : (s : List ℕ) (at w v : ℕ) → v < 2 ^ (8 * w) → take w (drop at s) ≡ leBytes w v → number s at w ≡ v
+number-back : (s : List ℕ) (at w v : ℕ) → v < 2 ^ (8 * w) → take w (drop at s) ≡ leBytes w v → numberAt s at w ≡ v
 number-back s at w v h e = ap leVal e ∙ ofDigits-digits-lt 8 w v h
 
-number-lt : (s : List ℕ) (at w : ℕ) → Below 8 s → number s at w < 2 ^ (8 * w)
+number-lt : (s : List ℕ) (at w : ℕ) → Below 8 s → numberAt s at w < 2 ^ (8 * w)
 number-lt s at w h = ofDigits-take-lt 8 w (drop at s) (below-drop 8 at s h)
 
 -- the bytes of the number at `at` stand there
-number-bytes : (s : List ℕ) (at w : ℕ) → at + w ≤ length s → Below 8 s → leBytes w (number s at w) ≡ take w (drop at s)
+number-bytes : (s : List ℕ) (at w : ℕ) → at + w ≤ length s → Below 8 s → leBytes w (numberAt s at w) ≡ take w (drop at s)
 number-bytes s at w h k =
     let l = drop at s in
     let below = below-drop 8 at s k in
@@ -83,7 +83,7 @@ number-bytes s at w h k =
 pub meta-back : (m : BlockAddrBlockMetadata) (s : List ℕ) (at : ℕ) → MetaFits m → take 36 (drop at s) ≡ metaBytes m → metaAt s at ≡ m
 unfolding metaBytes metaAt digits
 meta-back m s at k e =
-    let field : (p w v : ℕ) → p + w ≤ 36 → v < 2 ^ (8 * w) → take w (drop p (metaBytes m)) ≡ leBytes w v → number s (at + p) w ≡ v =
+    let field : (p w v : ℕ) → p + w ≤ 36 → v < 2 ^ (8 * w) → take w (drop p (metaBytes m)) ≡ leBytes w v → numberAt s (at + p) w ≡ v =
     λ p w v h l q. rw (drop-drop p at s) at (number-back (drop at s) p w v l (sym (part (drop at s) 36 p w h) ∙ ap (λ (x : List ℕ). take w (drop p x)) e ∙ q)) in
     same-meta
     (rw (add-zero at) at (field 0 8 (m .offset) (omega arith) (k .offset) refl))
@@ -97,7 +97,7 @@ meta-back m s at k e =
 
 module _ (s : List ℕ) (at : ℕ) (below : Below 8 s) where
   -- a number behind n bytes that stand there
-  more : {b : List ℕ} (n w : ℕ) → at + n + w ≤ length s → b ≡ take n (drop at s) → b ++ leBytes w (number s (at + n) w) ≡ take (n + w) (drop at s)
+  more : {b : List ℕ} (n w : ℕ) → at + n + w ≤ length s → b ≡ take n (drop at s) → b ++ leBytes w (numberAt s (at + n) w) ≡ take (n + w) (drop at s)
   more n w h e = rw (e, number-bytes s (at + n) w h below, take-add n w (drop at s), drop-drop n at s)
 
   pub meta-bytes : at + 36 ≤ length s → metaBytes (metaAt s at) ≡ take 36 (drop at s)

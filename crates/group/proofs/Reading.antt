@@ -11,7 +11,7 @@ use lib.Pow.{pow-pos, pow-mono}
 use Rattle.bitpacker.specs.Bits.{bytesOf}
 use Rattle.bitpacker.specs.Fields.{rangeBit, ordinalBit, groupBits}
 use Rattle.group.specs.Legal.{limit}
-use Rattle.group.specs.Read.{widthBad, groupBad, value, rangeRead, ordinalRead}
+use Rattle.group.specs.Read.{widthBad, groupBad, valueRead, rangeRead, ordinalRead}
 use Rattle.group.specs.Facts.{Readable}
 use Rattle.group.specs.declared.BlockAddrBlockMetadata.{BlockAddrBlockMetadata}
 
@@ -104,36 +104,36 @@ field-lt N at w h = lt-of-lt-of-le (mod-lt (N / 2 ^ at) (pow-pos w)) (pow-mono h
 
 module _ (first field slope i width : ℕ) where
   -- a sum below 0 stands as the limit
-  pub value-below : first + field + slope * i < 2 ^ (width - 1) → value first field slope i width ≡ limit
-  unfolding value
+  pub value-below : first + field + slope * i < 2 ^ (width - 1) → valueRead first field slope i width ≡ limit
+  unfolding valueRead
   value-below h = simp (lt-ltb (first + field + slope * i) (2 ^ (width - 1)) h)
 
-  pub value-above : 2 ^ (width - 1) ≤ first + field + slope * i → value first field slope i width ≡ first + field + slope * i - 2 ^ (width - 1)
-  unfolding value
+  pub value-above : 2 ^ (width - 1) ≤ first + field + slope * i → valueRead first field slope i width ≡ first + field + slope * i - 2 ^ (width - 1)
+  unfolding valueRead
   value-above h = simp (le-ltb (first + field + slope * i) (2 ^ (width - 1)) h)
 
   -- a value read in range is the whole-number sum
-  pub value-in : value first field slope i width < limit → first + field + slope * i ≡ value first field slope i width + 2 ^ (width - 1)
+  pub value-in : valueRead first field slope i width < limit → first + field + slope * i ≡ valueRead first field slope i width + 2 ^ (width - 1)
   value-in h =
       let above : 2 ^ (width - 1) ≤ first + field + slope * i =
       le-of-suc-le-suc (lt-of-not-le (λ (g : first + field + slope * i < 2 ^ (width - 1)). let e = value-below g in omega arith)) in
       omega (arith, value-above above)
 
   -- and a sum that isn't below 0 is the value
-  pub value-is : (v : ℕ) → first + field + slope * i ≡ v + 2 ^ (width - 1) → value first field slope i width ≡ v
+  pub value-is : (v : ℕ) → first + field + slope * i ≡ v + 2 ^ (width - 1) → valueRead first field slope i width ≡ v
   value-is v e = let above : 2 ^ (width - 1) ≤ first + field + slope * i = omega arith in omega (arith, value-above above)
 
 -- the value behind the first, at i instead of suc j
 pub rangeRead-suc : (m : BlockAddrBlockMetadata) (N i : ℕ) → 0 < i
     → rangeRead m N i
-    ≡ value (m .«range_start») (N / 2 ^ rangeBit (m .«range_start_nbits») (m .«first_ordinal_nbits») (i - 1) % 2 ^ m .«range_start_nbits»)
+    ≡ valueRead (m .«range_start») (N / 2 ^ rangeBit (m .«range_start_nbits») (m .«first_ordinal_nbits») (i - 1) % 2 ^ m .«range_start_nbits»)
     (m .«range_start_slope») i (m .«range_start_nbits»)
 unfolding rangeRead
 rangeRead-suc m N (suc j) h = rw (sub-one (suc j)) refl
 
 pub ordinalRead-suc : (m : BlockAddrBlockMetadata) (N i : ℕ) → 0 < i
     → ordinalRead m N i
-    ≡ value (m .«first_ordinal») (N / 2 ^ ordinalBit (m .«range_start_nbits») (m .«first_ordinal_nbits») (i - 1) % 2 ^ m .«first_ordinal_nbits»)
+    ≡ valueRead (m .«first_ordinal») (N / 2 ^ ordinalBit (m .«range_start_nbits») (m .«first_ordinal_nbits») (i - 1) % 2 ^ m .«first_ordinal_nbits»)
     (m .«first_ordinal_slope») i (m .«first_ordinal_nbits»)
 unfolding ordinalRead
 ordinalRead-suc m N (suc j) h = rw (sub-one (suc j)) refl

@@ -11,7 +11,7 @@ use Rattle.serialize.specs.Digits.{Below}
 use Rattle.serialize.proofs.Digits.{length-digits}
 use Rattle.bitpacker.specs.Bits.{bytesOf}
 use Rattle.bitpacker.specs.Fields.{groupBits}
-use Rattle.slope.specs.Slope.{stored, widthOf}
+use Rattle.slope.specs.Slope.{storedOf, widthOf}
 use Rattle.slope.proofs.Widths.{StoredFits, stored-fits, width-pos, width-le, maxDerivation-below}
 use Rattle.group.specs.Blocks.{blockOf}
 use Rattle.group.specs.Legal.{Legal, limit}
@@ -60,7 +60,7 @@ length-fields slope width i [] = refl
 length-fields slope width i (v ∷ vs) = ap suc (length-fields slope width (suc i) vs)
 
 fields-at-from : (slope width i : ℕ) (vs : List ℕ) (j : ℕ) → j < length vs
-    → getD (fields slope width i vs) j 0 ≡ stored slope width (i + j) (getD vs j 0)
+    → getD (fields slope width i vs) j 0 ≡ storedOf slope width (i + j) (getD vs j 0)
 unfolding fields
 fields-at-from slope width i (v ∷ vs) zero h = rw add-zero
 fields-at-from slope width i (v ∷ vs) (suc j) h =
@@ -70,7 +70,7 @@ one-add : (j : ℕ) → 1 + j ≡ suc j
 one-add j = omega arith
 
 pub fields-at : (slope width : ℕ) (vs : List ℕ) (j : ℕ) → j < length vs
-    → getD (fields slope width 1 vs) j 0 ≡ stored slope width (suc j) (getD vs j 0)
+    → getD (fields slope width 1 vs) j 0 ≡ storedOf slope width (suc j) (getD vs j 0)
 fields-at slope width vs j h = rw one-add at (fields-at-from slope width 1 vs j h)
 
 -- ---- a record that fits

@@ -5,7 +5,7 @@ use mathlib.Core.List.{List}
 use lib.ListN.{length, getD}
 use Rattle.bitpacker.specs.Bits.{bytesOf}
 use Rattle.bitpacker.specs.Fields.{groupBits}
-use Rattle.slope.specs.Slope.{stored}
+use Rattle.slope.specs.Slope.{storedOf}
 use Rattle.group.specs.Blocks.{blockAt}
 use Rattle.group.specs.Legal.{limit, Legal}
 use Rattle.group.specs.Write.{rangeValues, ordinalValues}
@@ -25,7 +25,7 @@ pub record Takes (slope width : ℕ) (values : List ℕ) : Type 0 where
   pub low : 1 ≤ width
   pub high : width ≤ 56
   pub shifted : (j : ℕ) → j < length values → slope * suc j ≤ getD values j 0 + 2 ^ (width - 1)
-  pub fits : (j : ℕ) → j < length values → stored slope width (suc j) (getD values j 0) < 2 ^ width
+  pub fits : (j : ℕ) → j < length values → storedOf slope width (suc j) (getD values j 0) < 2 ^ width
 
 -- a record that fits the group of b and the blocks bs behind it, however its slopes were chosen
 pub record Fitting (m : BlockAddrBlockMetadata) (b : BlockAddr) (bs : List BlockAddr) : Type 0 where

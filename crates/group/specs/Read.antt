@@ -19,22 +19,22 @@ groupBad m count len =
     || ltb len (m .offset + bytesOf (groupBits (m .«range_start_nbits») (m .«first_ordinal_nbits») (m .«block_len»)))
 
 -- a value read: first value + field + slope × i - 2^(width-1), over the whole numbers; one below 0 stands as the limit, which is outside too
-unfoldable pub value : ℕ → ℕ → ℕ → ℕ → ℕ → ℕ
-value first field slope i width =
+unfoldable pub valueRead : ℕ → ℕ → ℕ → ℕ → ℕ → ℕ
+valueRead first field slope i width =
     cond (ltb (first + field + slope * i) (2 ^ (width - 1))) limit (first + field + slope * i - 2 ^ (width - 1))
 
 -- start i of the group whose bits spell N, for i up to the last block's; the one behind it is the last end
 unfoldable pub rangeRead : BlockAddrBlockMetadata → ℕ → ℕ → ℕ
 rangeRead m N zero = m .«range_start»
 rangeRead m N (suc j) =
-    value (m .«range_start») (N / 2 ^ rangeBit (m .«range_start_nbits») (m .«first_ordinal_nbits») j % 2 ^ m .«range_start_nbits»)
+    valueRead (m .«range_start») (N / 2 ^ rangeBit (m .«range_start_nbits») (m .«first_ordinal_nbits») j % 2 ^ m .«range_start_nbits»)
     (m .«range_start_slope») (suc j) (m .«range_start_nbits»)
 
 -- ordinal i of the group
 unfoldable pub ordinalRead : BlockAddrBlockMetadata → ℕ → ℕ → ℕ
 ordinalRead m N zero = m .«first_ordinal»
 ordinalRead m N (suc j) =
-    value (m .«first_ordinal») (N / 2 ^ ordinalBit (m .«range_start_nbits») (m .«first_ordinal_nbits») j % 2 ^ m .«first_ordinal_nbits»)
+    valueRead (m .«first_ordinal») (N / 2 ^ ordinalBit (m .«range_start_nbits») (m .«first_ordinal_nbits») j % 2 ^ m .«first_ordinal_nbits»)
     (m .«first_ordinal_slope») (suc j) (m .«first_ordinal_nbits»)
 
 -- block i of the group

@@ -5,7 +5,7 @@ use lib.ListN.{length}
 use Rattle.serialize.specs.Digits.{leBytes}
 use Rattle.bitpacker.specs.Bits.{bytesOf}
 use Rattle.bitpacker.specs.Fields.{groupVal, groupBits}
-use Rattle.slope.specs.Slope.{widthOf, stored}
+use Rattle.slope.specs.Slope.{widthOf, storedOf}
 use Rattle.group.specs.declared.BlockAddr.{BlockAddr}
 use Rattle.group.specs.declared.BlockAddrBlockMetadata.{BlockAddrBlockMetadata}
 
@@ -22,7 +22,7 @@ ordinalValues base (c ∷ cs) = (c .«first_ordinal» - base) ∷ ordinalValues 
 -- what is stored of values, which are those of the points from i on
 unfoldable pub fields : ℕ → ℕ → ℕ → List ℕ → List ℕ
 fields slope width i [] = []
-fields slope width i (v ∷ vs) = stored slope width i v ∷ fields slope width (suc i) vs
+fields slope width i (v ∷ vs) = storedOf slope width i v ∷ fields slope width (suc i) vs
 
 -- the record of the group of b and the blocks bs behind it, whose bits stand at `offset`; `choose` gives a slope for values
 unfoldable pub metaOf : (List ℕ → ℕ) → ℕ → BlockAddr → List BlockAddr → BlockAddrBlockMetadata

@@ -6,7 +6,7 @@ ghost use Rattle.serialize.specs.Digits.{leVal};
 ghost use Rattle.bitpacker.specs.Fields.{rangeBit, ordinalBit, groupBits};
 ghost use Rattle.bitpacker.specs.Bits.{bytesOf};
 ghost use Rattle.group.specs.Legal.{limit};
-ghost use Rattle.group.specs.Read.{widthBad, groupBad, value as valueOf, rangeRead, ordinalRead, blockRead};
+ghost use Rattle.group.specs.Read.{widthBad, groupBad, valueRead, rangeRead, ordinalRead, blockRead};
 ghost use Rattle.group.specs.Facts.{Readable};
 use crate::BlockAddr;
 use crate::BlockAddrBlockMetadata;
@@ -81,7 +81,7 @@ pub fn group_bad(meta: BlockAddrBlockMetadata, count: usize, addr_len: usize) ->
 // The value of a field: first + field + slope × i - 2^(nbits-1), or the limit where that is below 0.
 fn value(first: u64, field: u64, slope: u32, i: usize, nbits: u8) -> u64
     requires { ⌜ (first < limit) × (field < 2 ^ 56) × (i ≤ 65536) × (1 ≤ nbits) × (nbits ≤ 56) ⌝ }
-    ensures { λ r. ⌜ r ≡ valueOf first field slope i nbits ⌝ }
+    ensures { λ r. ⌜ r ≡ valueRead first field slope i nbits ⌝ }
 {
     let sum = first + field + (slope as u64) * (i as u64);
     let shift = 1u64 << (nbits - 1);

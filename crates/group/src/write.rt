@@ -3,7 +3,7 @@ ghost use mathlib.Core.Path.{_≡_};
 ghost use Prim.Native.Nat.{_+_, _-_, _*_, _^_, _≤_, _<_};
 ghost use lib.ListN.{length};
 ghost use lib.Seq.{sets};
-ghost use Rattle.slope.specs.Slope.{bestSlope, stored as storedOf};
+ghost use Rattle.slope.specs.Slope.{bestSlope, storedOf};
 ghost use Rattle.group.specs.Blocks.{blockAt, blocksAt};
 ghost use Rattle.group.specs.Write.{metaOf, addrBytes};
 ghost use Rattle.group.specs.Facts.{GroupArea, Fitting};

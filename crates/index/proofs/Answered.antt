@@ -14,7 +14,7 @@ use Rattle.group.specs.Legal.{NumbersOk}
 use Rattle.group.specs.Rows.{numbersBad}
 use Rattle.group.proofs.Legal.{numbers-ok}
 use Rattle.store.specs.Read.{storeBlock, metaBad, storeGet, StoreOk, LocatedAs}
-use Rattle.store.specs.Facts.{GroupLen, Records}
+use Rattle.store.specs.Facts.{GroupLenOk, RecordsOk}
 use Rattle.store.specs.declared.Got.{Got}
 use Rattle.store.specs.declared.Got.the-variants.{Block, Broken}
 use Rattle.store.specs.declared.Located.{Located}
@@ -24,19 +24,19 @@ use Rattle.directory.specs.declared.read.Found.{Found}
 use Rattle.directory.specs.declared.read.Found.the-variants.{At, Above, Outside}
 use Rattle.directory.proofs.read.Found as found
 use Rattle.index.specs.declared.SSTableIndexV3.{SSTableIndexV3}
-use Rattle.index.specs.Parts.{recordsPart, addrsPart, directoryPart, blocksIn, blockIn, separatorIn}
+use Rattle.index.specs.Parts.{recordsPart, addrsPart, directoryPart, countIn, blockIn, separatorIn}
 use Rattle.index.specs.Opening.{Opens}
 use Rattle.index.specs.Lookups.{openedBad, OpenedFits, directoryAt, metasAt, addrsAt, Refuses}
 use Rattle.index.proofs.Fits.{bad-unfit}
 use Rattle.index.proofs.OpenFacts.{OpenFacts, opens-facts}
 
 -- a record that row 20 refuses comes from no opening of the bytes
-pub bad-unopened : (L : ℕ) (f : List ℕ) (opened : SSTableIndexV3) → GroupLen L → openedBad L opened (length f) ≡ true → Opens L f opened → ⊥
+pub bad-unopened : (L : ℕ) (f : List ℕ) (opened : SSTableIndexV3) → GroupLenOk L → openedBad L opened (length f) ≡ true → Opens L f opened → ⊥
 bad-unopened L f opened len e o = bad-unfit L opened (length f) e (opens-facts L f opened len o .fits)
 
 -- group records enough
 pub enough-records : (L : ℕ) (f : List ℕ) (opened : SSTableIndexV3) (recs : List ℕ) → OpenedFits L opened (length f) → recs ≡ metasAt opened f
-    → Records L recs (opened .n)
+    → RecordsOk L recs (opened .n)
 enough-records L f opened recs fits e = record {
   some = fits .some;
   few = fits .few;
@@ -107,7 +107,7 @@ module _ (L : ℕ) (f : List ℕ) (opened : SSTableIndexV3) (facts : OpenFacts L
     got-as id g h e =
         e
         ∙ rw (recs-are, addr-are, facts .count)
-        (get-block L (recordsPart f) (addrsPart f) (blocksIn f) id (facts .group .some) (facts .ok) (rw (facts .count) at h))
+        (get-block L (recordsPart f) (addrsPart f) (countIn f) id (facts .group .some) (facts .ok) (rw (facts .count) at h))
 
     -- by ordinal
     pub located-as : (ord : ℕ) (r : Located)

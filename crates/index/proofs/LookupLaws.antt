@@ -11,7 +11,7 @@ use Rattle.directory.specs.Read.{keyOffset, keyLength, keyOutside}
 use Rattle.directory.proofs.Rules.{is-inside, length-place}
 use Rattle.index.specs.declared.SSTableIndexV3.{SSTableIndexV3}
 use Rattle.index.specs.declared.Place.the-variants.{Part}
-use Rattle.index.specs.Parts.{directoryLen, directoryPart, blocksIn, blockIn, separatorIn}
+use Rattle.index.specs.Parts.{directoryLen, directoryPart, countIn, blockIn, separatorIn}
 use Rattle.index.specs.Opening.{openedOf}
 use Rattle.index.specs.Answers.{partAt}
 use Rattle.index.specs.Lookups.{placeDef}
@@ -35,19 +35,19 @@ module _ (L : ℕ) (f : List ℕ) (opened : SSTableIndexV3) (facts : OpenFacts L
   begins = ap (λ (x : SSTableIndexV3). x .directory) (facts .is)
 
   module _ (id : ℕ) where
-    inside : id < opened .n → keyOutside (directoryPart f) (blocksIn f) id ≡ false
+    inside : id < opened .n → keyOutside (directoryPart f) (countIn f) id ≡ false
     inside h = facts .sorted .inside id (rw (facts .count) at h)
 
     pub place-known : id < opened .n
-        → placeDef L opened f id ≡ Part (4 + 8 * blocksIn f + keyOffset (directoryPart f) id) (keyLength (directoryPart f) id)
+        → placeDef L opened f id ≡ Part (4 + 8 * countIn f + keyOffset (directoryPart f) id) (keyLength (directoryPart f) id)
     place-known h =
         let named = place-read L opened f id (facts .fits) h (directoryPart f) (sym (facts .directory)) (rw (facts .count) (inside h)) _ _ refl refl in
-        sym named ∙ rw (begins, facts .count, length-place (directoryPart f) (blocksIn f) id)
+        sym named ∙ rw (begins, facts .count, length-place (directoryPart f) (countIn f) id)
 
     -- the part that stands there is the block's separator
     pub place-separator : id < opened .n → partAt f (placeDef L opened f id) ≡ separatorIn f id
     unfolding separatorIn
     place-separator h =
         rw (place-known h)
-        (sym (part-of-front f (directoryLen f) (4 + 8 * blocksIn f + keyOffset (directoryPart f) id) (keyLength (directoryPart f) id)
-        (omega (arith, is-inside (directoryPart f) (blocksIn f) id (inside h) .bytes, length-take (directoryLen f) f))))
+        (sym (part-of-front f (directoryLen f) (4 + 8 * countIn f + keyOffset (directoryPart f) id) (keyLength (directoryPart f) id)
+        (omega (arith, is-inside (directoryPart f) (countIn f) id (inside h) .bytes, length-take (directoryLen f) f))))

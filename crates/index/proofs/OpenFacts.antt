@@ -9,9 +9,10 @@ use native.Mathlib.Omega.{arith}
 use lib.Dec.{eqb, ltb}
 use lib.ListN.{length}
 use borrow.Author.Tests.{ltb-false, eqb-true, eqb-false, not-false}
+use Rattle.group.specs.Rows.{orElse}
 use Rattle.store.specs.Store.{groupCount}
 use Rattle.store.specs.Read.{StoreOk}
-use Rattle.store.specs.Facts.{GroupLen}
+use Rattle.store.specs.Facts.{GroupLenOk}
 use Rattle.store.proofs.Lookup.{neither}
 use Rattle.store.proofs.Rows.{store-kept}
 use Rattle.directory.specs.Read.{directoryNo, Sorted}
@@ -19,27 +20,27 @@ use Rattle.directory.proofs.Rules.{DirectoryOk, directory-kept}
 use Rattle.directory.proofs.Opened.{opened-good, opened-sorted}
 use Rattle.index.specs.declared.SSTableIndexV3.{SSTableIndexV3}
 use Rattle.index.specs.declared.Loaded.the-variants.{Opened}
-use Rattle.index.specs.Parts.{directoryLen, directoryPart, storeLen, recordsLen, recordsPart, addrsPart, blocksIn}
-use Rattle.index.specs.Opening.{footerNo, recordsBad, orElse, openNo, openedOf, openStep, openDef, Opens}
+use Rattle.index.specs.Parts.{directoryLen, directoryPart, storeLen, recordsLen, recordsPart, addrsPart, countIn}
+use Rattle.index.specs.Opening.{footerNo, recordsBad, openNo, openedOf, openStep, openDef, Opens}
 use Rattle.index.specs.Lookups.{directoryAt, metasAt, addrsAt, OpenedFits}
 
 pub record OpenFacts (L : ℕ) (f : List ℕ) (opened : SSTableIndexV3) : Type 0 where
-  pub group : GroupLen L
+  pub group : GroupLenOk L
   pub accepted : openNo L f ≡ 0
   pub is : opened ≡ openedOf f
   pub fits : OpenedFits L opened (length f)
-  pub count : opened .n ≡ blocksIn f
-  pub some : 2 ≤ blocksIn f
-  pub few : blocksIn f ≤ 65536
+  pub count : opened .n ≡ countIn f
+  pub some : 2 ≤ countIn f
+  pub few : countIn f ≤ 65536
   pub directory : directoryAt opened f ≡ directoryPart f
   pub metas : metasAt opened f ≡ recordsPart f
   pub addrs : addrsAt opened f ≡ addrsPart f
   pub rules : DirectoryOk (directoryPart f)
-  pub sorted : Sorted (directoryPart f) (blocksIn f)
-  pub ok : StoreOk L (recordsPart f) (addrsPart f) (blocksIn f)
+  pub sorted : Sorted (directoryPart f) (countIn f)
+  pub ok : StoreOk L (recordsPart f) (addrsPart f) (countIn f)
   pub nonempty : 1 ≤ directoryLen f
   pub footer : directoryLen f + 16 ≤ length f
-  pub records : recordsLen f ≡ 36 * groupCount L (blocksIn f)
+  pub records : recordsLen f ≡ 36 * groupCount L (countIn f)
   pub within : 8 + recordsLen f ≤ storeLen f
 
 -- ---- numbers that are 0
@@ -66,16 +67,16 @@ module _ (f : List ℕ) where
       let some = ⊎-elim (λ (z : directoryLen f ≡ 0). absurd (eqb-false (directoryLen f) 0 (b .0) z)) (λ (h : 1 ≤ directoryLen f). h) (eq-zero-or-pos (directoryLen f)) in
       (some, ltb-false (length f) (directoryLen f + 16) (c .0))
 
-  records-kept : (L : ℕ) → recordsBad L f ≡ false → (recordsLen f ≡ 36 * groupCount L (blocksIn f)) × (8 + recordsLen f ≤ storeLen f)
+  records-kept : (L : ℕ) → recordsBad L f ≡ false → (recordsLen f ≡ 36 * groupCount L (countIn f)) × (8 + recordsLen f ≤ storeLen f)
   unfolding recordsBad
   records-kept L e =
-      let all = 36 * groupCount L (blocksIn f) in
+      let all = 36 * groupCount L (countIn f) in
       let a = neither (not (eqb (recordsLen f) all)) _ e in
       (eqb-true (recordsLen f) all (not-false (eqb (recordsLen f) all) (a .0)), ltb-false (storeLen f) (8 + recordsLen f) (a .1))
 
 -- ---- the facts
 
-module _ (L : ℕ) (f : List ℕ) (len : GroupLen L) where
+module _ (L : ℕ) (f : List ℕ) (len : GroupLenOk L) where
   accepted-facts : openNo L f ≡ 0 → OpenFacts L f (openedOf f)
   unfolding openNo openedOf
   accepted-facts e =
@@ -105,14 +106,14 @@ module _ (L : ℕ) (f : List ℕ) (len : GroupLen L) where
         addrs = refl;
         rules = rule;
         sorted = opened-sorted (directoryPart f) (b .0);
-        ok = store-kept L (recordsPart f) (addrsPart f) (blocksIn f) (len .some) (omega (arith, rule .some)) (c .1);
+        ok = store-kept L (recordsPart f) (addrsPart f) (countIn f) (len .some) (omega (arith, rule .some)) (c .1);
         nonempty = foot .0;
         footer = foot .1;
         records = recs .0;
         within = recs .1;
       }
 
-pub opens-facts : (L : ℕ) (f : List ℕ) (opened : SSTableIndexV3) → GroupLen L → Opens L f opened → OpenFacts L f opened
+pub opens-facts : (L : ℕ) (f : List ℕ) (opened : SSTableIndexV3) → GroupLenOk L → Opens L f opened → OpenFacts L f opened
 unfolding openDef
 opens-facts L f opened len e =
     let a = opens-no f (openNo L f) opened e in

@@ -10,15 +10,16 @@ use lib.Dec.{eqb, ltb}
 use lib.ListN.{length, take, drop, length-drop}
 use lib.Seq.{length-take-le, take-take}
 use Rattle.serialize.specs.Digits.{leVal}
+use Rattle.group.specs.Rows.{orElse}
 use Rattle.store.specs.Store.{groupCount}
-use Rattle.store.specs.Facts.{Records}
+use Rattle.store.specs.Facts.{RecordsOk}
 use Rattle.store.specs.Check.{storeNo}
 use Rattle.directory.specs.Read.{directoryNo}
 use Rattle.directory.proofs.Rules.{DirectoryOk, directory-kept}
 use Rattle.directory.proofs.Opened.{opened-good}
 use Rattle.builder.proofs.Views.{or-false}
-use Rattle.index.specs.Parts.{directoryLen, directoryPart, storeLen, recordsLen, recordsPart, addrsPart, blocksIn}
-use Rattle.index.specs.Opening.{footerNo, recordsBad, orElse, openNo, openedOf, openDef}
+use Rattle.index.specs.Parts.{directoryLen, directoryPart, storeLen, recordsLen, recordsPart, addrsPart, countIn}
+use Rattle.index.specs.Opening.{footerNo, recordsBad, openNo, openedOf, openDef}
 use Rattle.index.specs.declared.SSTableIndexV3.{SSTableIndexV3}
 use Rattle.index.specs.declared.Loaded.the-variants.{Opened, Refused}
 
@@ -79,27 +80,27 @@ module _ (f : List ℕ) (footer : FooterOk f) where
     directory-long = omega (arith, directory-ok .fits, length-directoryPart)
 
     -- n stands at the front of the file
-    pub count-front : leVal (take 4 f) ≡ blocksIn f
+    pub count-front : leVal (take 4 f) ≡ countIn f
     count-front = ap leVal (sym (take-take 4 (directoryLen f) f directory-long))
 
 -- ---- row 14
 
 pub record RecordsOk (L : ℕ) (f : List ℕ) : Type 0 where
-  pub exact : recordsLen f ≡ 36 * groupCount L (blocksIn f)
+  pub exact : recordsLen f ≡ 36 * groupCount L (countIn f)
   pub inside : 8 + recordsLen f ≤ storeLen f
 
 module _ (L : ℕ) (f : List ℕ) where
-  pub records-inexact : (recordsLen f ≡ 36 * groupCount L (blocksIn f) → ⊥) → true ≡ recordsBad L f
+  pub records-inexact : (recordsLen f ≡ 36 * groupCount L (countIn f) → ⊥) → true ≡ recordsBad L f
   unfolding recordsBad
-  records-inexact h = simp (ne-eqb (recordsLen f) (36 * groupCount L (blocksIn f)) h)
+  records-inexact h = simp (ne-eqb (recordsLen f) (36 * groupCount L (countIn f)) h)
 
-  pub records-exact : recordsLen f ≡ 36 * groupCount L (blocksIn f) → ltb (storeLen f) (8 + recordsLen f) ≡ recordsBad L f
+  pub records-exact : recordsLen f ≡ 36 * groupCount L (countIn f) → ltb (storeLen f) (8 + recordsLen f) ≡ recordsBad L f
   unfolding recordsBad
-  records-exact e = simp (eq-eqb (recordsLen f) (36 * groupCount L (blocksIn f)) e)
+  records-exact e = simp (eq-eqb (recordsLen f) (36 * groupCount L (countIn f)) e)
 
   -- the code's test, by the directory's length d, n, the groups' count and the length read
-  module _ (d n groups read : ℕ) (ed : d ≡ directoryLen f) (en : n ≡ blocksIn f) (eg : groups ≡ groupCount L n) (er : read ≡ leVal (take 8 (drop d f))) where
-    needed : 36 * groups ≡ 36 * groupCount L (blocksIn f)
+  module _ (d n groups read : ℕ) (ed : d ≡ directoryLen f) (en : n ≡ countIn f) (eg : groups ≡ groupCount L n) (er : read ≡ leVal (take 8 (drop d f))) where
+    needed : 36 * groups ≡ 36 * groupCount L (countIn f)
     needed = rw (eg, en)
 
     length-read : read ≡ recordsLen f
@@ -117,9 +118,9 @@ module _ (L : ℕ) (f : List ℕ) where
   pub records-ok : recordsBad L f ≡ false → RecordsOk L f
   unfolding recordsBad
   records-ok e =
-      let both = or-false (not (eqb (recordsLen f) (36 * groupCount L (blocksIn f)))) _ e in
+      let both = or-false (not (eqb (recordsLen f) (36 * groupCount L (countIn f)))) _ e in
       record {
-        exact = eqb-true (recordsLen f) (36 * groupCount L (blocksIn f)) (not-false (eqb (recordsLen f) (36 * groupCount L (blocksIn f))) (both .0));
+        exact = eqb-true (recordsLen f) (36 * groupCount L (countIn f)) (not-false (eqb (recordsLen f) (36 * groupCount L (countIn f))) (both .0));
         inside = ltb-false (storeLen f) (8 + recordsLen f) (both .1);
       }
 
@@ -141,9 +142,9 @@ module _ (L : ℕ) (f : List ℕ) (d m : ℕ) (footer : FooterOk f) (ed : d ≡ 
   pub addrs-part : take (length f - 8 - (d + 8 + m)) (drop (d + 8 + m) f) ≡ addrsPart f
   addrs-part = rw (addrs-long, metas-read, ed)
 
-  module _ (n : ℕ) (en : n ≡ blocksIn f) where
+  module _ (n : ℕ) (en : n ≡ countIn f) where
     -- the records are as many as n blocks need
-    pub metas-enough : 1 ≤ n → n ≤ 65536 → Records L (take (d + 8 + m - (d + 8)) (drop (d + 8) f)) n
+    pub metas-enough : 1 ≤ n → n ≤ 65536 → RecordsOk L (take (d + 8 + m - (d + 8)) (drop (d + 8) f)) n
     metas-enough some few = record {
       some = some;
       few = few;
@@ -180,7 +181,7 @@ pub record OpenOk (L : ℕ) (f : List ℕ) : Type 0 where
   pub footer : footerNo f ≡ 0
   pub directory : directoryNo (directoryPart f) ≡ 0
   pub records : recordsBad L f ≡ false
-  pub store : storeNo L (recordsPart f) (addrsPart f) (blocksIn f) ≡ 0
+  pub store : storeNo L (recordsPart f) (addrsPart f) (countIn f) ≡ 0
 
 module _ (L : ℕ) (f : List ℕ) where
   pub open-footer : (footerNo f ≡ 0 → ⊥) → footerNo f ≡ openNo L f
@@ -197,7 +198,7 @@ module _ (L : ℕ) (f : List ℕ) where
       unfolding openNo
       open-records bad = simp (footer, directory, bad)
 
-      pub open-store : recordsBad L f ≡ false → storeNo L (recordsPart f) (addrsPart f) (blocksIn f) ≡ openNo L f
+      pub open-store : recordsBad L f ≡ false → storeNo L (recordsPart f) (addrsPart f) (countIn f) ≡ openNo L f
       unfolding openNo
       open-store good = simp (footer, directory, good)
 

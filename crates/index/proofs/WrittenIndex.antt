@@ -20,7 +20,7 @@ use Rattle.directory.specs.Read.{countOf}
 use Rattle.directory.proofs.Lengths.{Bounded, length-directoryBytes, length-keyBytes-le}
 use Rattle.directory.proofs.Opened.{count-whole, key-whole}
 use Rattle.builder.specs.Index.{indexBytes}
-use Rattle.index.specs.Parts.{directoryLen, directoryPart, storeLen, recordsLen, recordsPart, addrsPart, blocksIn, blockIn, separatorIn}
+use Rattle.index.specs.Parts.{directoryLen, directoryPart, storeLen, recordsLen, recordsPart, addrsPart, countIn, blockIn, separatorIn}
 
 -- f is the directory D, the length of the records R, these, the address bytes A and the directory's length
 pub record Joined (f D R A : List ℕ) : Type 0 where
@@ -104,7 +104,7 @@ module _ {choose : List ℕ → ℕ} {L : ℕ} {bs : List BlockAddr} {ks : List 
   pub index-storeLen : storeLen (indexBytes choose L bs ks) ≡ length (storeBytes choose L bs)
   index-storeLen = index-parts .store-len ∙ omega (arith, length-metas, length-storeBytes choose L bs (ok .stored .group .some))
 
-  pub index-blocks : blocksIn (indexBytes choose L bs ks) ≡ length bs
+  pub index-blocks : countIn (indexBytes choose L bs ks) ≡ length bs
   index-blocks = ap countOf (index-parts .directory) ∙ count-whole ks (ok .bounded) ∙ ok .same
 
   -- block i and separator i are those written

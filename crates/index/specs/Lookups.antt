@@ -9,10 +9,10 @@ use lib.ListN.{length, take, drop}
 use Rattle.keys.specs.Order.{_≺_}
 use Rattle.group.specs.declared.BlockAddr.{BlockAddr}
 use Rattle.group.specs.Legal.{NumbersOk}
+use Rattle.group.specs.Blocks.{noBlock}
 use Rattle.store.specs.Store.{groupCount}
 use Rattle.store.specs.Read.{Last}
 use Rattle.directory.specs.Read.{First, keyOffset, keyLength, keyOutside}
-use Rattle.index.specs.Answers.{noBlock}
 use Rattle.index.specs.declared.SSTableIndexV3.{SSTableIndexV3}
 use Rattle.index.specs.declared.Place.{Place}
 use Rattle.index.specs.declared.Place.the-variants.{Part, Missing}

@@ -8,7 +8,7 @@ use lib.ListN.{length}
 use Rattle.store.specs.Store.{groupCount}
 use Rattle.store.specs.Check.{storeNo}
 use Rattle.directory.specs.Read.{directoryNo}
-use Rattle.index.specs.Parts.{directoryLen, directoryPart, storeLen, recordsLen, recordsPart, addrsPart, blocksIn}
+use Rattle.index.specs.Parts.{directoryLen, directoryPart, storeLen, recordsLen, recordsPart, addrsPart, countIn}
 use Rattle.index.specs.declared.SSTableIndexV3.{SSTableIndexV3}
 use Rattle.index.specs.declared.Loaded.{Loaded}
 use Rattle.index.specs.declared.Loaded.the-variants.{Opened, Refused}
@@ -19,7 +19,7 @@ footerNo f = cond (ltb (length f) 8) 10 (cond (eqb (directoryLen f) 0) 11 (cond 
 
 -- row 14: records' length not 36 × groups, or beyond the store
 unfoldable pub recordsBad : ℕ → List ℕ → Bool
-recordsBad L f = not (eqb (recordsLen f) (36 * groupCount L (blocksIn f))) || ltb (storeLen f) (8 + recordsLen f)
+recordsBad L f = not (eqb (recordsLen f) (36 * groupCount L (countIn f))) || ltb (storeLen f) (8 + recordsLen f)
 
 -- a row that was hit, else those behind it
 abbrev pub orElse : ℕ → ℕ → ℕ
@@ -30,12 +30,12 @@ orElse (suc k) later = suc k
 unfoldable pub openNo : ℕ → List ℕ → ℕ
 openNo L f =
     orElse (footerNo f) (orElse (directoryNo (directoryPart f))
-    (cond (recordsBad L f) 14 (storeNo L (recordsPart f) (addrsPart f) (blocksIn f))))
+    (cond (recordsBad L f) 14 (storeNo L (recordsPart f) (addrsPart f) (countIn f))))
 
 -- n, and the places of the directory, the group records and the address bytes
 unfoldable pub openedOf : List ℕ → SSTableIndexV3
 openedOf f = record {
-  n = blocksIn f;
+  n = countIn f;
   directory = 0;
   «directory_len» = directoryLen f;
   metas = directoryLen f + 8;

@@ -29,11 +29,11 @@ abbrev pub addrsPart : List ℕ → List ℕ
 addrsPart f = take (storeLen f - (8 + recordsLen f)) (drop (directoryLen f + 8 + recordsLen f) f)
 
 -- n, block i and separator i
-abbrev pub blocksIn : List ℕ → ℕ
-blocksIn f = countOf (directoryPart f)
+abbrev pub countIn : List ℕ → ℕ
+countIn f = countOf (directoryPart f)
 
 unfoldable pub blockIn : ℕ → List ℕ → ℕ → BlockAddr
 blockIn L f i = storeBlock L (recordsPart f) (addrsPart f) i
 
 unfoldable pub separatorIn : List ℕ → ℕ → List ℕ
-separatorIn f i = keyOf (directoryPart f) (blocksIn f) i
+separatorIn f i = keyOf (directoryPart f) (countIn f) i

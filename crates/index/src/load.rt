@@ -2,9 +2,9 @@
 ghost use mathlib.Core.Path.{_≡_};
 ghost use Prim.Native.Nat.{_+_, _≤_};
 ghost use lib.ListN.{length};
-ghost use Rattle.store.specs.Facts.{GroupLen};
+ghost use Rattle.store.specs.Facts.{GroupLenOk};
 ghost use Rattle.directory.specs.Read.{directoryNo};
-ghost use Rattle.index.specs.Parts.{directoryLen, directoryPart, blocksIn};
+ghost use Rattle.index.specs.Parts.{directoryLen, directoryPart, countIn};
 ghost use Rattle.index.specs.Opening.{footerNo, recordsBad, openDef};
 use crate::Loaded;
 use crate::SSTableIndexV3;
@@ -36,7 +36,7 @@ fn footer_no(data: &[u8]) -> u32
 
 // Row 14: whether the records' length isn't that of the groups of n blocks, or is beyond the store.
 fn records_bad(data: &[u8], directory_len: usize, n: usize, group_len: usize) -> bool
-    requires { ⌜ GroupLen «group_len» × («directory_len» ≡ directoryLen (now «data»)) × («directory_len» + 16 ≤ length (now «data»)) × (n ≡ blocksIn (now «data»)) × (n ≤ 65536) ⌝ }
+    requires { ⌜ GroupLenOk «group_len» × («directory_len» ≡ directoryLen (now «data»)) × («directory_len» + 16 ≤ length (now «data»)) × (n ≡ countIn (now «data»)) × (n ≤ 65536) ⌝ }
     ensures { λ r. ⌜ r ≡ recordsBad «group_len» (now («data» .entry)) ⌝ }
 {
     let metas_len = META_LEN * store::write::group_count(n, group_len);
@@ -48,7 +48,7 @@ fn records_bad(data: &[u8], directory_len: usize, n: usize, group_len: usize) ->
 
 // Rows 14 to 16 and the record, behind a directory that keeps the rows before them.
 fn load_store(data: &[u8], directory_len: usize, group_len: usize) -> Loaded
-    requires { ⌜ GroupLen «group_len» × (footerNo (now «data») ≡ 0) × («directory_len» ≡ directoryLen (now «data»)) × (directoryNo (directoryPart (now «data»)) ≡ 0) ⌝ }
+    requires { ⌜ GroupLenOk «group_len» × (footerNo (now «data») ≡ 0) × («directory_len» ≡ directoryLen (now «data»)) × (directoryNo (directoryPart (now «data»)) ≡ 0) ⌝ }
     ensures { λ r. ⌜ r ≡ openDef «group_len» (now («data» .entry)) ⌝ }
 {
     let n = serialize::deserialize_u32(data, 0) as usize;
@@ -76,7 +76,7 @@ fn load_store(data: &[u8], directory_len: usize, group_len: usize) -> Loaded
 
 // Opens the bytes of an index with groups of `group_len` blocks.
 pub fn load(data: &[u8], group_len: usize) -> Loaded
-    requires { ⌜ GroupLen «group_len» ⌝ }
+    requires { ⌜ GroupLenOk «group_len» ⌝ }
     ensures { λ r. ⌜ r ≡ openDef «group_len» (now («data» .entry)) ⌝ }
 {
     let footer = footer_no(data);

@@ -3,7 +3,7 @@ ghost use mathlib.Core.Path.{_≡_};
 ghost use Prim.Native.Nat.{_+_, _≤_, _<_};
 ghost use lib.Dec.{ltb};
 ghost use lib.ListN.{length, take, drop};
-ghost use Rattle.store.specs.Facts.{GroupLen};
+ghost use Rattle.store.specs.Facts.{GroupLenOk};
 ghost use Rattle.group.specs.declared.BlockAddr.{BlockAddr};
 ghost use Rattle.group.specs.Legal.{NumbersOk};
 ghost use Rattle.directory.specs.Read.{FoundIn, FoundAs};
@@ -46,7 +46,7 @@ fn part(data: &[u8], offset: usize, len: usize) -> &[u8]
 
 // Row 20 for the record: whether it can't be one of `len` bytes.
 pub fn opened_bad(opened: SSTableIndexV3, len: usize, group_len: usize) -> bool
-    requires { ⌜ GroupLen «group_len» ⌝ }
+    requires { ⌜ GroupLenOk «group_len» ⌝ }
     ensures { λ r. ⌜ r ≡ openedBad «group_len» opened len ⌝ }
 {
     if opened.n < 1 {
@@ -69,7 +69,7 @@ pub fn opened_bad(opened: SSTableIndexV3, len: usize, group_len: usize) -> bool
 
 // Block `id` as the store gives it.
 fn get(opened: SSTableIndexV3, data: &[u8], group_len: usize, id: usize) -> Got
-    requires { ⌜ GroupLen «group_len» × OpenedFits «group_len» opened (length (now «data»)) × (id < opened .n) ⌝ }
+    requires { ⌜ GroupLenOk «group_len» × OpenedFits «group_len» opened (length (now «data»)) × (id < opened .n) ⌝ }
     ensures { λ r. ⌜ ((block : BlockAddr) → r ≡ Got.Block block → NumbersOk block) ⌝ }
     ensures { λ r. ⌜ (Opens «group_len» (now («data» .entry)) opened → r ≡ Got.Block (blockIn «group_len» (now («data» .entry)) id)) ⌝ }
 {
@@ -84,7 +84,7 @@ fn get(opened: SSTableIndexV3, data: &[u8], group_len: usize, id: usize) -> Got
 
 // The first separator that isn't below `key`, as the directory gives it.
 fn find(opened: SSTableIndexV3, data: &[u8], group_len: usize, key: &[u8]) -> Found
-    requires { ⌜ GroupLen «group_len» × OpenedFits «group_len» opened (length (now «data»)) ⌝ }
+    requires { ⌜ GroupLenOk «group_len» × OpenedFits «group_len» opened (length (now «data»)) ⌝ }
     ensures { λ r. ⌜ FoundIn (opened .n) r ⌝ }
     ensures { λ r. ⌜ (Opens «group_len» (now («data» .entry)) opened → FoundAs (separatorIn (now («data» .entry))) (opened .n) (now (key .entry)) r) ⌝ }
 {
@@ -105,7 +105,7 @@ fn refusal(found: Found) -> u32
 
 // The address of block `block_id`.
 pub fn get_block(opened: SSTableIndexV3, data: &[u8], group_len: usize, block_id: u64) -> BlockById
-    requires { ⌜ GroupLen «group_len» × OpenedFits «group_len» opened (length (now «data»)) ⌝ }
+    requires { ⌜ GroupLenOk «group_len» × OpenedFits «group_len» opened (length (now «data»)) ⌝ }
     ensures { λ r. ⌜ ByIdAllowed (opened .n) «block_id» (byIdNo r) (byIdAddr r) ⌝ }
     ensures { λ r. ⌜ (Opens «group_len» (now («data» .entry)) opened → ByIdExact (blockIn «group_len» (now («data» .entry))) (opened .n) «block_id» (byIdNo r) (byIdAddr r)) ⌝ }
 {
@@ -120,7 +120,7 @@ pub fn get_block(opened: SSTableIndexV3, data: &[u8], group_len: usize, block_id
 
 // The last block whose first ordinal is at or below `ord`.
 pub fn locate_with_ord(opened: SSTableIndexV3, data: &[u8], group_len: usize, ord: u64) -> Located
-    requires { ⌜ GroupLen «group_len» × OpenedFits «group_len» opened (length (now «data»)) ⌝ }
+    requires { ⌜ GroupLenOk «group_len» × OpenedFits «group_len» opened (length (now «data»)) ⌝ }
     ensures { λ r. ⌜ LocatedAllowed 18 (opened .n) (locatedNo r) (locatedId r) (locatedAddr r) ⌝ }
     ensures { λ r. ⌜ (Opens «group_len» (now («data» .entry)) opened → ByOrdExact (blockIn «group_len» (now («data» .entry))) (opened .n) ord (locatedNo r) (locatedId r) (locatedAddr r)) ⌝ }
 {
@@ -144,7 +144,7 @@ pub fn locate_with_key(
     group_len: usize,
     key: &[u8],
 ) -> LocatedId
-    requires { ⌜ GroupLen «group_len» × OpenedFits «group_len» opened (length (now «data»)) ⌝ }
+    requires { ⌜ GroupLenOk «group_len» × OpenedFits «group_len» opened (length (now «data»)) ⌝ }
     ensures { λ r. ⌜ ByKeyAllowed (opened .n) (idNo r) (idOf r) ⌝ }
     ensures { λ r. ⌜ (Opens «group_len» (now («data» .entry)) opened → ByKeyExact (separatorIn (now («data» .entry))) (opened .n) (now (key .entry)) (idNo r) (idOf r)) ⌝ }
 {
@@ -162,7 +162,7 @@ pub fn get_block_with_key(
     group_len: usize,
     key: &[u8],
 ) -> Located
-    requires { ⌜ GroupLen «group_len» × OpenedFits «group_len» opened (length (now «data»)) ⌝ }
+    requires { ⌜ GroupLenOk «group_len» × OpenedFits «group_len» opened (length (now «data»)) ⌝ }
     ensures { λ r. ⌜ LocatedAllowed 19 (opened .n) (locatedNo r) (locatedId r) (locatedAddr r) ⌝ }
     ensures { λ r. ⌜ (Opens «group_len» (now («data» .entry)) opened → AddrByKeyExact (separatorIn (now («data» .entry))) (blockIn «group_len» (now («data» .entry))) (opened .n) (now (key .entry)) (locatedNo r) (locatedId r) (locatedAddr r)) ⌝ }
 {
@@ -183,7 +183,7 @@ pub fn separator_place(
     group_len: usize,
     block_id: u64,
 ) -> Place
-    requires { ⌜ GroupLen «group_len» × OpenedFits «group_len» opened (length (now «data»)) ⌝ }
+    requires { ⌜ GroupLenOk «group_len» × OpenedFits «group_len» opened (length (now «data»)) ⌝ }
     ensures { λ r. ⌜ r ≡ placeDef «group_len» opened (now («data» .entry)) «block_id» ⌝ }
 {
     if block_id >= opened.n as u64 {

@@ -10,7 +10,7 @@ use Rattle.serialize.specs.Digits.{leBytes, Below}
 use Rattle.bitpacker.specs.declared.BitPacker.{BitPacker}
 use Rattle.bitpacker.specs.Bits.{bytesOf}
 use Rattle.bitpacker.specs.Fields.{groupVal, rangeBit, ordinalBit, groupBits}
-use Rattle.bitpacker.specs.Packer.{Waiting, leaving, after}
+use Rattle.bitpacker.specs.Packer.{Waiting, leaving, packedWith}
 use Rattle.bitpacker.proofs.Packed.{Packed, packed-new, packed-wrote, packed-flushed, packed-room-write}
 use Rattle.bitpacker.proofs.Fields.{group-none, group-range, group-ordinal, group-bits-none, group-bits-ordinal, range-within, ordinal-within}
 use Rattle.leaf_vectors.specs.Fields.{ranges, ordinals}
@@ -25,7 +25,7 @@ PairsRange r o fs d l p i = Packed d l p (ordinalBit r o i) (groupVal r o (take 
 
 -- what `write` ensures of a field
 abbrev Wrote : BitPacker → List ℕ → ℕ → ℕ → BitPacker → List ℕ → Type 0
-Wrote p l v n p′ l′ = (p′ ≡ after p v n) × (l′ ≡ sets l (p .written) (leaving p v n))
+Wrote p l v n p′ l′ = (p′ ≡ packedWith p v n) × (l′ ≡ sets l (p .written) (leaving p v n))
 
 -- every field fits its width
 pub record Small (r o : ℕ) (fs : List ℕ) : Type 0 where

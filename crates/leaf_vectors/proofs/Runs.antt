@@ -10,7 +10,7 @@ use lib.Seq.{sets}
 use Rattle.serialize.specs.Digits.{ofDigits, Below}
 use Rattle.serialize.proofs.Digits.{ofDigits-suc}
 use Rattle.bitpacker.specs.declared.BitPacker.{BitPacker}
-use Rattle.bitpacker.specs.Packer.{Waiting, leaving, after}
+use Rattle.bitpacker.specs.Packer.{Waiting, leaving, packedWith}
 use Rattle.bitpacker.proofs.Packed.{Packed, packed-new, packed-wrote, packed-room-write}
 
 -- the packer took the first i fields
@@ -29,6 +29,6 @@ module _ (w : ℕ) (fs : List ℕ) (small : Below w fs) {d l : List ℕ} {p : Bi
       let e = mul-suc w i in
       packed-room-write k (getD fs i 0) w few (small i) (omega arith)
 
-  pub run-wrote : {p′ : BitPacker} {l′ : List ℕ} → (p′ ≡ after p (getD fs i 0) w) × (l′ ≡ sets l (p .written) (leaving p (getD fs i 0) w))
+  pub run-wrote : {p′ : BitPacker} {l′ : List ℕ} → (p′ ≡ packedWith p (getD fs i 0) w) × (l′ ≡ sets l (p .written) (leaving p (getD fs i 0) w))
       → Run w fs d l′ p′ (i + 1)
   run-wrote e = rw (add-one i, mul-suc w i, ofDigits-suc w fs i) (packed-wrote k (getD fs i 0) w (small i) e)

@@ -7,7 +7,7 @@ use Prim.Native.Nat.{ℕ, zero, suc, _<_}
 use native.Mathlib.Omega.{arith}
 use lib.Seq.{sets, ext-getD}
 use Rattle.listing.specs.Marks.{startAt, Mark, Marks, ones}
-use Rattle.listing.specs.Listing.{Listing, Leaves}
+use Rattle.listing.specs.Listing.{Listing, ListingLeaves}
 
 -- ---- separators that are equal below n
 module _ (t : List ℕ) (f g : ℕ → List ℕ) (n : ℕ) (same : (i : ℕ) → i < n → f i ≡ g i) where
@@ -21,7 +21,7 @@ module _ (t : List ℕ) (f g : ℕ → List ℕ) (n : ℕ) (same : (i : ℕ) →
   pub listing-same : (marks written : List ℕ) (count : ℕ) → Listing t f n marks written count → Listing t g n marks written count
   listing-same marks written count l = record { list = l .list; right = marks-same (l .list) (l .right); counted = l .counted; bytes = l .bytes }
 
-  pub leaves-same : (marks written : List ℕ) (k count : ℕ) → Leaves t f n marks written k count → Leaves t g n marks written k count
+  pub leaves-same : (marks written : List ℕ) (k count : ℕ) → ListingLeaves t f n marks written k count → ListingLeaves t g n marks written k count
   leaves-same marks written k count = ⊎-elim (λ l. inl (l .0, listing-same marks written count (l .1))) (λ r. inr r)
 
 -- ---- one listing

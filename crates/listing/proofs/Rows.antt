@@ -6,36 +6,36 @@ use Prim.Native.Nat.{ℕ, zero, suc, _≤_, _<_}
 use lib.Dec.{ltb}
 use lib.ListN.{length}
 use borrow.Author.Tests.{lt-ltb, le-ltb}
+use Rattle.group.specs.Rows.{orElse}
 use Rattle.automaton.specs.Table.{tableNo}
 use Rattle.index.specs.declared.SSTableIndexV3.{SSTableIndexV3}
-use Rattle.index.specs.Opening.{orElse}
 use Rattle.index.specs.Lookups.{openedBad, directoryAt}
-use Rattle.listing.specs.Listing.{keysOutside, listNo}
+use Rattle.listing.specs.Listing.{keysOutside, listingNo}
 
 else-hit : (k later : ℕ) → (k ≡ 0 → ⊥) → orElse k later ≡ k
 else-hit zero later h = absurd (h refl)
 else-hit (suc k) later h = refl
 
 module _ (L : ℕ) (opened : SSTableIndexV3) (f t : List ℕ) (room : ℕ) where
-  pub record-refused : openedBad L opened (length f) ≡ true → listNo L opened f t room ≡ 20
-  unfolding listNo
+  pub record-refused : openedBad L opened (length f) ≡ true → listingNo L opened f t room ≡ 20
+  unfolding listingNo
   record-refused e = rw e
 
   module _ (fits : openedBad L opened (length f) ≡ false) where
-    pub keys-refused : keysOutside (directoryAt opened f) (opened .n) (opened .n) ≡ true → listNo L opened f t room ≡ 20
-    unfolding listNo
+    pub keys-refused : keysOutside (directoryAt opened f) (opened .n) (opened .n) ≡ true → listingNo L opened f t room ≡ 20
+    unfolding listingNo
     keys-refused e = rw (fits, e)
 
     module _ (inside : keysOutside (directoryAt opened f) (opened .n) (opened .n) ≡ false) where
-      pub past-20 : listNo L opened f t room ≡ orElse (tableNo t) (cond (ltb room (opened .n)) 24 0)
-      unfolding listNo
+      pub past-20 : listingNo L opened f t room ≡ orElse (tableNo t) (cond (ltb room (opened .n)) 24 0)
+      unfolding listingNo
       past-20 = rw (fits, inside)
 
-      pub table-refused : (tableNo t ≡ 0 → ⊥) → listNo L opened f t room ≡ tableNo t
+      pub table-refused : (tableNo t ≡ 0 → ⊥) → listingNo L opened f t room ≡ tableNo t
       table-refused h = past-20 ∙ else-hit (tableNo t) _ h
 
-      pub room-refused : tableNo t ≡ 0 → room < opened .n → listNo L opened f t room ≡ 24
+      pub room-refused : tableNo t ≡ 0 → room < opened .n → listingNo L opened f t room ≡ 24
       room-refused e h = rw (past-20, e, lt-ltb room (opened .n) h)
 
-      pub none-refused : tableNo t ≡ 0 → opened .n ≤ room → listNo L opened f t room ≡ 0
+      pub none-refused : tableNo t ≡ 0 → opened .n ≤ room → listingNo L opened f t room ≡ 0
       none-refused e h = rw (past-20, e, le-ltb room (opened .n) h)

@@ -7,10 +7,10 @@ use mathlib.Core.Logic.{_⊎_}
 use lib.Dec.{ltb}
 use lib.ListN.{length}
 use lib.Seq.{sets}
+use Rattle.group.specs.Rows.{orElse}
 use Rattle.automaton.specs.Table.{tableNo}
 use Rattle.directory.specs.Read.{keyOf, keyOutside}
 use Rattle.index.specs.declared.SSTableIndexV3.{SSTableIndexV3}
-use Rattle.index.specs.Opening.{orElse}
 use Rattle.index.specs.Lookups.{openedBad, directoryAt}
 use Rattle.listing.specs.Marks.{Marks, ones}
 use Rattle.listing.specs.declared.Listed.{Listed}
@@ -22,8 +22,8 @@ keysOutside d n zero = false
 keysOutside d n (suc m) = keysOutside d n m || keyOutside d n m
 
 -- rows 20, then 21 to 23, then 24: under n bytes; 0 where none is hit
-unfoldable pub listNo : ℕ → SSTableIndexV3 → List ℕ → List ℕ → ℕ → ℕ
-listNo L opened f t room =
+unfoldable pub listingNo : ℕ → SSTableIndexV3 → List ℕ → List ℕ → ℕ → ℕ
+listingNo L opened f t room =
     cond (openedBad L opened (length f) || keysOutside (directoryAt opened f) (opened .n) (opened .n)) 20
     (orElse (tableNo t) (cond (ltb room (opened .n)) 24 0))
 
@@ -48,6 +48,6 @@ listedCount (Count count) = count
 listedCount (Refused k) = 0
 
 -- what a call with number k leaves in the marks: the listing, or what was there
-abbrev pub Leaves : List ℕ → (ℕ → List ℕ) → ℕ → List ℕ → List ℕ → ℕ → ℕ → Type 0
-Leaves t separator n marks written k count =
+abbrev pub ListingLeaves : List ℕ → (ℕ → List ℕ) → ℕ → List ℕ → List ℕ → ℕ → ℕ → Type 0
+ListingLeaves t separator n marks written k count =
     ((k ≡ 0) × Listing t separator n marks written count) ⊎ ((0 < k) × (count ≡ 0) × (written ≡ marks))

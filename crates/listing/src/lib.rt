@@ -5,7 +5,7 @@ ghost use Prim.Native.Nat.{_≤_};
 ghost use lib.ListN.{length};
 ghost use Rattle.automaton.specs.Table.{WellFormed};
 ghost use Rattle.directory.specs.Read.{keyOf};
-ghost use Rattle.listing.specs.Listing.{keysOutside, listNo, separatorAt, Listing, listedNo, listedCount, Leaves};
+ghost use Rattle.listing.specs.Listing.{keysOutside, listingNo, separatorAt, Listing, listedNo, listedCount, ListingLeaves};
 use index::SSTableIndexV3;
 use index::STORE_BLOCK_LEN;
 use index::lookup::opened_bad;
@@ -67,8 +67,8 @@ pub fn get_block_for_automaton(
     table: &[u8],
     marks: &mut [u8],
 ) -> Listed
-    ensures { λ r. ⌜ listedNo r ≡ listNo 128 opened (now («data» .entry)) (now (table .entry)) (length (now (marks .entry))) ⌝ }
-    ensures { λ r. ⌜ Leaves (now (table .entry)) (separatorAt opened (now («data» .entry))) (opened .n) (now (marks .entry)) (now (marks .exit)) (listedNo r) (listedCount r) ⌝ }
+    ensures { λ r. ⌜ listedNo r ≡ listingNo 128 opened (now («data» .entry)) (now (table .entry)) (length (now (marks .entry))) ⌝ }
+    ensures { λ r. ⌜ ListingLeaves (now (table .entry)) (separatorAt opened (now («data» .entry))) (opened .n) (now (marks .entry)) (now (marks .exit)) (listedNo r) (listedCount r) ⌝ }
 {
     if opened_bad(opened, data.len(), STORE_BLOCK_LEN) {
         return Listed::Refused(20);

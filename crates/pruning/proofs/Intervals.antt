@@ -16,9 +16,9 @@ use Rattle.keys.specs.Order.{less, _≺_, _≼_, commonPrefixLen}
 use Rattle.keys.proofs.Order.{by-test, less-asym, less-append, prefix-≼, prefix-≺, ≺-≼-trans, commonPrefixLen-take, commonPrefixLen-differ, less-end-right, less-at}
 use Rattle.automaton.specs.Table.{flag, next}
 use Rattle.automaton.specs.Words.{Bytes, run, Hits, Word, CanMatch}
-use Rattle.automaton.specs.Live.{Byte}
+use Rattle.automaton.specs.Live.{LiveByte}
 use Rattle.automaton.proofs.Strings.{word-nil, word-cons, word-map, word-any, word-cases, byte-word, can-match-hits, bytes-take}
-use Rattle.pruning.specs.Interval.{Marked, After, Between}
+use Rattle.pruning.specs.Interval.{Marked, MatchAbove, MatchBetween}
 
 -- ---- the order, by first bytes
 pub ≺-lower : (x y : ℕ) (a b : List ℕ) → x < y → (x ∷ a) ≺ (y ∷ b)
@@ -61,17 +61,17 @@ from : {t w : List ℕ} (s : ℕ) (P : List ℕ → Type 0) (b k : ℕ) → b �
 from {t} {w} s P b k e h p = subst (λ (x : ℕ). Word t (next t s x) P) e (record { word = w; hits = h; good = p })
 
 -- ---- above a key
-pub after-nil : (t : List ℕ) (s : ℕ) → After t s [] ↔ Byte t s 0 256
+pub after-nil : (t : List ℕ) (s : ℕ) → MatchAbove t s [] ↔ LiveByte t s 0 256
 after-nil t s = (
-  word-cases (λ w. [] ≺ w) (Byte t s 0 256)
+  word-cases (λ w. [] ≺ w) (LiveByte t s 0 256)
       (λ e p. absurd (not-≺-nil [] p))
       (λ b w h i p. record { byte = b; low = zero-le; high = h; rest = can-match-hits i }),
   byte-word (λ w. [] ≺ w) (omega arith) (λ b w l h. prefix-≺ [] b w),
 )
 
-pub after-cons : (t : List ℕ) (s k : ℕ) (ks : List ℕ) → k < 256 → After t s (k ∷ ks) ↔ (Byte t s (k + 1) 256 ⊎ After t (next t s k) ks)
+pub after-cons : (t : List ℕ) (s k : ℕ) (ks : List ℕ) → k < 256 → MatchAbove t s (k ∷ ks) ↔ (LiveByte t s (k + 1) 256 ⊎ MatchAbove t (next t s k) ks)
 after-cons t s k ks hk = (
-  word-cases (λ w. (k ∷ ks) ≺ w) (Byte t s (k + 1) 256 ⊎ After t (next t s k) ks)
+  word-cases (λ w. (k ∷ ks) ≺ w) (LiveByte t s (k + 1) 256 ⊎ MatchAbove t (next t s k) ks)
       (λ e p. absurd (not-≺-nil (k ∷ ks) p))
       (λ b w h i p. ⊎-elim
       (λ l. inl (record { byte = b; low = omega arith; high = h; rest = can-match-hits i }))
@@ -83,9 +83,9 @@ after-cons t s k ks hk = (
 )
 
 -- ---- not above a key: the empty string, or one of (empty, key]
-pub upto-split : (t : List ℕ) (s : ℕ) (b : List ℕ) → Word t s (λ w. w ≼ b) ↔ ((flag t s ≡ 1) ⊎ Between t s [] b)
+pub upto-split : (t : List ℕ) (s : ℕ) (b : List ℕ) → Word t s (λ w. w ≼ b) ↔ ((flag t s ≡ 1) ⊎ MatchBetween t s [] b)
 upto-split t s b = (
-  word-cases (λ w. w ≼ b) ((flag t s ≡ 1) ⊎ Between t s [] b)
+  word-cases (λ w. w ≼ b) ((flag t s ≡ 1) ⊎ MatchBetween t s [] b)
       (λ e p. inl e)
       (λ c w h i p. inr (word-cons s c (λ v. ([] ≺ v) × (v ≼ b)) (λ v. (c ∷ v) ≼ b) h (λ v l. (prefix-≺ [] c v, l)) (record { word = w; hits = i; good = p }))),
   ⊎-elim
@@ -94,12 +94,12 @@ upto-split t s b = (
 )
 
 -- ---- not empty and not above a key
-pub upto-nil : (t : List ℕ) (s : ℕ) → Between t s [] [] → ⊥
+pub upto-nil : (t : List ℕ) (s : ℕ) → MatchBetween t s [] [] → ⊥
 upto-nil t s = word-cases (λ w. ([] ≺ w) × (w ≼ [])) ⊥ (λ e p. not-≺-nil [] (p .0)) (λ b w h i p. not-cons-≼-nil b w (p .1))
 
-pub upto-cons : (t : List ℕ) (s k : ℕ) (ks : List ℕ) → k < 256 → Between t s [] (k ∷ ks) ↔ (Byte t s 0 k ⊎ ((flag t (next t s k) ≡ 1) ⊎ Between t (next t s k) [] ks))
+pub upto-cons : (t : List ℕ) (s k : ℕ) (ks : List ℕ) → k < 256 → MatchBetween t s [] (k ∷ ks) ↔ (LiveByte t s 0 k ⊎ ((flag t (next t s k) ≡ 1) ⊎ MatchBetween t (next t s k) [] ks))
 upto-cons t s k ks hk = (
-  word-cases (λ w. ([] ≺ w) × (w ≼ (k ∷ ks))) (Byte t s 0 k ⊎ ((flag t (next t s k) ≡ 1) ⊎ Between t (next t s k) [] ks))
+  word-cases (λ w. ([] ≺ w) × (w ≼ (k ∷ ks))) (LiveByte t s 0 k ⊎ ((flag t (next t s k) ≡ 1) ⊎ MatchBetween t (next t s k) [] ks))
       (λ e p. absurd (not-≺-nil [] (p .0)))
       (λ b w h i p. ⊎-elim
       (λ l. inl (record { byte = b; low = zero-le; high = l; rest = can-match-hits i }))
@@ -112,19 +112,19 @@ upto-cons t s k ks hk = (
 
 -- ---- between two keys
 -- none where the start isn't below the end
-pub between-none : (t : List ℕ) (s : ℕ) (a b : List ℕ) → b ≼ a → Between t s a b → ⊥
+pub between-none : (t : List ℕ) (s : ℕ) (a b : List ℕ) → b ≼ a → MatchBetween t s a b → ⊥
 between-none t s a b h m = false≢true (sym h ∙ ≺-≼-trans a (m .word) b (m .good .0) (m .good .1))
 
 -- equal first bytes
-pub between-same : (t : List ℕ) (s x : ℕ) (a b : List ℕ) → x < 256 → Between t s (x ∷ a) (x ∷ b) ↔ Between t (next t s x) a b
+pub between-same : (t : List ℕ) (s x : ℕ) (a b : List ℕ) → x < 256 → MatchBetween t s (x ∷ a) (x ∷ b) ↔ MatchBetween t (next t s x) a b
 between-same t s x a b hx = (
-  word-cases (λ w. ((x ∷ a) ≺ w) × (w ≼ (x ∷ b))) (Between t (next t s x) a b)
+  word-cases (λ w. ((x ∷ a) ≺ w) × (w ≼ (x ∷ b))) (MatchBetween t (next t s x) a b)
       (λ e p. absurd (not-≺-nil (x ∷ a) (p .0)))
       (λ c w h i p. both c w i (≺-heads x c a w (p .0)) (≼-heads c x w b (p .1))),
   word-cons s x (λ w. ((x ∷ a) ≺ w) × (w ≼ (x ∷ b))) (λ w. (a ≺ w) × (w ≼ b)) hx (λ w p. (≺-same x a w (p .0), ≼-same x w b (p .1))),
 )
   where
-    both : (c : ℕ) (w : List ℕ) → Hits t (next t s c) w → (x < c) ⊎ ((x ≡ c) × (a ≺ w)) → (c < x) ⊎ ((c ≡ x) × (w ≼ b)) → Between t (next t s x) a b
+    both : (c : ℕ) (w : List ℕ) → Hits t (next t s c) w → (x < c) ⊎ ((x ≡ c) × (a ≺ w)) → (c < x) ⊎ ((c ≡ x) × (w ≼ b)) → MatchBetween t (next t s x) a b
     both c w i (inl l) (inl g) = absurd (omega arith)
     both c w i (inl l) (inr g) = absurd (omega (arith, g .0))
     both c w i (inr l) (inl g) = absurd (omega (arith, l .0))
@@ -132,9 +132,9 @@ between-same t s x a b hx = (
 
 -- the start's first byte below the end's
 abbrev pub Parted : List ℕ → (s x y : ℕ) (a b : List ℕ) → Type 0
-Parted t s x y a b = Byte t s (x + 1) y ⊎ (After t (next t s x) a ⊎ ((flag t (next t s y) ≡ 1) ⊎ Between t (next t s y) [] b))
+Parted t s x y a b = LiveByte t s (x + 1) y ⊎ (MatchAbove t (next t s x) a ⊎ ((flag t (next t s y) ≡ 1) ⊎ MatchBetween t (next t s y) [] b))
 
-pub between-lower : (t : List ℕ) (s x y : ℕ) (a b : List ℕ) → x < y → y < 256 → Between t s (x ∷ a) (y ∷ b) ↔ Parted t s x y a b
+pub between-lower : (t : List ℕ) (s x y : ℕ) (a b : List ℕ) → x < y → y < 256 → MatchBetween t s (x ∷ a) (y ∷ b) ↔ Parted t s x y a b
 between-lower t s x y a b l hy = (
   word-cases In (Parted t s x y a b)
       (λ e p. absurd (not-≺-nil (x ∷ a) (p .0)))
@@ -155,21 +155,21 @@ between-lower t s x y a b l hy = (
     both c w i (inr q) hi = inr (inl (from s (λ v. a ≺ v) c x (sym (q .0)) i (q .1)))
 
 -- the run over a common prefix
-pub between-prefix : (t : List ℕ) (s : ℕ) (p a b : List ℕ) → Bytes p → Between t s (p ++ a) (p ++ b) ↔ Between t (run t s p) a b
+pub between-prefix : (t : List ℕ) (s : ℕ) (p a b : List ℕ) → Bytes p → MatchBetween t s (p ++ a) (p ++ b) ↔ MatchBetween t (run t s p) a b
 unfolding run
 between-prefix t s [] a b h = Iff·rfl
 between-prefix t s (x ∷ p) a b h =
     Iff·trans (between-same t s x (p ++ a) (p ++ b) (h .0)) (between-prefix t (next t s x) p a b (h .1))
 
 -- ---- the interval of a block
-pub marked-none : (t end : List ℕ) → Marked t none end ↔ ((flag t 0 ≡ 1) ⊎ Between t 0 [] end)
+pub marked-none : (t end : List ℕ) → Marked t none end ↔ ((flag t 0 ≡ 1) ⊎ MatchBetween t 0 [] end)
 marked-none t end =
     let i = upto-split t 0 end in (
       λ m. i .0 (word-map (λ w. Unit {0} × (w ≼ end)) (λ w. w ≼ end) (λ w p. p .1) m),
       λ m. word-map (λ w. w ≼ end) (λ w. Unit {0} × (w ≼ end)) (λ w p. (tt, p)) (i .1 m),
     )
 
-pub marked-some : (t a end : List ℕ) → Marked t (some a) end ↔ Between t 0 a end
+pub marked-some : (t a end : List ℕ) → Marked t (some a) end ↔ MatchBetween t 0 a end
 marked-some t a end = Iff·rfl
 
 -- ---- a key from its byte i on
@@ -177,45 +177,45 @@ pub drop-byte : (key : List ℕ) (i : ℕ) → i < length key → drop i key ≡
 drop-byte key i h = rw add-one (drop-cons key i 0 h)
 
 pub after-at : (t : List ℕ) (s : ℕ) (key : List ℕ) (i : ℕ) → i < length key → getD key i 0 < 256
-    → After t s (drop i key) ↔ (Byte t s (getD key i 0 + 1) 256 ⊎ After t (next t s (getD key i 0)) (drop (i + 1) key))
+    → MatchAbove t s (drop i key) ↔ (LiveByte t s (getD key i 0 + 1) 256 ⊎ MatchAbove t (next t s (getD key i 0)) (drop (i + 1) key))
 after-at t s key i h g = rw (drop-byte key i h) (after-cons t s (getD key i 0) (drop (i + 1) key) g)
 
 pub upto-at : (t : List ℕ) (s : ℕ) (key : List ℕ) (i : ℕ) → i < length key → getD key i 0 < 256
-    → Between t s [] (drop i key) ↔ (Byte t s 0 (getD key i 0) ⊎ ((flag t (next t s (getD key i 0)) ≡ 1) ⊎ Between t (next t s (getD key i 0)) [] (drop (i + 1) key)))
+    → MatchBetween t s [] (drop i key) ↔ (LiveByte t s 0 (getD key i 0) ⊎ ((flag t (next t s (getD key i 0)) ≡ 1) ⊎ MatchBetween t (next t s (getD key i 0)) [] (drop (i + 1) key)))
 upto-at t s key i h g = rw (drop-byte key i h) (upto-cons t s (getD key i 0) (drop (i + 1) key) g)
 
-pub after-end : (t : List ℕ) (s : ℕ) (key : List ℕ) (i : ℕ) → length key ≤ i → After t s (drop i key) ↔ Byte t s 0 256
+pub after-end : (t : List ℕ) (s : ℕ) (key : List ℕ) (i : ℕ) → length key ≤ i → MatchAbove t s (drop i key) ↔ LiveByte t s 0 256
 after-end t s key i h = rw (drop-of-length-le key h) (after-nil t s)
 
-pub upto-end : (t : List ℕ) (s : ℕ) (key : List ℕ) (i : ℕ) → length key ≤ i → Between t s [] (drop i key) → ⊥
+pub upto-end : (t : List ℕ) (s : ℕ) (key : List ℕ) (i : ℕ) → length key ≤ i → MatchBetween t s [] (drop i key) → ⊥
 upto-end t s key i h = rw (drop-of-length-le key h) (upto-nil t s)
 
 -- ---- two keys, by the length n of their common prefix
 module _ (t : List ℕ) (s : ℕ) (a b : List ℕ) {n : ℕ} (e : n ≡ commonPrefixLen a b) where
-  pub common-none : length b ≤ n → Between t s a b → ⊥
+  pub common-none : length b ≤ n → MatchBetween t s a b → ⊥
   common-none h = between-none t s a b (less-end-right a b (omega arith))
 
-  pub common-above : n < length a → n < length b → getD b n 0 < getD a n 0 → Between t s a b → ⊥
+  pub common-above : n < length a → n < length b → getD b n 0 < getD a n 0 → MatchBetween t s a b → ⊥
   common-above ha hb h = between-none t s a b (less-at a b (omega arith) (omega arith) ∙ rw (sym e) (le-ltb (getD a n 0) (getD b n 0) (omega arith)))
 
   module _ (bytes : Bytes a) {base : ℕ} (r : base ≡ run t s (take n a)) where
-    pub common-run : Between t s a b ↔ Between t base (drop n a) (drop n b)
+    pub common-run : MatchBetween t s a b ↔ MatchBetween t base (drop n a) (drop n b)
     common-run =
         let i = between-prefix t s (take n a) (drop n a) (drop n b) (bytes-take n a bytes) in
         let same : take n a ≡ take n b = rw e (commonPrefixLen-take a b) in
-        rw r (subst₂ (λ (x y : List ℕ). Between t s x y ↔ Between t (run t s (take n a)) (drop n a) (drop n b)) (take-append-drop n a) (rw same (take-append-drop n b)) i)
+        rw r (subst₂ (λ (x y : List ℕ). MatchBetween t s x y ↔ MatchBetween t (run t s (take n a)) (drop n a) (drop n b)) (take-append-drop n a) (rw same (take-append-drop n b)) i)
 
-    pub common-can : Between t s a b → CanMatch t base
+    pub common-can : MatchBetween t s a b → CanMatch t base
     common-can m = word-any (λ w. (drop n a ≺ w) × (w ≼ drop n b)) (common-run .0 m)
 
     -- the start is the prefix
-    pub common-end : length a ≤ n → Between t s a b ↔ Between t base [] (drop n b)
+    pub common-end : length a ≤ n → MatchBetween t s a b ↔ MatchBetween t base [] (drop n b)
     common-end h = rw (drop-of-length-le a h) at common-run
 
     -- the start's next byte is below the end's
     pub common-lower : n < length a → n < length b → getD b n 0 < 256 → getD a n 0 ≤ getD b n 0
-        → Between t s a b ↔ Parted t base (getD a n 0) (getD b n 0) (drop (n + 1) a) (drop (n + 1) b)
+        → MatchBetween t s a b ↔ Parted t base (getD a n 0) (getD b n 0) (drop (n + 1) a) (drop (n + 1) b)
     common-lower ha hb hy h =
         let l : getD a n 0 < getD b n 0 = lt-of-le-ne h (subst (λ (k : ℕ). getD a k 0 ≡ getD b k 0 → ⊥) (sym e) (commonPrefixLen-differ a b (omega arith) (omega arith))) in
-        let i : Between t s a b ↔ Between t base (getD a n 0 ∷ drop (n + 1) a) (getD b n 0 ∷ drop (n + 1) b) = rw (drop-byte a n ha, drop-byte b n hb) at common-run in
+        let i : MatchBetween t s a b ↔ MatchBetween t base (getD a n 0 ∷ drop (n + 1) a) (getD b n 0 ∷ drop (n + 1) b) = rw (drop-byte a n ha, drop-byte b n hb) at common-run in
         Iff·trans i (between-lower t base (getD a n 0) (getD b n 0) (drop (n + 1) a) (drop (n + 1) b) l hy)

@@ -4,9 +4,9 @@ use mathlib.Core.Bool.{Bool, false}
 use Rattle.pruning.specs.declared.Matched.{Matched}
 use Rattle.pruning.specs.declared.Matched.the-variants.{Matches, Refused}
 
-abbrev pub number : Matched → ℕ
-number (Matches b) = 0
-number (Refused k) = k
+abbrev pub matchedNo : Matched → ℕ
+matchedNo (Matches b) = 0
+matchedNo (Refused k) = k
 
 abbrev pub matches : Matched → Bool
 matches (Matches b) = b

@@ -12,18 +12,18 @@ startOf true key = some key
 startOf false key = none
 
 -- w is above the start, if there is one
-abbrev pub Above : Option (List ℕ) → List ℕ → Type 0
-Above none w = Unit {0}
-Above (some start) w = start ≺ w
+abbrev pub AboveStart : Option (List ℕ) → List ℕ → Type 0
+AboveStart none w = Unit {0}
+AboveStart (some start) w = start ≺ w
 
 -- the automaton accepts some byte string above start and not above end
 abbrev pub Marked : List ℕ → Option (List ℕ) → List ℕ → Type 0
-Marked t start end = Word t 0 (λ w. Above start w × (w ≼ end))
+Marked t start end = Word t 0 (λ w. AboveStart start w × (w ≼ end))
 
 -- from the state s on it accepts some byte string above the key
-abbrev pub After : List ℕ → ℕ → List ℕ → Type 0
-After t s key = Word t s (λ w. key ≺ w)
+abbrev pub MatchAbove : List ℕ → ℕ → List ℕ → Type 0
+MatchAbove t s key = Word t s (λ w. key ≺ w)
 
 -- from the state s on it accepts some byte string above start and not above end
-abbrev pub Between : List ℕ → ℕ → List ℕ → List ℕ → Type 0
-Between t s start end = Word t s (λ w. (start ≺ w) × (w ≼ end))
+abbrev pub MatchBetween : List ℕ → ℕ → List ℕ → List ℕ → Type 0
+MatchBetween t s start end = Word t s (λ w. (start ≺ w) × (w ≼ end))

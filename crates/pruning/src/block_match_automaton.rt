@@ -7,7 +7,7 @@ ghost use Rattle.automaton.specs.Bits.{Exactly};
 ghost use Rattle.automaton.specs.Table.{WellFormed, states};
 ghost use Rattle.automaton.specs.Words.{Reach, run};
 ghost use Rattle.automaton.specs.Live.{Live};
-ghost use Rattle.pruning.specs.Interval.{startOf, Marked, After, Between};
+ghost use Rattle.pruning.specs.Interval.{startOf, Marked, MatchAbove, MatchBetween};
 use automaton::live::any_byte;
 use automaton::reach::can_match;
 use automaton::table::accept;
@@ -22,7 +22,7 @@ fn match_range_start(
     state: usize,
 ) -> bool
     requires { ⌜ WellFormed (now table) × Reach (now table) reach × Live (now table) (now live) × (state < states (now table)) ⌝ }
-    ensures { λ r. ⌜ Exactly r (After (now (table .entry)) state (now («start_key» .entry))) ⌝ }
+    ensures { λ r. ⌜ Exactly r (MatchAbove (now (table .entry)) state (now («start_key» .entry))) ⌝ }
 {
     let mut at = state;
     let mut i: usize = 0;
@@ -49,7 +49,7 @@ fn match_range_end(
     state: usize,
 ) -> bool
     requires { ⌜ WellFormed (now table) × Reach (now table) reach × Live (now table) (now live) × (state < states (now table)) ⌝ }
-    ensures { λ r. ⌜ Exactly r (Between (now (table .entry)) state [] (now («end_key» .entry))) ⌝ }
+    ensures { λ r. ⌜ Exactly r (MatchBetween (now (table .entry)) state [] (now («end_key» .entry))) ⌝ }
 {
     let mut at = state;
     let mut i: usize = 0;
@@ -92,7 +92,7 @@ fn can_block_match_automaton_with_start(
     end_key: &[u8],
 ) -> bool
     requires { ⌜ WellFormed (now table) × Reach (now table) reach × Live (now table) (now live) ⌝ }
-    ensures { λ r. ⌜ Exactly r (Between (now (table .entry)) 0 (now («start_key» .entry)) (now («end_key» .entry))) ⌝ }
+    ensures { λ r. ⌜ Exactly r (MatchBetween (now (table .entry)) 0 (now («start_key» .entry)) (now («end_key» .entry))) ⌝ }
 {
     let n = keys::common_prefix_len(start_key, end_key);
     if n == end_key.len() {

@@ -5,7 +5,7 @@ ghost use mathlib.Core.Path.{_≡_};
 ghost use Rattle.automaton.specs.Bits.{Exactly};
 ghost use Rattle.automaton.specs.Table.{tableNo};
 ghost use Rattle.pruning.specs.Interval.{startOf, Marked};
-ghost use Rattle.pruning.specs.Answers.{number, matches};
+ghost use Rattle.pruning.specs.Answers.{matchedNo, matches};
 
 // Whether a block can match, or the row that the automaton's table breaks.
 pub enum Matched {
@@ -20,7 +20,7 @@ pub fn can_block_match_automaton(
     end_key: &[u8],
     table: &[u8],
 ) -> Matched
-    ensures { λ r. ⌜ number r ≡ tableNo (now (table .entry)) ⌝ }
+    ensures { λ r. ⌜ matchedNo r ≡ tableNo (now (table .entry)) ⌝ }
     ensures { λ r. ⌜ (tableNo (now (table .entry)) ≡ 0 → Exactly (matches r) (Marked (now (table .entry)) (startOf «has_start» (now («start_key» .entry))) (now («end_key» .entry)))) ⌝ }
 {
     let no = automaton::table::check(table);

@@ -13,7 +13,7 @@ use Rattle.index.specs.Answers.{loadNo}
 use Rattle.replay.specs.Format.{Question, questionLen, questionAt, items, behind}
 use Rattle.replay.specs.Made.{cells}
 use Rattle.replay.specs.Replay.{AnswerIn, none, more}
-use Rattle.replay.specs.Asked.{Given, Asks, Opened}
+use Rattle.replay.specs.Asked.{Given, Asks, OpeningAsks}
 use Rattle.replay.proofs.Items.{behind-next, behind-there}
 use Rattle.replay.proofs.Turns.{cells-turn}
 
@@ -82,7 +82,7 @@ given-number k es f (Index opened) g = sym (g .0)
 given-number k es f (Refused j) g = sym (g .0)
 
 pub opened-asks : (k : ℕ) (es : List Entry) (qs : List Question) (i j : ℕ) (answers answers′ answers″ : List ℕ) → j ≡ k
-    → answers′ ≡ sets answers (5 * i) (cells j 0 0 0 0) → Asks k es qs (i + 1) answers′ answers″ → Opened k es qs i answers answers″
+    → answers′ ≡ sets answers (5 * i) (cells j 0 0 0 0) → Asks k es qs (i + 1) answers′ answers″ → OpeningAsks k es qs i answers answers″
 opened-asks k es qs i j answers answers′ answers″ n e a = record {
   asked = a .asked;
   answered = a .answered;

@@ -9,18 +9,18 @@ use lib.ListN.{length}
 use borrow.Author.Tests.{ltb-true, ltb-false, le-ltb}
 use Rattle.keys.proofs.Order.{by-test}
 use Rattle.group.specs.declared.BlockAddr.{BlockAddr}
+use Rattle.group.specs.Blocks.{noBlock}
 use Rattle.builder.specs.Plain.{Entry}
 use Rattle.builder.specs.Finish.{indexOf}
 use Rattle.builder.proofs.Rules.{EntriesOk, run-rules}
 use Rattle.index.specs.declared.SSTableIndexV3.{SSTableIndexV3}
-use Rattle.index.specs.Answers.{noBlock}
 use Rattle.index.specs.Opening.{footerNo, openNo, openDef, openedOf}
 use Rattle.index.specs.Lookups.{ByIdExact}
 use Rattle.index.proofs.OpenFacts.{OpenFacts}
 use Rattle.index.proofs.LookupLaws.{place-known}
 use Rattle.listing.proofs.Rows.{table-refused}
 use Rattle.listing.proofs.ListedOpened.{opened-passes, opened-inside, list-facts}
-use Rattle.demands.specs.Demand3.{Finds, block}
+use Rattle.demands.specs.Demand3.{Finds, entryBlock}
 use Rattle.demands.proofs.Found.{entries-open, found}
 use Rattle.replay.specs.Format.{calls}
 use Rattle.replay.specs.Made.{freshOf, entriesOf, isShort, openNumber}
@@ -28,9 +28,9 @@ use Rattle.replay.specs.Asked.{Indexed, Given}
 use Rattle.replay.proofs.Entries.{given, some-index, none-index}
 
 -- an id that is found is one of the entries', and theirs are found
-missing-id : (block : ℕ → BlockAddr) (n id : ℕ) → ByIdExact block n id 17 noBlock → n ≤ id
-missing-id block n id (inl p) = absurd (let z : ⊥ = omega (arith, p .0) in z)
-missing-id block n id (inr p) = p .1
+missing-id : (entryBlock : ℕ → BlockAddr) (n id : ℕ) → ByIdExact entryBlock n id 17 noBlock → n ≤ id
+missing-id entryBlock n id (inl p) = absurd (let z : ⊥ = omega (arith, p .0) in z)
+missing-id entryBlock n id (inr p) = p .1
 
 module _ (es : List Entry) (ok : EntriesOk es) (few : length es ≤ 65536) (two : 2 ≤ length es) where
   abbrev opened : SSTableIndexV3
@@ -43,7 +43,7 @@ module _ (es : List Entry) (ok : EntriesOk es) (few : length es ≤ 65536) (two 
   found-in = found es ok few two
 
   all-known : (id : ℕ) → opened .n ≤ id → length es ≤ id
-  all-known id h = missing-id (block es) (length es) id (found-in .by-id id 17 noBlock (inr (inl refl, refl), λ o. inr (refl, h, refl)))
+  all-known id h = missing-id (entryBlock es) (length es) id (found-in .by-id id 17 noBlock (inr (inl refl, refl), λ o. inr (refl, h, refl)))
 
   pub entries-indexed : Indexed es (indexOf es) opened
   entries-indexed = record {

@@ -11,9 +11,9 @@ use Rattle.serialize.proofs.Stores.{sets-append}
 use Rattle.group.specs.declared.BlockAddr.{BlockAddr}
 use Rattle.builder.specs.Calls.{After, addDef, shortenDef}
 use Rattle.builder.specs.Plain.{callDef, runNumbers, runEnd}
-use Rattle.replay.specs.Format.{tagAt, stringAt, callLen, callAt, items, behind, calls, callCount, questionsFrom}
+use Rattle.replay.specs.Format.{tagAt, stringAt, callLen, callAt, items, behind, calls, callCount, questionsFrom, addedBlock}
 use Rattle.replay.specs.Made.{cells, callCells, freshOf}
-use Rattle.replay.specs.Steps.{leaves, blockIn}
+use Rattle.replay.specs.Steps.{leaves}
 use Rattle.replay.specs.declared.calls.Called.{Called}
 use Rattle.replay.proofs.Items.{behind-next, behind-there}
 
@@ -25,7 +25,7 @@ cells-turn out out′ w rest i five e =
 
 module _ (s : List ℕ) (at : ℕ) (a : After) where
   -- the call at `at`, by its tag
-  pub is-add : tagAt s at ≡ 0 → (key : List ℕ) (block : BlockAddr) → key ≡ stringAt s (at + 25) → block ≡ blockIn s at
+  pub is-add : tagAt s at ≡ 0 → (key : List ℕ) (block : BlockAddr) → key ≡ stringAt s (at + 25) → block ≡ addedBlock s at
       → addDef (a .builder) (a .blocks) (a .keys) key block ≡ callDef (callAt s at) a
   unfolding callAt callDef
   is-add e key block k b = rw (e, k, b)

@@ -18,7 +18,7 @@ use Rattle.replay.specs.Format.{callLen, callAt, questionLen, questionAt
 use Rattle.replay.specs.Made.{cells, callCells, freshOf, entriesOf, isShort, finishCells, openNumber}
 use Rattle.replay.specs.Steps.{leaves, finishedCells}
 use Rattle.replay.specs.Replay.{replayNo, Replayed}
-use Rattle.replay.specs.Asked.{Given, Opened}
+use Rattle.replay.specs.Asked.{Given, OpeningAsks}
 use Rattle.replay.specs.declared.calls.Called.{Called}
 use Rattle.replay.proofs.Items.{ListOk}
 use Rattle.replay.proofs.Turns.{cells-turn}
@@ -111,7 +111,7 @@ module _ (s B K out B′ K′ : List ℕ) (made : Called) (m : leaves made B′ 
       → out′ ≡ finished (leaves made B′ K′) out .out
       → answers₂ ≡ sets answers₁ (5 * count) (finishedCells (finished (leaves made B′ K′) out))
       → made .next ≡ questionsFrom s
-      → Opened (openNumber (entriesOf s B K) out) (entriesOf s B K) (items (questionLen s) (questionAt s) (made .next) (questionCount s)) (count + 1) answers₂ answers₃
+      → OpeningAsks (openNumber (entriesOf s B K) out) (entriesOf s B K) (items (questionLen s) (questionAt s) (made .next) (questionCount s)) (count + 1) answers₂ answers₃
       → Replayed s B K out answers B′ K′ out′ answers₃
   replayed answers count c answers₁ answers₂ answers₃ out′ called left finished next opened =
       let es = entriesOf s B K in

@@ -11,7 +11,7 @@ use Rattle.index.specs.declared.Loaded.{Loaded}
 use Rattle.index.specs.declared.Loaded.the-variants.{Opened as Index, Refused}
 use Rattle.index.specs.declared.Place.the-variants.{Missing}
 use Rattle.index.specs.Lookups.{placeDef}
-use Rattle.listing.specs.Listing.{listNo}
+use Rattle.listing.specs.Listing.{listingNo}
 use Rattle.demands.specs.Demand3.{Finds}
 use Rattle.replay.specs.Format.{Question}
 use Rattle.replay.specs.Made.{cells, entriesIndex}
@@ -23,7 +23,7 @@ pub record Indexed (es : List Entry) (f : List ℕ) (opened : SSTableIndexV3) : 
   pub few : length es ≤ 65536
   pub finds : Finds es f opened
   pub known : (id : ℕ) → id < length es → placeDef 128 opened f id ≡ Missing → ⊥
-  pub unlisted : (t : List ℕ) (room : ℕ) → (tableNo t ≡ 0 → ⊥) → listNo 128 opened f t room ≡ tableNo t
+  pub unlisted : (t : List ℕ) (room : ℕ) → (tableNo t ≡ 0 → ⊥) → listingNo 128 opened f t room ≡ tableNo t
 
 -- an opening of f with number k
 abbrev pub Given : ℕ → List Entry → List ℕ → Loaded → Type 0
@@ -37,7 +37,7 @@ pub record Asks (k : ℕ) (es : List Entry) (qs : List Question) (i : ℕ) (answ
   pub written : answers′ ≡ sets answers (5 * i) asked
 
 -- an opening's number as answer i, and the questions behind it
-pub record Opened (k : ℕ) (es : List Entry) (qs : List Question) (i : ℕ) (answers answers′ : List ℕ) : Type 0 where
+pub record OpeningAsks (k : ℕ) (es : List Entry) (qs : List Question) (i : ℕ) (answers answers′ : List ℕ) : Type 0 where
   pub asked : List ℕ
   pub answered : Answered k es qs asked
   pub written : answers′ ≡ sets answers (5 * i) (cells k 0 0 0 0 ++ asked)

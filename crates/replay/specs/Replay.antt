@@ -12,8 +12,9 @@ use Rattle.builder.specs.Plain.{Entry, plainNumbers, runEnd}
 use Rattle.automaton.specs.Table.{tableNo}
 use Rattle.index.specs.Lookups.{ByIdExact, ByOrdExact, ByKeyExact, AddrByKeyExact}
 use Rattle.listing.specs.Marks.{Marks, ones}
+use Rattle.demands.specs.Demand3.{entryBlock, entrySeparator}
 use Rattle.replay.specs.Format.{Question, byId, byOrdinal, byKey, addressByKey, separatorOf, markOf, calls, questions, callCount, questionCount, listBad}
-use Rattle.replay.specs.Made.{cells, callCells, freshOf, roomsIn, entriesOf, entryBlock, entryKey, entriesIndex, finishCells, finishOut, openNumber}
+use Rattle.replay.specs.Made.{cells, callCells, freshOf, roomsIn, entriesOf, entriesIndex, finishCells, finishOut, openNumber}
 
 -- by id: entry i's start, end and ordinal, or 17
 pub record IdAnswer (es : List Entry) (id : ℕ) (cs : List ℕ) : Type 0 where
@@ -35,7 +36,7 @@ pub record KeyAnswer (es : List Entry) (key : List ℕ) (cs : List ℕ) : Type 0
   pub no : ℕ
   pub id : ℕ
   pub written : cs ≡ cells no id 0 0 0
-  pub right : ByKeyExact (entryKey es) (length es) key no id
+  pub right : ByKeyExact (entrySeparator es) (length es) key no id
 
 -- the same with its address
 pub record AddrAnswer (es : List Entry) (key : List ℕ) (cs : List ℕ) : Type 0 where
@@ -43,20 +44,20 @@ pub record AddrAnswer (es : List Entry) (key : List ℕ) (cs : List ℕ) : Type 
   pub id : ℕ
   pub addr : BlockAddr
   pub written : cs ≡ cells no id (addr .start) (addr .end) (addr .«first_ordinal»)
-  pub right : AddrByKeyExact (entryKey es) (entryBlock es) (length es) key no id addr
+  pub right : AddrByKeyExact (entrySeparator es) (entryBlock es) (length es) key no id addr
 
 -- a separator's place in the index and that it is there, or zeros
 pub record SeparatorAnswer (es : List Entry) (id : ℕ) (cs : List ℕ) : Type 0 where
   pub offset : ℕ
   pub len : ℕ
-  pub found : id < length es → (cs ≡ cells 0 offset len 1 0) × (take len (drop offset (entriesIndex es)) ≡ entryKey es id)
+  pub found : id < length es → (cs ≡ cells 0 offset len 1 0) × (take len (drop offset (entriesIndex es)) ≡ entrySeparator es id)
   pub missing : length es ≤ id → cs ≡ cells 0 0 0 0 0
 
 -- a listing of the automaton's blocks: its number, or the count of ones and mark i
 pub record MarkAnswer (es : List Entry) (i : ℕ) (t : List ℕ) (cs : List ℕ) : Type 0 where
   pub refused : 0 < tableNo t → cs ≡ cells (tableNo t) 0 0 0 0
   pub marks : List ℕ
-  pub listed : tableNo t ≡ 0 → Marks t (entryKey es) (length es) marks × (cs ≡ cells 0 (ones marks) (getD marks i 0) 0 0)
+  pub listed : tableNo t ≡ 0 → Marks t (entrySeparator es) (length es) marks × (cs ≡ cells 0 (ones marks) (getD marks i 0) 0 0)
 
 abbrev pub AnswerTo : List Entry → Question → List ℕ → Type 0
 AnswerTo es (byId id) cs = IdAnswer es id cs

@@ -7,9 +7,9 @@ ghost use lib.ListN.{length};
 ghost use lib.Seq.{sets};
 ghost use Rattle.builder.specs.Calls.{after};
 ghost use Rattle.builder.specs.Plain.{callDef, runNumbers, runEnd};
-ghost use Rattle.replay.specs.Format.{callLen, callAt, calls, callCount, questionsFrom, listBad};
+ghost use Rattle.replay.specs.Format.{callLen, callAt, calls, callCount, questionsFrom, listBad, addedBlock};
 ghost use Rattle.replay.specs.Made.{callCells, freshOf};
-ghost use Rattle.replay.specs.Steps.{leaves, blockIn};
+ghost use Rattle.replay.specs.Steps.{leaves};
 use crate::cells::Cells;
 use crate::cells::WIDTH;
 use crate::format;
@@ -41,7 +41,7 @@ fn read_answer(answer: Answer, next: usize) -> Called
 // The block of the add at `at`.
 fn block(list: &[u8], at: usize) -> BlockAddr
     requires { ⌜ at + 25 ≤ length (now list) ⌝ }
-    ensures { λ r. ⌜ r ≡ blockIn (now (list .entry)) at ⌝ }
+    ensures { λ r. ⌜ r ≡ addedBlock (now (list .entry)) at ⌝ }
 {
     BlockAddr {
         start: format::number(list, at + 1),

@@ -11,7 +11,7 @@ ghost use Rattle.replay.specs.Format.{questionLen, questionAt, items, be
 ghost use Rattle.replay.specs.Made.{cells};
 ghost use Rattle.replay.specs.Steps.{cellsOf};
 ghost use Rattle.replay.specs.Replay.{IdAnswer, OrdAnswer, KeyAnswer, AddrAnswer, SeparatorAnswer, MarkAnswer, AnswerTo, AnswerIn};
-ghost use Rattle.replay.specs.Asked.{Indexed, Given, Asks, Opened};
+ghost use Rattle.replay.specs.Asked.{Indexed, Given, Asks, OpeningAsks};
 use crate::cells::Cells;
 use crate::cells::WIDTH;
 use crate::format;
@@ -229,7 +229,7 @@ fn load_no(loaded: Loaded) -> u32
 // Opens the bytes and asks the list's questions of them. The opening is answer `first`.
 pub fn open_list(list: &[u8], from: usize, data: &[u8], answers: &mut [u64], first: usize)
     requires { ⌜ (8 ≤ length (now list)) × (behind (questionLen (now list)) from (questionCount (now list)) ≡ 0 → ⊥) × (5 * (first + 1 + questionCount (now list)) ≤ length (now answers)) ⌝ }
-    ensures { λ _. ⌜ ((k : ℕ) (es : List Entry) → Given k es (now («data» .entry)) (openDef 128 (now («data» .entry))) → Opened k es (items (questionLen (now (list .entry))) (questionAt (now (list .entry))) from (questionCount (now (list .entry)))) first (now (answers .entry)) (now (answers .exit))) ⌝ }
+    ensures { λ _. ⌜ ((k : ℕ) (es : List Entry) → Given k es (now («data» .entry)) (openDef 128 (now («data» .entry))) → OpeningAsks k es (items (questionLen (now (list .entry))) (questionAt (now (list .entry))) from (questionCount (now (list .entry)))) first (now (answers .entry)) (now (answers .exit))) ⌝ }
 {
     let loaded = SSTableIndexV3::load(data);
     Cells::number(load_no(loaded)).write(answers, WIDTH * first);

@@ -1,7 +1,7 @@
 -- An opened record as its seven numbers, read back.
 use mathlib.Core.Path.{_≡_, refl}
 use Rattle.index.specs.declared.SSTableIndexV3.{SSTableIndexV3}
-use Rattle.rosmarel.specs.Words.{words, openedAt}
+use Rattle.rosmarel.specs.Words.{openedWords, openedAt}
 
-pub words-back : (o : SSTableIndexV3) → openedAt (words o) ≡ o
+pub words-back : (o : SSTableIndexV3) → openedAt (openedWords o) ≡ o
 words-back o = refl

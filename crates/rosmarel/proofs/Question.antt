@@ -6,12 +6,12 @@ use mathlib.Core.Logic.{inl, inr}
 use native.Mathlib.Omega.{arith}
 use package.mir.Val.{boolByte}
 use Rattle.automaton.specs.Bits.{Exactly}
-use Rattle.rosmarel.specs.Answers.{Answered}
+use Rattle.rosmarel.specs.Answers.{MarkAnswered}
 
-pub taken : {P : Type 0} (b : Bool) → Exactly b P → Answered 0 (boolByte b) P
+pub taken : {P : Type 0} (b : Bool) → Exactly b P → MarkAnswered 0 (boolByte b) P
 taken true p = inl (refl, inl (refl, p))
 taken false p = inl (refl, inr (refl, p))
 
-pub refused : {P : Type 0} (k : ℕ) → (k ≡ 0 → Exactly false P) → Answered k 0 P
+pub refused : {P : Type 0} (k : ℕ) → (k ≡ 0 → Exactly false P) → MarkAnswered k 0 P
 refused zero p = inl (refl, inr (refl, p refl))
 refused (suc k) p = inr (omega arith, refl)

@@ -16,5 +16,5 @@ lenTotal (Total total) = total
 lenTotal (Refused k) = 0
 
 -- a question with number k: where it is taken, the answer is 1 exactly when P, else 0
-abbrev pub Answered : ℕ → ℕ → Type 0 → Type 0
-Answered k answer P = ((k ≡ 0) × Mark answer P) ⊎ ((0 < k) × (answer ≡ 0))
+abbrev pub MarkAnswered : ℕ → ℕ → Type 0 → Type 0
+MarkAnswered k answer P = ((k ≡ 0) × Mark answer P) ⊎ ((0 < k) × (answer ≡ 0))

@@ -5,8 +5,8 @@ use lib.ListN.{getD}
 use Rattle.index.specs.declared.SSTableIndexV3.{SSTableIndexV3}
 
 -- n, then offset and length of the directory, the group records and the address bytes
-abbrev pub words : SSTableIndexV3 → List ℕ
-words o = o .n ∷ o .directory ∷ o .«directory_len» ∷ o .metas ∷ o .«metas_len» ∷ o .addrs ∷ o .«addrs_len» ∷ []
+abbrev pub openedWords : SSTableIndexV3 → List ℕ
+openedWords o = o .n ∷ o .directory ∷ o .«directory_len» ∷ o .metas ∷ o .«metas_len» ∷ o .addrs ∷ o .«addrs_len» ∷ []
 
 abbrev pub openedAt : List ℕ → SSTableIndexV3
 openedAt w = record {

@@ -4,7 +4,7 @@ ghost use Rattle.index.specs.Parts.{blockIn, separatorIn};
 ghost use Rattle.index.specs.Opening.{openDef, Opens};
 ghost use Rattle.index.specs.Answers.{loadNo, loadOpened, placeOffset, placeLen};
 ghost use Rattle.index.specs.Lookups.{ByIdAllowed, ByIdExact, LocatedAllowed, ByOrdExact, ByKeyAllowed, ByKeyExact, AddrByKeyExact, placeDef};
-ghost use Rattle.rosmarel.specs.Words.{words as wordsOf, openedAt};
+ghost use Rattle.rosmarel.specs.Words.{openedWords, openedAt};
 use crate::words::opened_at;
 use crate::words::words;
 use index::BlockById;
@@ -17,7 +17,7 @@ use index::SSTableIndexV3;
 // Opens the bytes of an index that anyone may have written.
 #[no_mangle]
 pub extern "C" fn rosmarel_open(index: &[u8], opened: &mut [u64; 7]) -> u32
-    ensures { λ r. ⌜ (r ≡ loadNo (openDef 128 (now (index .entry)))) × (now (opened .exit) ≡ wordsOf (loadOpened (openDef 128 (now (index .entry))))) ⌝ }
+    ensures { λ r. ⌜ (r ≡ loadNo (openDef 128 (now (index .entry)))) × (now (opened .exit) ≡ openedWords (loadOpened (openDef 128 (now (index .entry))))) ⌝ }
 {
     match SSTableIndexV3::load(index) {
         Loaded::Opened(record) => {

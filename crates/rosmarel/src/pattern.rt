@@ -3,10 +3,10 @@ ghost use mathlib.Core.Path.{_≡_};
 ghost use lib.ListN.{length};
 ghost use Rattle.automaton.specs.Table.{tableNo};
 ghost use Rattle.pruning.specs.Interval.{startOf, Marked};
-ghost use Rattle.example.specs.Example.{ExampleNo, Leaves as ExampleLeaves};
-ghost use Rattle.listing.specs.Listing.{listNo, separatorAt, Leaves as ListLeaves};
+ghost use Rattle.example.specs.Example.{ExampleNo, ExampleLeaves};
+ghost use Rattle.listing.specs.Listing.{listingNo, separatorAt, ListingLeaves};
 ghost use Rattle.rosmarel.specs.Words.{openedAt};
-ghost use Rattle.rosmarel.specs.Answers.{Answered};
+ghost use Rattle.rosmarel.specs.Answers.{MarkAnswered};
 use crate::words::opened_at;
 use example::ExampleAnswer;
 use listing::Listed;
@@ -21,8 +21,8 @@ pub extern "C" fn rosmarel_list(
     marks: &mut [u8],
     count: &mut u64,
 ) -> u32
-    ensures { λ r. ⌜ r ≡ listNo 128 (openedAt (now (opened .entry))) (now (index .entry)) (now (automaton .entry)) (length (now (marks .entry))) ⌝ }
-    ensures { λ r. ⌜ ListLeaves (now (automaton .entry)) (separatorAt (openedAt (now (opened .entry))) (now (index .entry))) (openedAt (now (opened .entry)) .n) (now (marks .entry)) (now (marks .exit)) r (now (count .exit)) ⌝ }
+    ensures { λ r. ⌜ r ≡ listingNo 128 (openedAt (now (opened .entry))) (now (index .entry)) (now (automaton .entry)) (length (now (marks .entry))) ⌝ }
+    ensures { λ r. ⌜ ListingLeaves (now (automaton .entry)) (separatorAt (openedAt (now (opened .entry))) (now (index .entry))) (openedAt (now (opened .entry)) .n) (now (marks .entry)) (now (marks .exit)) r (now (count .exit)) ⌝ }
 {
     match listing::get_block_for_automaton(opened_at(opened), index, automaton, marks) {
         Listed::Count(ones) => {
@@ -46,7 +46,7 @@ pub extern "C" fn rosmarel_can_block_match(
     matches: &mut u64,
 ) -> u32
     ensures { λ r. ⌜ r ≡ tableNo (now (automaton .entry)) ⌝ }
-    ensures { λ r. ⌜ Answered r (now (matches .exit)) (Marked (now (automaton .entry)) (startOf «has_start» (now (start .entry))) (now (end .entry))) ⌝ }
+    ensures { λ r. ⌜ MarkAnswered r (now (matches .exit)) (Marked (now (automaton .entry)) (startOf «has_start» (now (start .entry))) (now (end .entry))) ⌝ }
 {
     match pruning::can_block_match_automaton(has_start, start, end, automaton) {
         Matched::Matches(can) => {

@@ -1,10 +1,10 @@
 // The opened record as seven numbers.
 ghost use mathlib.Core.Path.{_≡_};
-ghost use Rattle.rosmarel.specs.Words.{words as wordsOf, openedAt};
+ghost use Rattle.rosmarel.specs.Words.{openedWords, openedAt};
 use index::SSTableIndexV3;
 
 pub fn words(opened: SSTableIndexV3) -> [u64; 7]
-    ensures { λ r. ⌜ r ≡ wordsOf opened ⌝ }
+    ensures { λ r. ⌜ r ≡ openedWords opened ⌝ }
 {
     [
         opened.n as u64,

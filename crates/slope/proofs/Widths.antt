@@ -8,7 +8,7 @@ use native.Mathlib.Numerals.{add-one}
 use lib.ListN.{length, getD}
 use lib.Pow.{pow-mono}
 use Rattle.bitpacker.specs.Bits.{numBits}
-use Rattle.slope.specs.Slope.{bestSlope, between, derivation, maxDerivation, stored, widthOf}
+use Rattle.slope.specs.Slope.{bestSlope, between, derivation, maxDerivation, storedOf, widthOf}
 use Rattle.bitpacker.proofs.NumBits.{numBits-lt, numBits-le}
 
 one-add : (j : ℕ) → 1 + j ≡ suc j
@@ -41,11 +41,11 @@ maxDerivation-lt s b vs pos h = maxDerivation-lt-from s 1 b vs pos (λ j l. rw o
 -- what is stored of the point (i, v) is at least 0 and below 2 ^ w
 pub record StoredFits (s w i v : ℕ) : Type 0 where
   pub above : s * i ≤ v + 2 ^ (w - 1)
-  pub below : stored s w i v < 2 ^ w
+  pub below : storedOf s w i v < 2 ^ w
 
 -- one bit more than the derivation takes is enough
 pub near-fits : (s b i v : ℕ) → derivation s i v < 2 ^ b → StoredFits s (b + 1) i v
-unfolding derivation stored
+unfolding derivation storedOf
 near-fits s b i v h =
     let e : b + 1 - 1 ≡ b = omega arith in
     let p : 2 ^ (b + 1) ≡ 2 ^ b * 2 = rw (add-one, pow-suc) in
@@ -58,11 +58,11 @@ stored-fits s vs j small h =
     (lt-of-le-of-lt (derivation-le s vs j h) (numBits-lt (maxDerivation s 1 vs) small))
 
 -- what the reader undoes
-pub stored-back : (s w i v : ℕ) → s * i ≤ v + 2 ^ (w - 1) → stored s w i v + s * i ≡ v + 2 ^ (w - 1)
-unfolding stored
+pub stored-back : (s w i v : ℕ) → s * i ≤ v + 2 ^ (w - 1) → storedOf s w i v + s * i ≡ v + 2 ^ (w - 1)
+unfolding storedOf
 stored-back s w i v h = omega arith
 
-pub stored-inj : (s w i v v′ : ℕ) → s * i ≤ v + 2 ^ (w - 1) → s * i ≤ v′ + 2 ^ (w - 1) → stored s w i v ≡ stored s w i v′ → v ≡ v′
+pub stored-inj : (s w i v v′ : ℕ) → s * i ≤ v + 2 ^ (w - 1) → s * i ≤ v′ + 2 ^ (w - 1) → storedOf s w i v ≡ storedOf s w i v′ → v ≡ v′
 stored-inj s w i v v′ h h′ e = omega (arith, stored-back s w i v h, stored-back s w i v′ h′)
 
 pub width-pos : (s : ℕ) (vs : List ℕ) → 1 ≤ widthOf s vs

@@ -60,5 +60,5 @@ unfoldable pub widthOf : ℕ → List ℕ → ℕ
 widthOf slope vs = numBits (maxDerivation slope 1 vs) + 1
 
 -- what is stored of the point (i, v): v - slope × i + 2^(width-1)
-unfoldable pub stored : ℕ → ℕ → ℕ → ℕ → ℕ
-stored slope width i v = v + 2 ^ (width - 1) - slope * i
+unfoldable pub storedOf : ℕ → ℕ → ℕ → ℕ → ℕ
+storedOf slope width i v = v + 2 ^ (width - 1) - slope * i

@@ -14,7 +14,7 @@ use Rattle.group.specs.Facts.{GroupArea}
 use Rattle.group.specs.declared.BlockAddr.{BlockAddr}
 use Rattle.group.proofs.Blocks.{length-blocksAt, blocksAt-at, legal-same}
 use Rattle.store.specs.Store.{groupCount}
-use Rattle.store.specs.Facts.{GroupLen, StoreArea}
+use Rattle.store.specs.Facts.{GroupLenOk, StoreArea}
 
 -- ---- counts
 
@@ -125,7 +125,7 @@ module _ {area : List ℕ} {stride n : ℕ} (store : StoreArea area stride n) wh
       rw (length-blocksAt area stride 0 n)
       (legal-same (λ i h. blocksAt-at area stride 0 n i h ∙ ap (blockAt area stride) (zero-add i)) (store .legal))
 
-  pub group-area : {L : ℕ} → GroupLen L → (first count : ℕ) → count ≡ min L (n - first) → first < n → GroupArea area stride first count
+  pub group-area : {L : ℕ} → GroupLenOk L → (first count : ℕ) → count ≡ min L (n - first) → first < n → GroupArea area stride first count
   group-area group first count is h = record {
     some = omega arith;
     few = omega arith;

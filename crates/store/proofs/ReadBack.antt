@@ -29,7 +29,7 @@ use Rattle.group.proofs.Reading.{GroupOk, group-not-bad}
 use Rattle.group.proofs.Back.{block-back}
 use Rattle.store.specs.Store.{groupCount, groupAddrs, records, addrs, storeBytes}
 use Rattle.store.specs.Read.{groupMeta, groupLen, storeBlock, metaBad, storeGet, StoreOk}
-use Rattle.store.specs.Facts.{GroupLen, StoreArea}
+use Rattle.store.specs.Facts.{GroupLenOk, StoreArea}
 use Rattle.store.specs.declared.Got.the-variants.{Block}
 use Rattle.store.proofs.Groups.{group-count-above, group-count-below, group-count-lt, group-first-lt, group-count-le, legal-take, legal-drop, store-legal}
 use Rattle.store.proofs.Stored.{below-append, length-records, addrs-le, group-cons, record-at, bits-at, bits-inside, addrs-below}
@@ -44,12 +44,12 @@ pub record ReadsBack (L : ℕ) (recs addr : List ℕ) (bs : List BlockAddr) : Ty
 -- legal blocks, and few enough, that are written in groups of L with slopes of 32 bits
 pub record Storable (choose : List ℕ → ℕ) (L : ℕ) (bs : List BlockAddr) : Type 0 where
   pub slopes : (vs : List ℕ) → choose vs < 2 ^ 32
-  pub group : GroupLen L
+  pub group : GroupLenOk L
   pub few : length bs ≤ 65536
   pub legal : Legal (blockOf bs) (length bs)
 
 -- the blocks of an area, as they are written
-pub area-storable : {area : List ℕ} {stride n L : ℕ} → StoreArea area stride n → GroupLen L → Storable bestSlope L (blocksAt area stride 0 n)
+pub area-storable : {area : List ℕ} {stride n L : ℕ} → StoreArea area stride n → GroupLenOk L → Storable bestSlope L (blocksAt area stride 0 n)
 area-storable {area} {stride} {n} store group = record {
   slopes = bestSlope-lt;
   group = group;

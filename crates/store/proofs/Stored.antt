@@ -20,7 +20,7 @@ use Rattle.group.proofs.Blocks.{length-blocksAt, group-legal, length-group}
 use Rattle.group.proofs.Metadata.{length-metaBytes}
 use Rattle.group.proofs.Written.{fits, length-addrBytes}
 use Rattle.store.specs.Store.{groupCount, groupRecord, groupAddrs, records, addrs, storeBytes}
-use Rattle.store.specs.Facts.{GroupLen, StoreArea}
+use Rattle.store.specs.Facts.{GroupLenOk, StoreArea}
 use Rattle.store.proofs.Groups.{group-count-zero, group-count-turn, group-count-below, group-count-le, blocksAt-cons, take-blocksAt, blocks-left, legal-take, legal-drop, store-legal}
 
 -- ---- stores in two places
@@ -197,7 +197,7 @@ module _ (choose : List ℕ → ℕ) where
           addrs-le L k (drop L bs) few (legal-drop bs legal L),
         )
 
-    pub store-addrs-le : {area : List ℕ} {stride n L : ℕ} → StoreArea area stride n → GroupLen L
+    pub store-addrs-le : {area : List ℕ} {stride n L : ℕ} → StoreArea area stride n → GroupLenOk L
         → length (addrs choose L (groupCount L n) (blocksAt area stride 0 n)) ≤ 3577 * 65536
     store-addrs-le {area} {stride} {n} {L} store group =
         omega (arith, addrs-le L (groupCount L n) (blocksAt area stride 0 n) (group .few) (store-legal store), group-count-le (group .some) n, store .few)

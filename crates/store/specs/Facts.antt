@@ -7,7 +7,7 @@ use Rattle.group.specs.Legal.{Legal}
 use Rattle.store.specs.Store.{groupCount}
 
 -- a group's length
-pub record GroupLen (L : ℕ) : Type 0 where
+pub record GroupLenOk (L : ℕ) : Type 0 where
   pub some : 1 ≤ L
   pub few : L ≤ 256
 
@@ -19,7 +19,7 @@ pub record StoreArea (area : List ℕ) (stride n : ℕ) : Type 0 where
   pub legal : Legal (blockAt area stride) n
 
 -- group records for n blocks
-pub record Records (L : ℕ) (recs : List ℕ) (n : ℕ) : Type 0 where
+pub record RecordsOk (L : ℕ) (recs : List ℕ) (n : ℕ) : Type 0 where
   pub some : 1 ≤ n
   pub few : n ≤ 65536
   pub long : 36 * groupCount L n ≤ length recs

@@ -7,7 +7,7 @@ ghost use lib.ListN.{length};
 ghost use Rattle.group.specs.Legal.{limit};
 ghost use Rattle.group.specs.Read.{groupBad};
 ghost use Rattle.store.specs.Read.{groupMeta, groupLen, storeGet, storeBlock, StoreOk, LocatedIn, LocatedAs};
-ghost use Rattle.store.specs.Facts.{GroupLen, Records};
+ghost use Rattle.store.specs.Facts.{GroupLenOk, RecordsOk};
 use crate::Got;
 use crate::Located;
 use group::BlockAddrBlockMetadata;
@@ -40,7 +40,7 @@ fn meta_bad(meta: BlockAddrBlockMetadata, count: usize, addr_len: usize) -> bool
 
 // Block `block_id` of n.
 pub fn get(metas: &[u8], addrs: &[u8], n: usize, group_len: usize, block_id: usize) -> Got
-    requires { ⌜ GroupLen «group_len» × Records «group_len» (now metas) n × («block_id» < n) ⌝ }
+    requires { ⌜ GroupLenOk «group_len» × RecordsOk «group_len» (now metas) n × («block_id» < n) ⌝ }
     ensures { λ r. ⌜ r ≡ storeGet «group_len» (now (metas .entry)) (now (addrs .entry)) n «block_id» ⌝ }
 {
     let g = block_id / group_len;
@@ -82,7 +82,7 @@ pub fn binary_search_ord(
     group_len: usize,
     ord: u64,
 ) -> Located
-    requires { ⌜ GroupLen «group_len» × Records «group_len» (now metas) n ⌝ }
+    requires { ⌜ GroupLenOk «group_len» × RecordsOk «group_len» (now metas) n ⌝ }
     ensures { λ r. ⌜ LocatedIn n r ⌝ }
     ensures { λ r. ⌜ (StoreOk «group_len» (now (metas .entry)) (now (addrs .entry)) n → LocatedAs (storeBlock «group_len» (now (metas .entry)) (now (addrs .entry))) n ord r) ⌝ }
 {

@@ -8,7 +8,7 @@ ghost use Rattle.group.specs.Blocks.{blocksAt};
 ghost use Rattle.group.specs.Facts.{GroupArea};
 ghost use Rattle.store.specs.Store.{groupCount, groupRecord, groupAddrs, addrs, storeBytes};
 ghost use Rattle.store.specs.Answers.{storeAnswer, storeOut};
-ghost use Rattle.store.specs.Facts.{GroupLen, StoreArea};
+ghost use Rattle.store.specs.Facts.{GroupLenOk, StoreArea};
 use crate::Serialized;
 
 // The bytes of a group record.
@@ -16,7 +16,7 @@ const META_LEN: usize = 36;
 
 // How many groups n blocks make.
 pub fn group_count(n: usize, group_len: usize) -> usize
-    requires { ⌜ (n ≤ 65536) × GroupLen «group_len» ⌝ }
+    requires { ⌜ (n ≤ 65536) × GroupLenOk «group_len» ⌝ }
     ensures { λ r. ⌜ r ≡ groupCount «group_len» n ⌝ }
 {
     (n + (group_len - 1)) / group_len
@@ -33,7 +33,7 @@ fn blocks_from(first: usize, n: usize, group_len: usize) -> usize
 
 // How many address bytes the blocks take.
 fn addr_len(area: &[u64], stride: usize, n: usize, group_len: usize) -> usize
-    requires { ⌜ StoreArea (now area) stride n × GroupLen «group_len» ⌝ }
+    requires { ⌜ StoreArea (now area) stride n × GroupLenOk «group_len» ⌝ }
     ensures { λ r. ⌜ r ≡ length (addrs bestSlope «group_len» (groupCount «group_len» n) (blocksAt (now (area .entry)) stride 0 n)) ⌝ }
 {
     let mut len: usize = 0;
@@ -49,7 +49,7 @@ fn addr_len(area: &[u64], stride: usize, n: usize, group_len: usize) -> usize
 
 // How many bytes the store takes.
 pub fn store_len(area: &[u64], stride: usize, n: usize, group_len: usize) -> usize
-    requires { ⌜ StoreArea (now area) stride n × GroupLen «group_len» ⌝ }
+    requires { ⌜ StoreArea (now area) stride n × GroupLenOk «group_len» ⌝ }
     ensures { λ r. ⌜ r ≡ length (storeBytes bestSlope «group_len» (blocksAt (now (area .entry)) stride 0 n)) ⌝ }
 {
     8 + META_LEN * group_count(n, group_len) + addr_len(area, stride, n, group_len)
@@ -76,7 +76,7 @@ fn write_group(
 
 // Writes the store from the front of `out` on. Returns its length.
 pub fn serialize(area: &[u64], stride: usize, n: usize, group_len: usize, out: &mut [u8]) -> usize
-    requires { ⌜ StoreArea (now area) stride n × GroupLen «group_len» × (length (storeBytes bestSlope «group_len» (blocksAt (now area) stride 0 n)) ≤ length (now out)) ⌝ }
+    requires { ⌜ StoreArea (now area) stride n × GroupLenOk «group_len» × (length (storeBytes bestSlope «group_len» (blocksAt (now area) stride 0 n)) ≤ length (now out)) ⌝ }
     ensures { λ r. ⌜ r ≡ length (storeBytes bestSlope «group_len» (blocksAt (now (area .entry)) stride 0 n)) ⌝ }
     ensures { λ _. ⌜ now (out .exit) ≡ sets (now (out .entry)) 0 (storeBytes bestSlope «group_len» (blocksAt (now (area .entry)) stride 0 n)) ⌝ }
 {
@@ -113,7 +113,7 @@ pub fn write_store(
     group_len: usize,
     out: &mut [u8],
 ) -> Serialized
-    requires { ⌜ StoreArea (now area) stride n × GroupLen «group_len» ⌝ }
+    requires { ⌜ StoreArea (now area) stride n × GroupLenOk «group_len» ⌝ }
     ensures { λ r. ⌜ (r ≡ storeAnswer (now (out .entry)) (storeBytes bestSlope «group_len» (blocksAt (now (area .entry)) stride 0 n))) × (now (out .exit) ≡ storeOut (now (out .entry)) (storeBytes bestSlope «group_len» (blocksAt (now (area .entry)) stride 0 n))) ⌝ }
 {
     let len = store_len(area, stride, n, group_len);

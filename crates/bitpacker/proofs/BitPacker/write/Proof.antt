@@ -10,7 +10,7 @@ use lib.Pow.{pow-mono}
 use lib.Seq.{sets}
 use Rattle.serialize.specs.Digits.{digits, leBytes}
 use Rattle.bitpacker.specs.declared.BitPacker.{BitPacker}
-use Rattle.bitpacker.specs.Packer.{Waiting, joinedTo, wordsOf, leaving, after}
+use Rattle.bitpacker.specs.Packer.{Waiting, joinedTo, wordsOf, leaving, packedWith}
 use Rattle.bitpacker.proofs.Words.{low-digits, or-word, joined-lt, joined-left}
 use Rattle.bitpacker.proofs.BitPacker.write.Statement.{statement}
 use Rattle.bitpacker.proofs.BitPacker.write.Tie as tie
@@ -25,8 +25,8 @@ word p v = bitOr (p .buffer) (v * 2 ^ p .filled % 2 ^ 64)
 
 module _ (p : BitPacker) (v n : ℕ) (w : Waiting p) (small : v < 2 ^ n) where
   -- nothing leaves
-  kept-packer : p .filled + n < 64 → _≡_ {A = BitPacker} (record { buffer = word p v; filled = p .filled + n; written = p .written }) (after p v n)
-  unfolding after
+  kept-packer : p .filled + n < 64 → _≡_ {A = BitPacker} (record { buffer = word p v; filled = p .filled + n; written = p .written }) (packedWith p v n)
+  unfolding packedWith
   kept-packer h =
       let e : wordsOf p n ≡ 0 = omega arith in
       let fits : joinedTo p v < 2 ^ 64 = lt-of-lt-of-le (joined-lt (p .buffer) v (p .filled) n (w .low) small) (pow-mono {j = 64} (omega arith)) in
@@ -43,8 +43,8 @@ module _ (p : BitPacker) (v n : ℕ) (w : Waiting p) (small : v < 2 ^ n) where
 
   -- a word leaves
   left-packer : 64 ≤ p .filled + n → n ≤ 56
-      → _≡_ {A = BitPacker} (record { buffer = v / 2 ^ (64 - p .filled); filled = p .filled + n - 64; written = p .written + 8 }) (after p v n)
-  unfolding after
+      → _≡_ {A = BitPacker} (record { buffer = v / 2 ^ (64 - p .filled); filled = p .filled + n - 64; written = p .written + 8 }) (packedWith p v n)
+  unfolding packedWith
   left-packer h k =
       let e : wordsOf p n ≡ 1 = omega arith in
       same (sym (rw e (joined-left (p .buffer) v (p .filled) (w .low) (omega arith)))) (omega arith) (omega arith)

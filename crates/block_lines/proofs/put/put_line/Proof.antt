@@ -6,7 +6,7 @@ use Prim.Native.Nat.{_+_, _<_}
 use native.Mathlib.Nat.{zero-add}
 use native.Mathlib.Omega.{arith}
 use lib.ListN.{length, set, length-set}
-use Rattle.block_lines.specs.Lines.{decimal, line}
+use Rattle.block_lines.specs.Lines.{decimal, lineOf}
 use Rattle.block_lines.proofs.Written.{Wrote, wrote-next, wrote-length, to-start, to-end, to-ordinal, to-separator, parts-line, Reach, reach, separator-reach}
 use Rattle.block_lines.proofs.put.put_line.Statement.{statement}
 use Rattle.block_lines.proofs.put.put_line.Tie as tie
@@ -49,7 +49,7 @@ wrote-5 : (c : tie.After-put-separator) → let a = from-5 c .args in Wrote (a .
 wrote-5 c = wrote-next (wrote-4 (c .before .before .before .before)) _ _ _ (c .put-separator .ensures)
 
 all : (c : tie.After-put-separator) → let a = from-5 c .args in
-    Wrote (a .out .now) (set (c .put-separator .last .0) (c .put-separator .result) 10) (c .put-separator .result + 1) (line (a .id) (a .block) (a .separator .now))
+    Wrote (a .out .now) (set (c .put-separator .last .0) (c .put-separator .result) 10) (c .put-separator .result + 1) (lineOf (a .id) (a .block) (a .separator .now))
 all c =
     let a = from-5 c .args in
     rw (parts-line (a .id) (a .block) (a .separator .now)) at (wrote-next (wrote-5 c) (set (c .put-separator .last .0) (c .put-separator .result) 10) (10 ∷ []) (c .put-separator .result + 1) (refl, refl))

@@ -4,7 +4,7 @@ use Prim.Native.Nat.{_+_, _-_, _≤_}
 use mathlib.Core.Path.{_≡_, refl, sym}
 use mathlib.Core.Bool.{false}
 use native.Mathlib.Omega.{arith}
-use Rattle.builder.specs.Area.{keyOffset, areaView}
+use Rattle.builder.specs.Area.{areaKeyOffset, areaView}
 use Rattle.builder.specs.Finish.{offsetsBad}
 use Rattle.builder.proofs.Row8.{offsets-hit, offsets-next, next-one}
 use Rattle.builder.proofs.Views.{next-none}
@@ -41,14 +41,14 @@ returns : tie.Need-returns Inv-loop μ-loop
 returns c =
     let l = c .before .before .before in
     let a = l .before .args in
-    let ne : keyOffset (a .blocks .now) (l .loop .i) ≡ areaView (l .loop .i) (a .blocks .now) (a .keys .now) .nextKey → ⊥ = λ e. omega (arith, l .loop .inv .2, c .if1 .taken) in
+    let ne : areaKeyOffset (a .blocks .now) (l .loop .i) ≡ areaView (l .loop .i) (a .blocks .now) (a .keys .now) .nextKey → ⊥ = λ e. omega (arith, l .loop .inv .2, c .if1 .taken) in
     offsets-hit (a .blocks .now) (a .keys .now) (l .loop .i) (a .builder .n) (omega arith) ne
 
 returns-2 : tie.Need-returns-2 Inv-loop μ-loop
 returns-2 c =
     let l = c .before .before .before .before in
     let a = l .before .args in
-    let ne : keyOffset (a .blocks .now) (l .loop .i) ≡ areaView (l .loop .i) (a .blocks .now) (a .keys .now) .nextKey → ⊥ = λ e. omega (arith, l .loop .inv .2, c .if2 .taken) in
+    let ne : areaKeyOffset (a .blocks .now) (l .loop .i) ≡ areaView (l .loop .i) (a .blocks .now) (a .keys .now) .nextKey → ⊥ = λ e. omega (arith, l .loop .inv .2, c .if2 .taken) in
     offsets-hit (a .blocks .now) (a .keys .now) (l .loop .i) (a .builder .n) (omega arith) ne
 
 add-len : tie.Need-add-len Inv-loop μ-loop

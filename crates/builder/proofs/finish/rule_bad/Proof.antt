@@ -4,13 +4,13 @@ use Prim.Native.Nat.{_+_, _≤_}
 use native.Mathlib.Nat.{add-sub-cancel-left}
 use native.Mathlib.Omega.{arith}
 use lib.ListN.{length}
-use Rattle.builder.specs.Area.{keyOffset, keyLen, areaView}
+use Rattle.builder.specs.Area.{areaKeyOffset, areaKeyLen, areaView}
 use Rattle.builder.proofs.Row8.{next-one}
 use Rattle.builder.proofs.finish.rule_bad.Statement.{statement}
 use Rattle.builder.proofs.finish.rule_bad.Tie as tie
 
 -- key i ends inside the key area
-inside : (c : tie.Start) → let a = c .args in keyOffset (a .blocks .now) (a .i) + keyLen (a .blocks .now) (a .i) ≤ length (a .keys .now)
+inside : (c : tie.Start) → let a = c .args in areaKeyOffset (a .blocks .now) (a .i) + areaKeyLen (a .blocks .now) (a .i) ≤ length (a .keys .now)
 unfolding areaView
 inside c = omega (arith, c .pre .1 .within, next-one (c .args .blocks .now) (c .args .keys .now) (c .args .i))
 

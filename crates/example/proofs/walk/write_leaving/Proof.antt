@@ -9,7 +9,7 @@ use lib.Seq.{sets, length-take-le}
 use Rattle.automaton.specs.Table.{next}
 use Rattle.keys.specs.Order.{_≺_, _≼_}
 use Rattle.automaton.specs.Words.{run, Word}
-use Rattle.automaton.specs.Live.{Byte}
+use Rattle.automaton.specs.Live.{LiveByte}
 use Rattle.automaton.proofs.Strings.{bytes-of}
 use Rattle.example.proofs.Bounds.{leaving-byte}
 use Rattle.example.proofs.Found.{Found, found-leaving}
@@ -27,7 +27,7 @@ returns c =
       λ z. (
         refl,
         λ m. c .before .first-byte .ensures .1 (search needs)
-            (subst (λ (q : ℕ). Byte (a .table .now) q (a .lo) (a .hi)) (sym (s .pre .0 .3)) (leaving-byte 0 p (m .word) (a .lo) (a .hi) (m .hits) (m .good .0) (m .good .1))),
+            (subst (λ (q : ℕ). LiveByte (a .table .now) q (a .lo) (a .hi)) (sym (s .pre .0 .3)) (leaving-byte 0 p (m .word) (a .lo) (a .hi) (m .hits) (m .good .0) (m .good .1))),
       ),
       λ h. absurd (omega arith),
     )

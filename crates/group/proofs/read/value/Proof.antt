@@ -7,7 +7,7 @@ use native.Mathlib.Omega.{arith}
 use lib.Dec.{lit<}
 use lib.Pow.{shl-exact}
 use Rattle.group.specs.Legal.{limit}
-use Rattle.group.specs.Read.{value}
+use Rattle.group.specs.Read.{valueRead}
 use Rattle.group.proofs.Limit.{limit-high}
 use Rattle.group.proofs.Reading.{value-below, value-above}
 use Rattle.group.proofs.read.value.Statement.{statement}
@@ -21,10 +21,10 @@ shift : (n : ℕ) → n ≤ 56 → 1 * 2 ^ (n - 1) % 2 ^ 64 ≡ 2 ^ (n - 1)
 shift n h = shl-exact 1 (n - 1) 64 (lit< tt) (omega arith) ∙ one-mul (2 ^ (n - 1))
 
 module _ (first field slope i n : ℕ) (few : n ≤ 56) where
-  below : first + field + slope * i < 1 * 2 ^ (n - 1) % 2 ^ 64 → limit ≡ value first field slope i n
+  below : first + field + slope * i < 1 * 2 ^ (n - 1) % 2 ^ 64 → limit ≡ valueRead first field slope i n
   below h = sym (value-below first field slope i n (rw (shift n few) at h))
 
-  above : 1 * 2 ^ (n - 1) % 2 ^ 64 ≤ first + field + slope * i → first + field + slope * i - 1 * 2 ^ (n - 1) % 2 ^ 64 ≡ value first field slope i n
+  above : 1 * 2 ^ (n - 1) % 2 ^ 64 ≤ first + field + slope * i → first + field + slope * i - 1 * 2 ^ (n - 1) % 2 ^ 64 ≡ valueRead first field slope i n
   above h = rw (shift n few) (sym (value-above first field slope i n (rw (shift n few) at h)))
 
 add-sum : tie.Need-add-sum

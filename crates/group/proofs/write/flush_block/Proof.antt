@@ -11,10 +11,10 @@ use Rattle.serialize.specs.Digits.{leBytes}
 use Rattle.bitpacker.specs.declared.BitPacker.{BitPacker}
 use Rattle.bitpacker.specs.Bits.{bytesOf}
 use Rattle.bitpacker.specs.Fields.{groupVal, rangeBit, ordinalBit, groupBits}
-use Rattle.bitpacker.specs.Packer.{Waiting, leaving, after}
+use Rattle.bitpacker.specs.Packer.{Waiting, leaving, packedWith}
 use Rattle.bitpacker.proofs.Packed.{Packed, packed-length, packed-new, packed-wrote, packed-flushed, packed-room-write, packed-room-flush}
 use Rattle.bitpacker.proofs.Fields.{group-none, group-range, group-ordinal, group-bits-none, group-bits-ordinal, range-within, ordinal-within}
-use Rattle.slope.specs.Slope.{stored}
+use Rattle.slope.specs.Slope.{storedOf}
 use Rattle.group.specs.Blocks.{blockOf, blockAt, blocksAt}
 use Rattle.group.specs.Legal.{limit}
 use Rattle.group.specs.Write.{rangeValues, ordinalValues, fields, groupNumber, addrBytes}
@@ -33,7 +33,7 @@ abbrev Room : BitPacker → List ℕ → ℕ → ℕ → Type 0
 Room p l v w = Waiting p × (w ≤ 56) × (v < 2 ^ w) × (8 * p .written + p .filled + w ≤ 8 * length l)
 
 abbrev Wrote : BitPacker → List ℕ → ℕ → ℕ → BitPacker → List ℕ → Type 0
-Wrote p l v w p′ l′ = (p′ ≡ after p v w) × (l′ ≡ sets l (p .written) (leaving p v w))
+Wrote p l v w p′ l′ = (p′ ≡ packedWith p v w) × (l′ ≡ sets l (p .written) (leaving p v w))
 
 abbrev Flushed : BitPacker → List ℕ → ℕ → List ℕ → Type 0
 Flushed p l r l′ = (r ≡ p .written + bytesOf (p .filled)) × (l′ ≡ sets l (p .written) (leBytes (bytesOf (p .filled)) (p .buffer)))
@@ -66,7 +66,7 @@ record Turn (area : List ℕ) (p base s w i x : ℕ) : Type 0 where
   low : 1 ≤ w
   high : w ≤ 56
   shifted : s * i ≤ getD area p 0 - base + 2 ^ (w - 1)
-  is : stored s w i (getD area p 0 - base) ≡ x
+  is : storedOf s w i (getD area p 0 - base) ≡ x
   fits : x < 2 ^ w
 
 -- what `stored` requires, and what is known of its result
@@ -74,7 +74,7 @@ asked : {area : List ℕ} {p base s w i x : ℕ} → Turn area p base s w i x
     → (getD area p 0 - base < 2 ^ 62) × (i ≤ 65536) × (1 ≤ w) × (w ≤ 56) × (s * i ≤ getD area p 0 - base + 2 ^ (w - 1))
 asked t = (t .small, t .early, t .low, t .high, t .shifted)
 
-result : {area : List ℕ} {p base s w i x v : ℕ} → Turn area p base s w i x → v ≡ stored s w i (getD area p 0 - base) → (v ≡ x) × (v < 2 ^ w)
+result : {area : List ℕ} {p base s w i x v : ℕ} → Turn area p base s w i x → v ≡ storedOf s w i (getD area p 0 - base) → (v ≡ x) × (v < 2 ^ w)
 result t e = (e ∙ t .is, rw (e ∙ t .is) (t .fits))
 
 turn : (area : List ℕ) (p base s w i : ℕ) (vs : List ℕ) → Takes s w vs → 1 ≤ i → i ≤ length vs → i ≤ 256 → getD vs (i - 1) 0 ≡ getD area p 0 - base
@@ -197,28 +197,28 @@ module _ {m : BlockAddrBlockMetadata} {area : List ℕ} {stride first count : �
 
   module _ (i : ℕ) (there : i < count) {v : ℕ} {l : List ℕ} {p : BitPacker} where
     range-room : Before m area stride first count d l p i
-        → v ≡ stored (m .«range_start_slope») (m .«range_start_nbits») i (getD area (stride * (first + i)) 0 - m .«range_start»)
+        → v ≡ storedOf (m .«range_start_slope») (m .«range_start_nbits») i (getD area (stride * (first + i)) 0 - m .«range_start»)
         → Room p l v (m .«range_start_nbits»)
     range-room k e =
         packed-room-write (k .2) v (m .«range_start_nbits») (pre .1 .ranges .high) (result (range-turn (pre .0) (pre .1) i (k .0) there) e .1)
         (omega (arith, bits-fit, range-within (m .«range_start_nbits») (m .«first_ordinal_nbits») (i - 1) (count - 1) (omega arith)))
 
     range-done : {p′ : BitPacker} {l′ : List ℕ} → Before m area stride first count d l p i
-        → v ≡ stored (m .«range_start_slope») (m .«range_start_nbits») i (getD area (stride * (first + i)) 0 - m .«range_start»)
+        → v ≡ storedOf (m .«range_start_slope») (m .«range_start_nbits») i (getD area (stride * (first + i)) 0 - m .«range_start»)
         → Wrote p l v (m .«range_start_nbits») p′ l′ → Within m area stride first count d l′ p′ i
     range-done k e =
         range-wrote (m .«range_start_nbits») (m .«first_ordinal_nbits») (ranges area stride first count (m .«range_start_slope») (m .«range_start_nbits»))
         (ordinals area stride first count (m .«first_ordinal_slope») (m .«first_ordinal_nbits»)) (i - 1) v (k .2) (result (range-turn (pre .0) (pre .1) i (k .0) there) e)
 
     ordinal-room : 1 ≤ i → Within m area stride first count d l p i
-        → v ≡ stored (m .«first_ordinal_slope») (m .«first_ordinal_nbits») i (getD area (stride * (first + i) + 2) 0 - m .«first_ordinal»)
+        → v ≡ storedOf (m .«first_ordinal_slope») (m .«first_ordinal_nbits») i (getD area (stride * (first + i) + 2) 0 - m .«first_ordinal»)
         → Room p l v (m .«first_ordinal_nbits»)
     ordinal-room some k e =
         packed-room-write k v (m .«first_ordinal_nbits») (pre .1 .ordinals .high) (result (ordinal-turn (pre .0) (pre .1) i some there) e .1)
         (omega (arith, bits-fit, ordinal-within (m .«range_start_nbits») (m .«first_ordinal_nbits») (i - 1) (count - 1) (omega arith)))
 
     ordinal-done : {p′ : BitPacker} {l′ : List ℕ} → 1 ≤ i → Within m area stride first count d l p i
-        → v ≡ stored (m .«first_ordinal_slope») (m .«first_ordinal_nbits») i (getD area (stride * (first + i) + 2) 0 - m .«first_ordinal»)
+        → v ≡ storedOf (m .«first_ordinal_slope») (m .«first_ordinal_nbits») i (getD area (stride * (first + i) + 2) 0 - m .«first_ordinal»)
         → Wrote p l v (m .«first_ordinal_nbits») p′ l′ → Before m area stride first count d l′ p′ (i + 1)
     ordinal-done some k e w =
         let n : i + 1 - 1 ≡ suc (i - 1) = omega arith in (
@@ -231,14 +231,14 @@ module _ {m : BlockAddrBlockMetadata} {area : List ℕ} {stride first count : �
 
   module _ (i : ℕ) (left : count ≤ i) {v : ℕ} {l : List ℕ} {p : BitPacker} where
     last-room : Before m area stride first count d l p i
-        → v ≡ stored (m .«range_start_slope») (m .«range_start_nbits») count (getD area (stride * (first + count - 1) + 1) 0 - m .«range_start»)
+        → v ≡ storedOf (m .«range_start_slope») (m .«range_start_nbits») count (getD area (stride * (first + count - 1) + 1) 0 - m .«range_start»)
         → Room p l v (m .«range_start_nbits»)
     last-room k e =
         packed-room-write (k .2) v (m .«range_start_nbits») (pre .1 .ranges .high) (result (last-turn (pre .0) (pre .1)) e .1)
         (omega (arith, bits-fit, range-within (m .«range_start_nbits») (m .«first_ordinal_nbits») (i - 1) (count - 1) (omega arith)))
 
     last-done : {p′ : BitPacker} {l′ : List ℕ} → Before m area stride first count d l p i
-        → v ≡ stored (m .«range_start_slope») (m .«range_start_nbits») count (getD area (stride * (first + count - 1) + 1) 0 - m .«range_start»)
+        → v ≡ storedOf (m .«range_start_slope») (m .«range_start_nbits») count (getD area (stride * (first + count - 1) + 1) 0 - m .«range_start»)
         → Wrote p l v (m .«range_start_nbits») p′ l′ → Whole m area stride first count d l′ p′
     unfolding groupNumber
     last-done k e w =

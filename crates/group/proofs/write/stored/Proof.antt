@@ -5,7 +5,7 @@ use mathlib.Core.Path.{_≡_, _∙_}
 use native.Mathlib.Nat.{mul-le-mul, one-mul}
 use native.Mathlib.Omega.{arith}
 use lib.Pow.{pow-mono, shl-exact}
-use Rattle.slope.specs.Slope.{stored as storedOf}
+use Rattle.slope.specs.Slope.{storedOf}
 use Rattle.group.proofs.write.stored.Statement.{statement}
 use Rattle.group.proofs.write.stored.Tie as tie
 

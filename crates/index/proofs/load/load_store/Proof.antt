@@ -8,7 +8,7 @@ use native.Mathlib.Omega.{arith}
 use lib.ListN.{length}
 use Rattle.store.specs.Check.{storeNo}
 use Rattle.directory.proofs.Rules.{DirectoryOk}
-use Rattle.index.specs.Parts.{directoryPart, recordsPart, addrsPart, blocksIn}
+use Rattle.index.specs.Parts.{directoryPart, recordsPart, addrsPart, countIn}
 use Rattle.index.specs.Opening.{recordsBad, openNo}
 use Rattle.index.specs.declared.Loaded.the-variants.{Opened}
 use Rattle.index.proofs.OpeningRows.{FooterOk, footer-ok, directory-ok, count-front, records-ok, addrs-inside, metas-part, addrs-part, metas-enough, opened-is, open-records, open-store, open-refused, open-taken}
@@ -22,7 +22,7 @@ kept : (s : tie.Start) → DirectoryOk (directoryPart (s .args .«data» .now))
 kept s = directory-ok (s .args .«data» .now) (footer s) (s .pre .3)
 
 -- what is read is n
-count : (c : tie.After-deserialize-u32) → c .deserialize-u32 .result ≡ blocksIn (c .before .before .args .«data» .now)
+count : (c : tie.After-deserialize-u32) → c .deserialize-u32 .result ≡ countIn (c .before .before .args .«data» .now)
 count c =
     let s = c .before .before in
     c .deserialize-u32 .ensures ∙ count-front (s .args .«data» .now) (footer s) (s .pre .3)

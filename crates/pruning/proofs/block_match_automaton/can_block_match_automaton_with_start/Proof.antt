@@ -14,7 +14,7 @@ use Rattle.automaton.specs.Words.{Bytes}
 use Rattle.automaton.proofs.Exact.{when-true, when-false, exactly-map}
 use Rattle.automaton.proofs.Refusal.{part-rest}
 use Rattle.automaton.proofs.Strings.{bytes-of, can-match-exactly}
-use Rattle.pruning.specs.Interval.{After, Between}
+use Rattle.pruning.specs.Interval.{MatchAbove, MatchBetween}
 use Rattle.pruning.proofs.Intervals.{Parted, past, common-none, common-above, common-can, common-end, common-lower}
 use Rattle.pruning.proofs.block_match_automaton.can_block_match_automaton_with_start.Statement.{statement}
 use Rattle.pruning.proofs.block_match_automaton.can_block_match_automaton_with_start.Tie as tie
@@ -52,13 +52,13 @@ abbrev end-range : tie.Else4 → ℕ
 end-range c = getD (end-key c) (len c) 0
 
 -- what is left to look for there, and what the calls tell of its parts
-mid : (c : tie.Else4) → Between (table c) 0 (start-key c) (end-key c) ↔ Parted (table c) (base c) (start-range c) (end-range c) (drop (len c + 1) (start-key c)) (drop (len c + 1) (end-key c))
+mid : (c : tie.Else4) → MatchBetween (table c) 0 (start-key c) (end-key c) ↔ Parted (table c) (base c) (start-range c) (end-range c) (drop (len c + 1) (start-key c)) (drop (len c + 1) (end-key c))
 mid c =
     let w = within (c .before .before .before .before .before .before .before .before) in
     common-lower (table c) 0 (start-key c) (end-key c) (c .before .before .before .before .before .before .before .before .common-prefix-len .ensures) (bytes (c .before .before .before .before .before .before .before .before)) (c .before .before .before .before .before .before .accept-prefix .ensures .0)
     (omega arith) (omega arith) (omega (arith, c .before .shared-slice-known5 .given (len c))) (omega arith)
 
-above : (c : tie.After-match-range-start) → let d = c .before .before .before .before .before in Exactly (c .match-range-start .result) (After (table d) (next (table d) (base d) (start-range d)) (drop (len d + 1) (start-key d)))
+above : (c : tie.After-match-range-start) → let d = c .before .before .before .before .before in Exactly (c .match-range-start .result) (MatchAbove (table d) (next (table d) (base d) (start-range d)) (drop (len d + 1) (start-key d)))
 above c = let e = part-rest (start-key (c .before .before .before .before .before)) (len (c .before .before .before .before .before) + 1) in rw (c .before .accept .ensures .0, e) at (c .match-range-start .ensures)
 
 here : (c : tie.After-is-match) → let d = c .before .before .before .before .before .before .before .before in Exactly (c .is-match .result) (flag (table d) (next (table d) (base d) (end-range d)) ≡ 1)

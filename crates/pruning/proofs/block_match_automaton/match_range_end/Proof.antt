@@ -10,13 +10,13 @@ use Rattle.keys.specs.Order.{_≺_, _≼_}
 use Rattle.automaton.specs.Table.{states}
 use Rattle.automaton.proofs.Exact.{when-true, when-false}
 use Rattle.automaton.proofs.Strings.{word-any, can-match-exactly}
-use Rattle.pruning.specs.Interval.{Between}
+use Rattle.pruning.specs.Interval.{MatchBetween}
 use Rattle.pruning.proofs.Intervals.{past, upto-at, upto-end}
 use Rattle.pruning.proofs.block_match_automaton.match_range_end.Statement.{statement}
 use Rattle.pruning.proofs.block_match_automaton.match_range_end.Tie as tie
 
 abbrev Inv-loop : tie.InvT-loop
-Inv-loop table reach live end-key state at₀ i₀ at i = (at < states table) × (i ≤ length end-key) × (Between table state [] end-key ↔ Between table at [] (drop i end-key))
+Inv-loop table reach live end-key state at₀ i₀ at i = (at < states table) × (i ≤ length end-key) × (MatchBetween table state [] end-key ↔ MatchBetween table at [] (drop i end-key))
 
 abbrev μ-loop : tie.MeasureT-loop
 μ-loop table reach live end-key state at₀ i₀ at i = length end-key - i

@@ -9,13 +9,13 @@ use Rattle.keys.specs.Order.{_≺_}
 use Rattle.automaton.specs.Table.{states}
 use Rattle.automaton.proofs.Exact.{when-true, when-false, exactly-map}
 use Rattle.automaton.proofs.Strings.{word-any, can-match-exactly}
-use Rattle.pruning.specs.Interval.{After}
+use Rattle.pruning.specs.Interval.{MatchAbove}
 use Rattle.pruning.proofs.Intervals.{past, after-at, after-end}
 use Rattle.pruning.proofs.block_match_automaton.match_range_start.Statement.{statement}
 use Rattle.pruning.proofs.block_match_automaton.match_range_start.Tie as tie
 
 abbrev Inv-loop : tie.InvT-loop
-Inv-loop table reach live start-key state at₀ i₀ at i = (at < states table) × (i ≤ length start-key) × (After table state start-key ↔ After table at (drop i start-key))
+Inv-loop table reach live start-key state at₀ i₀ at i = (at < states table) × (i ≤ length start-key) × (MatchAbove table state start-key ↔ MatchAbove table at (drop i start-key))
 
 abbrev μ-loop : tie.MeasureT-loop
 μ-loop table reach live start-key state at₀ i₀ at i = length start-key - i

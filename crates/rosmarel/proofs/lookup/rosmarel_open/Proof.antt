@@ -3,7 +3,7 @@ use borrow.Author.Needs.{needs}
 use mathlib.Core.Path.{_≡_, _∙_, ap}
 use Rattle.index.specs.declared.Loaded.{Loaded}
 use Rattle.index.specs.Answers.{loadNo, loadOpened}
-use Rattle.rosmarel.specs.Words.{words}
+use Rattle.rosmarel.specs.Words.{openedWords}
 use Rattle.rosmarel.proofs.lookup.rosmarel_open.Statement.{statement}
 use Rattle.rosmarel.proofs.lookup.rosmarel_open.Tie as tie
 
@@ -22,12 +22,12 @@ enum-known-no c = search needs
 returns : tie.Need-returns
 returns c =
     let e = rw (c .before .before .«record» .given .1) at (c .before .before .before .before .load .ensures) in
-    (ap loadNo e, c .words .ensures ∙ ap (λ (l : Loaded). words (loadOpened l)) e)
+    (ap loadNo e, c .words .ensures ∙ ap (λ (l : Loaded). openedWords (loadOpened l)) e)
 
 returns-2 : tie.Need-returns-2
 returns-2 c =
     let e = rw (c .before .before .no .given .1) at (c .before .before .before .before .load .ensures) in
-    (ap loadNo e, ap (λ (l : Loaded). words (loadOpened l)) e)
+    (ap loadNo e, ap (λ (l : Loaded). openedWords (loadOpened l)) e)
 
 pub rosmarel-open-spec : {M : Type 1} → statement M
 rosmarel-open-spec =

@@ -12,7 +12,7 @@ use Rattle.group.specs.Blocks.{blockAt, blocksAt}
 use Rattle.group.specs.Write.{metaOf}
 use Rattle.group.specs.declared.BlockAddrBlockMetadata.{BlockAddrBlockMetadata}
 use Rattle.store.specs.Store.{groupCount, addrs}
-use Rattle.store.specs.Facts.{GroupLen, StoreArea}
+use Rattle.store.specs.Facts.{GroupLenOk, StoreArea}
 use Rattle.store.proofs.Groups.{group-area}
 use Rattle.store.proofs.Stored.{length-addrs-turn, addrs-none, planned-fits, planned-length, store-addrs-le}
 use Rattle.store.proofs.write.addr_len.Statement.{statement}
@@ -29,7 +29,7 @@ left-all : (area : List ℕ) (stride n L : ℕ) → 0 + left area stride n L 0 �
 left-all area stride n L = rw (sub-zero n) (zero-add (all area stride n L))
 
 -- one group
-module _ {area : List ℕ} {stride n L : ℕ} (store : StoreArea area stride n) (group : GroupLen L) (first count : ℕ) (is : count ≡ min L (n - first)) (more : first < n)
+module _ {area : List ℕ} {stride n L : ℕ} (store : StoreArea area stride n) (group : GroupLenOk L) (first count : ℕ) (is : count ≡ min L (n - first)) (more : first < n)
     {m : BlockAddrBlockMetadata} (planned : m ≡ metaOf bestSlope 0 (blockAt area stride first) (blocksAt area stride (first + 1) (count - 1))) where
   widths : (m .«range_start_nbits» ≤ 56) × (m .«first_ordinal_nbits» ≤ 56)
   widths =

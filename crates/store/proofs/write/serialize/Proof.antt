@@ -13,7 +13,7 @@ use Rattle.slope.proofs.Widths.{bestSlope-lt}
 use Rattle.group.specs.Blocks.{blocksAt}
 use Rattle.group.proofs.Blocks.{length-blocksAt}
 use Rattle.store.specs.Store.{groupCount, groupRecord, groupAddrs, records, addrs, storeBytes}
-use Rattle.store.specs.Facts.{GroupLen, StoreArea}
+use Rattle.store.specs.Facts.{GroupLenOk, StoreArea}
 use Rattle.store.proofs.Groups.{group-count-le, group-count-turn, group-area}
 use Rattle.store.proofs.Stored.{sets-turn, addrs-turn, length-addrs-turn, records-turn, addrs-none, records-none, length-record, length-records-area, length-store-area, sets-store-area, store-addrs-le}
 use Rattle.store.proofs.write.serialize.Statement.{statement}
@@ -51,7 +51,7 @@ left-all area stride n L out base e = record {
 }
 
 module _ {area : List ℕ} {stride n L : ℕ} {out₀ : List ℕ} {base : ℕ} {out : List ℕ} {meta-at offset first : ℕ}
-    (left : Left area stride n L out₀ base out meta-at offset first) (group : GroupLen L) where
+    (left : Left area stride n L out₀ base out meta-at offset first) (group : GroupLenOk L) where
   -- behind the last group
   left-none : n ≤ first → (base + offset ≡ length (storeBytes bestSlope L (blocksAt area stride 0 n)))
       × (out ≡ sets (sets out₀ 8 (records bestSlope L (groupCount L n) 0 (blocksAt area stride 0 n))) base (addrs bestSlope L (groupCount L n) (blocksAt area stride 0 n)))
@@ -102,7 +102,7 @@ module _ {area : List ℕ} {stride n L : ℕ} {out₀ : List ℕ} {base : ℕ} {
         }
 
 -- the length, then records and bits
-whole : {area : List ℕ} {stride n L : ℕ} → StoreArea area stride n → GroupLen L → (out out₀ l : List ℕ) (g : ℕ) → g ≡ groupCount L n → out₀ ≡ sets out 0 (leBytes 8 (36 * g))
+whole : {area : List ℕ} {stride n L : ℕ} → StoreArea area stride n → GroupLenOk L → (out out₀ l : List ℕ) (g : ℕ) → g ≡ groupCount L n → out₀ ≡ sets out 0 (leBytes 8 (36 * g))
     → l ≡ sets (sets out₀ 8 (records bestSlope L (groupCount L n) 0 (blocksAt area stride 0 n))) (8 + 36 * g) (addrs bestSlope L (groupCount L n) (blocksAt area stride 0 n))
     → l ≡ sets out 0 (storeBytes bestSlope L (blocksAt area stride 0 n))
 whole {area} {stride} {n} store group out out₀ l g e e₀ e′ = e′ ∙ rw (e₀, e) (sets-store-area bestSlope (group .some) area stride 0 n out)
