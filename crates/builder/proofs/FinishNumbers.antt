@@ -14,7 +14,7 @@ use Rattle.builder.proofs.IndexWritten.{index-none, directory-none}
 module _ (s : SSTableIndexBuilder) (B K : List ℕ) where
   module _ (out : List ℕ) where
     refused-step : (k j : ℕ) → (k ≡ 0 → ⊥) → _≡_ {A = Finish} (record { no = k; builder = s; out = out; total = 0; directory = 0 }) (finishStep (orElse k j) s B K out)
-    unfolding finishStep orElse
+    unfolding finishStep
     refused-step zero j h = absurd (h refl)
     refused-step (suc k) j h = refl
 
@@ -25,13 +25,13 @@ module _ (s : SSTableIndexBuilder) (B K : List ℕ) where
     module _ (listed : listNo s B K ≡ 0) where
       -- row 9
       pub finish-short : length out < length (areaIndex s B K) → _≡_ {A = Finish} (record { no = 9; builder = s; out = out; total = 0; directory = 0 }) (finishDef s B K out)
-      unfolding finishDef finishNo finishStep orElse
+      unfolding finishDef finishNo finishStep
       finish-short h = rw (listed, lt-ltb (length out) (length (areaIndex s B K)) h)
 
       pub finish-taken : (out′ : List ℕ) (total directory : ℕ) → length (areaIndex s B K) ≤ length out
           → out′ ≡ sets out 0 (areaIndex s B K) → total ≡ length (areaIndex s B K) → directory ≡ length (areaDirectory s B K)
           → _≡_ {A = Finish} (record { no = 0; builder = s; out = out′; total = total; directory = directory }) (finishDef s B K out)
-      unfolding finishDef finishNo finishStep orElse
+      unfolding finishDef finishNo finishStep
       finish-taken out′ total directory h e f g = rw (listed, le-ltb (length out) (length (areaIndex s B K)) h, e, f, g)
 
       -- with 0 or 1 blocks there is nothing to write

@@ -143,11 +143,11 @@ pub record Finishes (es : List Entry) (a : After) (out : List ℕ) : Type 0 wher
 
 module _ (es : List Entry) (a : After) (r : Rep es a) (ok : EntriesOk es) (out : List ℕ) where
   number-none : length es < 2 → finishNumber a out ≡ 0
-  unfolding finishNo orElse
+  unfolding finishNo
   number-none h = rw (rep-list es a r ok, rep-index es a r, lt-ltb (length es) 2 h, le-ltb (length out) 0 (omega arith))
 
   number-some : 2 ≤ length es → finishNumber a out ≡ cond (ltb (length out) (length (indexOf es))) 9 0
-  unfolding finishNo orElse
+  unfolding finishNo
   number-some h = rw (rep-list es a r ok, rep-index es a r, le-ltb (length es) 2 h)
 
   number : (TooShort es out × (finishNumber a out ≡ 9)) ⊎ ((TooShort es out → ⊥) × (finishNumber a out ≡ 0))

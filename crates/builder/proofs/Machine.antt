@@ -154,7 +154,6 @@ cond-not-one true k r h e = omega arith
 cond-not-one false k r h e = h e
 
 orElse-not-one : (j k : ℕ) → (j ≡ 1 → ⊥) → (k ≡ 1 → ⊥) → orElse j k ≡ 1 → ⊥
-unfolding orElse
 orElse-not-one zero k f g e = g e
 orElse-not-one (suc j) k f g e = f e
 

@@ -50,7 +50,6 @@ module _ (v : View) (key : List ℕ) (b : BlockAddr) where
         no-row t e h = simp (le-ltb 1024 (length key) short, numbers, join, ordinal, sym e ∙ h)
 
 orElse-first : (j k : ℕ) → (j ≡ 0 → ⊥) → orElse j k ≡ j
-unfolding orElse
 orElse-first zero k h = absurd (h refl)
 orElse-first (suc j) k h = refl
 
@@ -65,11 +64,11 @@ module _ (v : View) (key : List ℕ) (b : BlockAddr) where
     add-block h = rw (area, ← e) (sym (orElse-first k _ h))
 
     pub add-room : k ≡ 0 → roomBad v key ≡ true → 7 ≡ addNo v key b
-    unfolding addNo orElse
+    unfolding addNo
     add-room z f = simp (area, sym e ∙ z, f)
 
     pub add-none : k ≡ 0 → roomBad v key ≡ false → 0 ≡ addNo v key b
-    unfolding addNo orElse
+    unfolding addNo
     add-none z f = simp (area, sym e ∙ z, f)
 
 -- ---- no row is hit
@@ -79,7 +78,6 @@ cond-zero true k r e = absurd (omega arith)
 cond-zero false k r e = (refl, e)
 
 orElse-zero : (j k : ℕ) → orElse j k ≡ 0 → (j ≡ 0) × (k ≡ 0)
-unfolding orElse
 orElse-zero zero k e = (refl, e)
 orElse-zero (suc j) k e = absurd (omega arith)
 

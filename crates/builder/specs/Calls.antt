@@ -7,7 +7,7 @@ use lib.ListN.{length, set}
 use lib.Seq.{sets}
 use Rattle.keys.specs.Shorten.{shorten}
 use Rattle.group.specs.declared.BlockAddr.{BlockAddr}
-use Rattle.builder.specs.Area.{View, stride, areaKeyOffset, areaKey, viewOf}
+use Rattle.builder.specs.Area.{stride, areaKeyOffset, areaKey, viewOf}
 use Rattle.builder.specs.Rows.{addNo, shortenNo}
 use Rattle.builder.specs.declared.SSTableIndexBuilder.{SSTableIndexBuilder}
 use Rattle.builder.specs.declared.Answer.{Answer}

@@ -6,12 +6,11 @@ use lib.Dec.{eqb, ltb}
 use lib.ListN.{length}
 use lib.Seq.{sets}
 use Rattle.slope.specs.Slope.{bestSlope}
-use Rattle.group.specs.declared.BlockAddr.{BlockAddr}
 use Rattle.group.specs.Blocks.{blocksAt}
 use Rattle.group.specs.Rows.{orElse}
 use Rattle.directory.specs.Directory.{directoryBytes}
 use Rattle.directory.specs.Keys.{keysAt}
-use Rattle.builder.specs.Area.{View, stride, areaKeyOffset, areaBlock, areaKey, areaView, viewOf}
+use Rattle.builder.specs.Area.{stride, areaKeyOffset, areaBlock, areaKey, areaView, viewOf}
 use Rattle.builder.specs.Rows.{areaBad, blockNo}
 use Rattle.builder.specs.Plain.{Entry, blocksOf, separatorsOf}
 use Rattle.builder.specs.Index.{indexBytes}

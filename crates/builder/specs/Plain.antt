@@ -6,6 +6,7 @@ use mathlib.Core.List.{List, [], _∷_, map, reverse}
 use lib.ListN.{length}
 use Rattle.keys.specs.Shorten.{shorten}
 use Rattle.group.specs.declared.BlockAddr.{BlockAddr}
+use Rattle.group.specs.Blocks.{noBlock}
 use Rattle.builder.specs.Area.{View}
 use Rattle.builder.specs.Rows.{addNo, shortenNo}
 use Rattle.builder.specs.Calls.{After, addDef, shortenDef}
@@ -36,7 +37,7 @@ keyBytesTaken (e ∷ es) = keyBytesTaken es + length (e .key)
 unfoldable pub plainView : Rooms → List Entry → View
 plainView rooms [] = record {
   n = 0;
-  last = record { start = 0; end = 0; «first_ordinal» = 0 };
+  last = noBlock;
   lastKey = [];
   nextKey = 0;
   room = rooms .blocks;

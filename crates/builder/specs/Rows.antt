@@ -1,12 +1,12 @@
 -- Rows 1 to 7 of document 01's table, over what they look at.
-use Prim.Native.Nat.{ℕ, zero, suc, _+_, _*_, _≤_}
+use Prim.Native.Nat.{ℕ, _+_, _*_, _≤_}
 use mathlib.Core.List.{List}
 use mathlib.Core.Bool.{Bool, not, _&&_, _||_, cond}
 use lib.Dec.{eqb, ltb}
 use lib.ListN.{length}
 use Rattle.keys.specs.Order.{less}
 use Rattle.group.specs.declared.BlockAddr.{BlockAddr}
-use Rattle.group.specs.Rows.{numbersBad, joinBad, ordinalBad}
+use Rattle.group.specs.Rows.{numbersBad, joinBad, ordinalBad, orElse}
 use Rattle.builder.specs.Area.{View, stride}
 
 -- row 1: n > 65,536, 5 × n beyond the area, or last key ends beyond the key area
@@ -39,11 +39,6 @@ blockNo v key b =
     (cond (ltb 0 (v .n) && joinBad (v .last) b) 4
     (cond (ltb 0 (v .n) && ordinalBad (v .last) b) 5
     (cond (keyBad v key) 6 0))))
-
--- the first number that isn't 0
-unfoldable pub orElse : ℕ → ℕ → ℕ
-orElse zero k = k
-orElse (suc j) k = suc j
 
 -- the number that an add answers
 unfoldable pub addNo : View → List ℕ → BlockAddr → ℕ

@@ -27,10 +27,10 @@ use Rattle.listing.proofs.ListedOpened.{opened-passes, opened-inside, opened-se
 use Rattle.demands.specs.Demand3.{entryBlock, entrySeparator, GetBlockForAutomaton, Finds}
 use Rattle.demands.proofs.Same.{same-by-id, same-by-ord, same-by-key, same-addr-by-key}
 
-accepted-leaves : (t : List ℕ) (entrySeparator : ℕ → List ℕ) (n : ℕ) (marks written : List ℕ) (k count : ℕ) → k ≡ 0
-    → ListingLeaves t entrySeparator n marks written k count → Listing t entrySeparator n marks written count
-accepted-leaves t entrySeparator n marks written k count e (inl p) = p .1
-accepted-leaves t entrySeparator n marks written k count e (inr p) = absurd (let z : ⊥ = omega arith in z)
+accepted-leaves : (t : List ℕ) (separator : ℕ → List ℕ) (n : ℕ) (marks written : List ℕ) (k count : ℕ) → k ≡ 0
+    → ListingLeaves t separator n marks written k count → Listing t separator n marks written count
+accepted-leaves t separator n marks written k count e (inl p) = p .1
+accepted-leaves t separator n marks written k count e (inr p) = absurd (let z : ⊥ = omega arith in z)
 
 module _ (es : List Entry) (ok : EntriesOk es) (few : length es ≤ 65536) (two : 2 ≤ length es) where
   blocks-long : length (blocksOf es) ≡ length es

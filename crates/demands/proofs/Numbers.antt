@@ -17,7 +17,6 @@ cond-le true x y h g = h
 cond-le false x y h g = g
 
 else-le : (j k : ℕ) → j ≤ 7 → k ≤ 7 → orElse j k ≤ 7
-unfolding orElse
 else-le zero k h g = g
 else-le (suc j) k h g = h
 

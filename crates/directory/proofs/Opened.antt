@@ -10,10 +10,10 @@ use lib.Pow.{pow-pos}
 use lib.Seq.{length-take-le, take-length, take-add, drop-drop, drop-length, ext-getD}
 use Rattle.keys.specs.Order.{_≺_}
 use Rattle.keys.proofs.Order.{by-test}
-use Rattle.serialize.specs.Digits.{leBytes, Below}
+use Rattle.serialize.specs.Digits.{leBytes, numberAt, Below}
 use Rattle.serialize.proofs.Digits.{digits-ofDigits, below-drop}
 use Rattle.directory.specs.Directory.{pairs, keyBytes, directoryBytes}
-use Rattle.directory.specs.Read.{number, countOf, keyOffset, keyLength, keyOf, keysFrom, keysIn, keyBegin, directoryBad, keysBad, directoryNo, Sorted}
+use Rattle.directory.specs.Read.{countOf, keyOffset, keyLength, keyOf, keysFrom, keysIn, keyBegin, directoryBad, keysBad, directoryNo, Sorted}
 use Rattle.directory.proofs.Lengths.{Bounded, length-directoryBytes, length-keyBytes-suc}
 use Rattle.directory.proofs.ReadBack.{ReadsBack, reads-back}
 use Rattle.directory.proofs.Rules.{length-place, DirectoryOk, directory-kept, directory-keeps, is-inside, keys-inside, keys-keep, keys-kept}
@@ -126,7 +126,7 @@ below-take k (suc n) (x ∷ l) h zero = h 0
 below-take k (suc n) (x ∷ l) h (suc i) = below-take k n l (λ j. h (suc j)) i
 
 -- four bytes are those of their number
-number-bytes : (d : List ℕ) (at : ℕ) → Below 8 d → at + 4 ≤ length d → leBytes 4 (number d at) ≡ take 4 (drop at d)
+number-bytes : (d : List ℕ) (at : ℕ) → Below 8 d → at + 4 ≤ length d → leBytes 4 (numberAt d at 4) ≡ take 4 (drop at d)
 number-bytes d at below h =
     rw (length-take-le 4 (drop at d) (omega (arith, length-drop at d))) at (digits-ofDigits 8 (take 4 (drop at d)) (below-take 8 4 (drop at d) (below-drop 8 at d below)))
 

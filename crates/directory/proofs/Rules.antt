@@ -12,7 +12,8 @@ use borrow.Author.Tests.{lt-ltb, le-ltb, eq-eqb, ne-eqb, ltb-false, eqb-true, no
 use lib.ListN.{length, take, drop}
 use Rattle.keys.specs.Order.{less, _≺_}
 use Rattle.keys.proofs.Order.{by-test}
-use Rattle.directory.specs.Read.{number, countOf, keyOffset, keyLength, keyOf, keyBegin, pairsBad, directoryBad, keysBad, keyOutside}
+use Rattle.serialize.specs.Digits.{numberAt}
+use Rattle.directory.specs.Read.{countOf, keyOffset, keyLength, keyOf, keyBegin, pairsBad, directoryBad, keysBad, keyOutside}
 
 neither : (a b : Bool) → a || b ≡ false → (a ≡ false) × (b ≡ false)
 neither true b e = absurd (true≢false e)
@@ -38,20 +39,20 @@ module _ (bad : ℕ → Bool) (step : (m : ℕ) → bad m ≡ true → bad (suc 
 
 module _ (d : List ℕ) (n i : ℕ) where
   -- the code's place of a length is the definition's
-  pub length-place : number d (4 + 8 * i + 4) ≡ keyLength d i
-  length-place = let e : 4 + 8 * i + 4 ≡ 8 + 8 * i = omega arith in ap (number d) e
+  pub length-place : numberAt d (4 + 8 * i + 4) 4 ≡ keyLength d i
+  length-place = let e : 4 + 8 * i + 4 ≡ 8 + 8 * i = omega arith in ap (λ (k : ℕ). numberAt d k 4) e
 
   pub outside-pair : length d < 4 + 8 * i + 8 → keyOutside d n i ≡ true
   unfolding keyOutside
   outside-pair h = or-true (ltb (length d) (12 + 8 * i)) _ (lt-ltb (length d) (12 + 8 * i) (omega arith))
 
-  pub outside-key : 4 + 8 * i + 8 ≤ length d → (offset len : ℕ) → offset ≡ keyOffset d i → len ≡ number d (4 + 8 * i + 4)
+  pub outside-key : 4 + 8 * i + 8 ≤ length d → (offset len : ℕ) → offset ≡ keyOffset d i → len ≡ numberAt d (4 + 8 * i + 4) 4
       → ltb (length d) (4 + 8 * n + offset + len) ≡ keyOutside d n i
   unfolding keyOutside
   outside-key h offset len o l = rw (o, l, length-place, le-ltb (length d) (12 + 8 * i) (omega arith))
 
   -- the code's part is the definition's key
-  pub key-part : (offset len : ℕ) → offset ≡ keyOffset d i → len ≡ number d (4 + 8 * i + 4)
+  pub key-part : (offset len : ℕ) → offset ≡ keyOffset d i → len ≡ numberAt d (4 + 8 * i + 4) 4
       → take (4 + 8 * n + offset + len - (4 + 8 * n + offset)) (drop (4 + 8 * n + offset) d) ≡ keyOf d n i
   key-part offset len o l = rw (add-sub-cancel-left (4 + 8 * n + offset) len, o, l, length-place)
 
@@ -81,7 +82,7 @@ module _ (d : List ℕ) where
 
   -- pair m's own rule, where those before it keep theirs
   module _ (m offset len begin : ℕ) (good : pairsBad d m ≡ false)
-      (o : offset ≡ keyOffset d m) (l : len ≡ number d (4 + 8 * m + 4)) (b : begin ≡ keyBegin d m) where
+      (o : offset ≡ keyOffset d m) (l : len ≡ numberAt d (4 + 8 * m + 4) 4) (b : begin ≡ keyBegin d m) where
     pub offset-bad : (offset ≡ begin → ⊥) → pairsBad d (m + 1) ≡ true
     unfolding pairsBad
     offset-bad h =
@@ -128,7 +129,7 @@ module _ (d : List ℕ) where
   pairs-good zero ok = unfold pairsBad in refl
   pairs-good (suc n) ok =
       let before = pairs-good n (record { offsets = λ i h. ok .offsets i (omega arith); short = λ i h. ok .short i (omega arith) }) in
-      rw (add-one n) at (pair-good n (keyOffset d n) (number d (4 + 8 * n + 4)) (keyBegin d n) before refl refl refl (ok .offsets n (omega arith))
+      rw (add-one n) at (pair-good n (keyOffset d n) (numberAt d (4 + 8 * n + 4) 4) (keyBegin d n) before refl refl refl (ok .offsets n (omega arith))
       (omega (arith, length-place d 0 n, ok .short n (omega arith))))
 
   -- keys begin one behind the other
@@ -186,13 +187,13 @@ module _ (d : List ℕ) where
   directory-refused h = by-test (directoryBad d) (λ e. sym e) (λ e. absurd (h (directory-kept e)))
 
   -- the last pair's sum is where the keys end
-  last-sum : (n : ℕ) → 1 ≤ n → number d (4 + 8 * n - 8) + number d (4 + 8 * n - 8 + 4) ≡ keyBegin d n
+  last-sum : (n : ℕ) → 1 ≤ n → numberAt d (4 + 8 * n - 8) 4 + numberAt d (4 + 8 * n - 8 + 4) 4 ≡ keyBegin d n
   unfolding keyBegin
   last-sum zero h = absurd (let z : ⊥ = omega arith in z)
   last-sum (suc m) h = let e : 4 + 8 * suc m - 8 ≡ 4 + 8 * m = omega arith in rw (e, length-place d 0 m) refl
 
   -- the last test as the code makes it
-  pub last-tested : (n a b : ℕ) → n ≡ countOf d → a ≡ number d (4 + 8 * n - 8) → b ≡ number d (4 + 8 * n - 8 + 4)
+  pub last-tested : (n a b : ℕ) → n ≡ countOf d → a ≡ numberAt d (4 + 8 * n - 8) 4 → b ≡ numberAt d (4 + 8 * n - 8 + 4) 4
       → 2 ≤ n → n ≤ 65536 → 4 + 8 * n ≤ length d → pairsBad d n ≡ false → not (eqb (length d) (4 + 8 * n + (a + b))) ≡ directoryBad d
   last-tested n a b e p q two few fits good =
       rw (p, q, last-sum n (omega arith), e)

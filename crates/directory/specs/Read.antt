@@ -1,28 +1,24 @@
 -- A directory read from a file (document 01, rows 12, 13, 19 and 20). d is the directory's bytes, or more bytes that begin with them.
-use Prim.Native.Nat.{ℕ, zero, suc, _+_, _-_, _*_, _≤_, _<_}
+use Prim.Native.Nat.{ℕ, zero, suc, _+_, _-_, _*_, _<_}
 use mathlib.Core.Path.{_≡_}
 use mathlib.Core.List.{List, [], _∷_}
-use mathlib.Core.Bool.{Bool, true, false, not, _||_, cond}
+use mathlib.Core.Bool.{Bool, false, not, _||_, cond}
 use lib.Dec.{eqb, ltb}
 use lib.ListN.{length, take, drop}
-use Rattle.serialize.specs.Digits.{leVal}
+use Rattle.serialize.specs.Digits.{numberAt}
 use Rattle.keys.specs.Order.{less, _≺_, _≼_}
 use Rattle.directory.specs.declared.read.Found.{Found}
 use Rattle.directory.specs.declared.read.Found.the-variants.{At, Above, Outside}
 
--- the number of the four bytes from `at` on
-abbrev pub number : List ℕ → ℕ → ℕ
-number d at = leVal (take 4 (drop at d))
-
 -- n, and the pair of key i
 abbrev pub countOf : List ℕ → ℕ
-countOf d = number d 0
+countOf d = numberAt d 0 4
 
 abbrev pub keyOffset : List ℕ → ℕ → ℕ
-keyOffset d i = number d (4 + 8 * i)
+keyOffset d i = numberAt d (4 + 8 * i) 4
 
 abbrev pub keyLength : List ℕ → ℕ → ℕ
-keyLength d i = number d (8 + 8 * i)
+keyLength d i = numberAt d (8 + 8 * i) 4
 
 -- key i of n
 abbrev pub keyOf : List ℕ → ℕ → ℕ → List ℕ

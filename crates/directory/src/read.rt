@@ -3,7 +3,8 @@ ghost use mathlib.Core.Path.{_≡_};
 ghost use mathlib.Core.Bool.{false};
 ghost use Prim.Native.Nat.{_+_, _*_, _^_, _≤_, _<_};
 ghost use lib.ListN.{length, take, drop};
-ghost use Rattle.directory.specs.Read.{number as numberAt, countOf, keyOffset, keyLength, keyOf, pairsBad, directoryBad, keysBad, directoryNo, keyOutside, Sorted, FoundIn, FoundAs};
+ghost use Rattle.serialize.specs.Digits.{numberAt};
+ghost use Rattle.directory.specs.Read.{countOf, keyOffset, keyLength, keyOf, pairsBad, directoryBad, keysBad, directoryNo, keyOutside, Sorted, FoundIn, FoundAs};
 
 const PAIR_LEN: usize = 8;
 
@@ -21,7 +22,7 @@ pub enum Found {
 // The number of four bytes.
 fn number(directory: &[u8], at: usize) -> usize
     requires { ⌜ at + 4 ≤ length (now directory) ⌝ }
-    ensures { λ r. ⌜ (r ≡ numberAt (now (directory .entry)) at) × (r < 2 ^ 32) ⌝ }
+    ensures { λ r. ⌜ (r ≡ numberAt (now (directory .entry)) at 4) × (r < 2 ^ 32) ⌝ }
 {
     serialize::deserialize_u32(directory, at) as usize
 }

@@ -1,2 +1,2 @@
-pub mod Distance
 pub mod Example
+pub mod Distance

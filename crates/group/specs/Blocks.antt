@@ -4,9 +4,13 @@ use mathlib.Core.List.{List, [], _∷_}
 use lib.ListN.{getD}
 use Rattle.group.specs.declared.BlockAddr.{BlockAddr}
 
--- block i of a list; all zeros behind its end
+-- all zeros, which stands where there is no block
+abbrev pub noBlock : BlockAddr
+noBlock = record { start = 0; end = 0; «first_ordinal» = 0 }
+
+-- block i of a list
 abbrev pub blockOf : List BlockAddr → ℕ → BlockAddr
-blockOf bs i = getD bs i (record { start = 0; end = 0; «first_ordinal» = 0 })
+blockOf bs i = getD bs i noBlock
 
 -- block i of an area with `stride` numbers a block, of which these three come first
 abbrev pub blockAt : List ℕ → ℕ → ℕ → BlockAddr

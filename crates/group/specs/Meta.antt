@@ -2,8 +2,7 @@
 -- ordinal slope 4, ordinal width 1, range width 1, blocks minus one 2.
 use Prim.Native.Nat.{ℕ, _+_}
 use mathlib.Core.List.{List, _++_}
-use lib.ListN.{take, drop}
-use Rattle.serialize.specs.Digits.{leVal, leBytes}
+use Rattle.serialize.specs.Digits.{leBytes, numberAt}
 use Rattle.group.specs.declared.BlockAddrBlockMetadata.{BlockAddrBlockMetadata}
 
 -- the 36 bytes of a group record
@@ -13,19 +12,15 @@ metaBytes m =
     ++ leBytes 4 (m .«range_start_slope») ++ leBytes 4 (m .«first_ordinal_slope»)
     ++ leBytes 1 (m .«first_ordinal_nbits») ++ leBytes 1 (m .«range_start_nbits») ++ leBytes 2 (m .«block_len»)
 
--- the number of the w bytes from `at` on
-abbrev pub number : List ℕ → ℕ → ℕ → ℕ
-number bytes at w = leVal (take w (drop at bytes))
-
 -- the group record that stands at `at`
 unfoldable pub metaAt : List ℕ → ℕ → BlockAddrBlockMetadata
 metaAt bytes at = record {
-  offset = number bytes at 8;
-  «range_start» = number bytes (at + 8) 8;
-  «first_ordinal» = number bytes (at + 16) 8;
-  «range_start_slope» = number bytes (at + 24) 4;
-  «first_ordinal_slope» = number bytes (at + 28) 4;
-  «first_ordinal_nbits» = number bytes (at + 32) 1;
-  «range_start_nbits» = number bytes (at + 33) 1;
-  «block_len» = number bytes (at + 34) 2;
+  offset = numberAt bytes at 8;
+  «range_start» = numberAt bytes (at + 8) 8;
+  «first_ordinal» = numberAt bytes (at + 16) 8;
+  «range_start_slope» = numberAt bytes (at + 24) 4;
+  «first_ordinal_slope» = numberAt bytes (at + 28) 4;
+  «first_ordinal_nbits» = numberAt bytes (at + 32) 1;
+  «range_start_nbits» = numberAt bytes (at + 33) 1;
+  «block_len» = numberAt bytes (at + 34) 2;
 }

@@ -1,17 +1,18 @@
 -- A group read (document 01, "Opening and lookups", rows 15 and 16): its rule, and the values in its bits.
-use Prim.Native.Nat.{ℕ, zero, suc, _+_, _-_, _*_, _/_, _%_, _^_, _≤_, _<_}
+use Prim.Native.Nat.{ℕ, zero, suc, _+_, _-_, _*_, _/_, _%_, _^_}
 use mathlib.Core.Bool.{Bool, not, _||_, cond}
-use lib.Dec.{eqb, ltb, leb}
+use lib.Dec.{eqb, ltb}
 use Rattle.bitpacker.specs.Bits.{bytesOf}
 use Rattle.bitpacker.specs.Fields.{rangeBit, ordinalBit, groupBits}
 use Rattle.group.specs.Legal.{limit}
 use Rattle.group.specs.declared.BlockAddr.{BlockAddr}
 use Rattle.group.specs.declared.BlockAddrBlockMetadata.{BlockAddrBlockMetadata}
 
--- row 15 for a group that has `count` blocks, in a store with `len` address bytes: width outside 1..56, wrong block count, or fields beyond the address bytes
+-- a width outside 1..56
 unfoldable pub widthBad : ℕ → Bool
 widthBad w = ltb w 1 || ltb 56 w
 
+-- row 15 for a group that has `count` blocks, in a store with `len` address bytes: a bad width, wrong block count, or fields beyond the address bytes
 unfoldable pub groupBad : BlockAddrBlockMetadata → ℕ → ℕ → Bool
 groupBad m count len =
     widthBad (m .«first_ordinal_nbits») || widthBad (m .«range_start_nbits»)

@@ -1,4 +1,5 @@
--- Rows 3, 4 and 5 of document 01's table, as tests.
+-- Rows 3, 4 and 5 of document 01's table, as tests, and the order of rows: the first hit decides.
+use Prim.Native.Nat.{ℕ, zero, suc}
 use mathlib.Core.Bool.{Bool, not, _||_}
 use lib.Dec.{eqb, ltb, leb}
 use Rattle.group.specs.Legal.{limit}
@@ -15,3 +16,8 @@ joinBad before b = not (eqb (b .start) (before .end))
 -- row 5: not above the ordinal before
 unfoldable pub ordinalBad : BlockAddr → BlockAddr → Bool
 ordinalBad before b = leb (b .«first_ordinal») (before .«first_ordinal»)
+
+-- a row that was hit, else those behind it; 0 where none is hit
+abbrev pub orElse : ℕ → ℕ → ℕ
+orElse zero later = later
+orElse (suc k) later = suc k

@@ -1,5 +1,5 @@
 -- A group's bits (document 01, "Slopes and bits"), from its record and its blocks.
-use Prim.Native.Nat.{ℕ, suc, _+_, _-_}
+use Prim.Native.Nat.{ℕ, suc, _-_}
 use mathlib.Core.List.{List, [], _∷_}
 use lib.ListN.{length}
 use Rattle.serialize.specs.Digits.{leBytes}

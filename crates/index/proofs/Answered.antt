@@ -26,9 +26,9 @@ use Rattle.directory.proofs.read.Found as found
 use Rattle.index.specs.declared.SSTableIndexV3.{SSTableIndexV3}
 use Rattle.index.specs.Parts.{recordsPart, addrsPart, directoryPart, countIn, blockIn, separatorIn}
 use Rattle.index.specs.Opening.{Opens}
-use Rattle.index.specs.Lookups.{openedBad, OpenedFits, directoryAt, metasAt, addrsAt, Refuses}
+use Rattle.index.specs.Lookups.{openedBad, OpenedFits, directoryAt, Refuses}
 use Rattle.index.proofs.Fits.{bad-unfit}
-use Rattle.index.proofs.OpenFacts.{OpenFacts, opens-facts}
+use Rattle.index.proofs.OpenFacts.{metasAt, addrsAt, OpenFacts, opens-facts}
 
 -- a record that row 20 refuses comes from no opening of the bytes
 pub bad-unopened : (L : ℕ) (f : List ℕ) (opened : SSTableIndexV3) → GroupLenOk L → openedBad L opened (length f) ≡ true → Opens L f opened → ⊥

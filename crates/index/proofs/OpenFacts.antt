@@ -7,7 +7,7 @@ use Prim.Native.Nat.{ℕ, zero, suc, _+_, _-_, _*_, _≤_}
 use native.Mathlib.Nat.{eq-zero-or-pos}
 use native.Mathlib.Omega.{arith}
 use lib.Dec.{eqb, ltb}
-use lib.ListN.{length}
+use lib.ListN.{length, take, drop}
 use borrow.Author.Tests.{ltb-false, eqb-true, eqb-false, not-false}
 use Rattle.group.specs.Rows.{orElse}
 use Rattle.store.specs.Store.{groupCount}
@@ -22,7 +22,14 @@ use Rattle.index.specs.declared.SSTableIndexV3.{SSTableIndexV3}
 use Rattle.index.specs.declared.Loaded.the-variants.{Opened}
 use Rattle.index.specs.Parts.{directoryLen, directoryPart, storeLen, recordsLen, recordsPart, addrsPart, countIn}
 use Rattle.index.specs.Opening.{footerNo, recordsBad, openNo, openedOf, openStep, openDef, Opens}
-use Rattle.index.specs.Lookups.{directoryAt, metasAt, addrsAt, OpenedFits}
+use Rattle.index.specs.Lookups.{directoryAt, OpenedFits}
+
+-- the group records and the address bytes that a record names
+abbrev pub metasAt : SSTableIndexV3 → List ℕ → List ℕ
+metasAt opened f = take (opened .«metas_len») (drop (opened .metas) f)
+
+abbrev pub addrsAt : SSTableIndexV3 → List ℕ → List ℕ
+addrsAt opened f = take (opened .«addrs_len») (drop (opened .addrs) f)
 
 pub record OpenFacts (L : ℕ) (f : List ℕ) (opened : SSTableIndexV3) : Type 0 where
   pub group : GroupLenOk L

@@ -1,8 +1,9 @@
 -- Document 01's number and values for each answer; a refusal has all else zero.
 use Prim.Native.Nat.{ℕ}
-use mathlib.Core.List.{List, []}
+use mathlib.Core.List.{List}
 use lib.ListN.{take, drop}
 use Rattle.group.specs.declared.BlockAddr.{BlockAddr}
+use Rattle.group.specs.Blocks.{noBlock}
 use Rattle.index.specs.declared.SSTableIndexV3.{SSTableIndexV3}
 use Rattle.index.specs.declared.Loaded.{Loaded}
 use Rattle.index.specs.declared.Loaded.the-variants.{Opened, Refused as NotLoaded}
@@ -15,9 +16,7 @@ use Rattle.index.specs.declared.LocatedId.the-variants.{Id, Refused as N
 use Rattle.index.specs.declared.Place.{Place}
 use Rattle.index.specs.declared.Place.the-variants.{Part, Missing}
 
-abbrev pub noBlock : BlockAddr
-noBlock = record { start = 0; end = 0; «first_ordinal» = 0 }
-
+-- the record of an opening that is refused
 abbrev pub noIndex : SSTableIndexV3
 noIndex = record { n = 0; directory = 0; «directory_len» = 0; metas = 0; «metas_len» = 0; addrs = 0; «addrs_len» = 0 }
 

@@ -1,5 +1,5 @@
 -- The lookups (document 01, rows 17 to 20). What 01 leaves free is held to `..Allowed`, what it fixes to `..Exact`.
-use Prim.Native.Nat.{ℕ, suc, _+_, _*_, _≤_, _<_}
+use Prim.Native.Nat.{ℕ, _+_, _*_, _≤_, _<_}
 use mathlib.Core.Path.{_≡_}
 use mathlib.Core.List.{List}
 use mathlib.Core.Logic.{_⊎_}
@@ -25,16 +25,6 @@ openedBad L opened len =
     || (ltb len (opened .metas + opened .«metas_len»)
     || (ltb len (opened .addrs + opened .«addrs_len») || ltb (opened .«metas_len») (36 * groupCount L (opened .n))))))
 
--- the parts of f that a record names
-abbrev pub directoryAt : SSTableIndexV3 → List ℕ → List ℕ
-directoryAt opened f = take (opened .«directory_len») (drop (opened .directory) f)
-
-abbrev pub metasAt : SSTableIndexV3 → List ℕ → List ℕ
-metasAt opened f = take (opened .«metas_len») (drop (opened .metas) f)
-
-abbrev pub addrsAt : SSTableIndexV3 → List ℕ → List ℕ
-addrsAt opened f = take (opened .«addrs_len») (drop (opened .addrs) f)
-
 -- a record that doesn't hit it, in numbers
 pub record OpenedFits (L : ℕ) (opened : SSTableIndexV3) (len : ℕ) : Type 0 where
   pub some : 1 ≤ opened .n
@@ -43,6 +33,10 @@ pub record OpenedFits (L : ℕ) (opened : SSTableIndexV3) (len : ℕ) : Type 0 w
   pub metas : opened .metas + opened .«metas_len» ≤ len
   pub addrs : opened .addrs + opened .«addrs_len» ≤ len
   pub records : 36 * groupCount L (opened .n) ≤ opened .«metas_len»
+
+-- the directory that a record names
+abbrev pub directoryAt : SSTableIndexV3 → List ℕ → List ℕ
+directoryAt opened f = take (opened .«directory_len») (drop (opened .directory) f)
 
 -- a refusal: the call's own row, or 20
 abbrev pub Refuses : ℕ → ℕ → Type 0

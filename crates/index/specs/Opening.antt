@@ -5,6 +5,7 @@ use mathlib.Core.List.{List}
 use mathlib.Core.Bool.{Bool, not, _||_, cond}
 use lib.Dec.{eqb, ltb}
 use lib.ListN.{length}
+use Rattle.group.specs.Rows.{orElse}
 use Rattle.store.specs.Store.{groupCount}
 use Rattle.store.specs.Check.{storeNo}
 use Rattle.directory.specs.Read.{directoryNo}
@@ -20,11 +21,6 @@ footerNo f = cond (ltb (length f) 8) 10 (cond (eqb (directoryLen f) 0) 11 (cond 
 -- row 14: records' length not 36 × groups, or beyond the store
 unfoldable pub recordsBad : ℕ → List ℕ → Bool
 recordsBad L f = not (eqb (recordsLen f) (36 * groupCount L (countIn f))) || ltb (storeLen f) (8 + recordsLen f)
-
--- a row that was hit, else those behind it
-abbrev pub orElse : ℕ → ℕ → ℕ
-orElse zero later = later
-orElse (suc k) later = suc k
 
 -- the rows in their order; 0 where none is hit
 unfoldable pub openNo : ℕ → List ℕ → ℕ

@@ -1,15 +1,15 @@
 -- The parts of an index f (document 01, "Records"): directory, store, directory length 8. L is the group's length.
-use Prim.Native.Nat.{ℕ, _+_, _-_, _*_}
+use Prim.Native.Nat.{ℕ, _+_, _-_}
 use mathlib.Core.List.{List}
 use lib.ListN.{length, take, drop}
-use Rattle.serialize.specs.Digits.{leVal}
+use Rattle.serialize.specs.Digits.{numberAt}
 use Rattle.group.specs.declared.BlockAddr.{BlockAddr}
 use Rattle.store.specs.Read.{storeBlock}
 use Rattle.directory.specs.Read.{countOf, keyOf}
 
 -- the directory's length, in the last 8 bytes
 abbrev pub directoryLen : List ℕ → ℕ
-directoryLen f = leVal (take 8 (drop (length f - 8) f))
+directoryLen f = numberAt f (length f - 8) 8
 
 abbrev pub directoryPart : List ℕ → List ℕ
 directoryPart f = take (directoryLen f) f
@@ -20,7 +20,7 @@ storeLen f = length f - 8 - directoryLen f
 
 -- the length of all group records, in the store's first 8 bytes
 abbrev pub recordsLen : List ℕ → ℕ
-recordsLen f = leVal (take 8 (drop (directoryLen f) f))
+recordsLen f = numberAt f (directoryLen f) 8
 
 abbrev pub recordsPart : List ℕ → List ℕ
 recordsPart f = take (recordsLen f) (drop (directoryLen f + 8) f)

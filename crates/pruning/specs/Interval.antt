@@ -1,6 +1,6 @@
 -- The interval (start, end] of a block's keys (document 01, "Pruning"); start is absent for block 0, which lets the empty string in.
 use Prim.Native.Nat.{ℕ}
-use mathlib.Core.List.{List, []}
+use mathlib.Core.List.{List}
 use mathlib.Core.Bool.{Bool, true, false}
 use mathlib.Core.Option.{Option, none, some}
 use Rattle.keys.specs.Order.{_≺_, _≼_}

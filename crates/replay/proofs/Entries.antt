@@ -12,16 +12,16 @@ use Rattle.keys.proofs.Order.{by-test}
 use Rattle.serialize.proofs.Stores.{sets-part}
 use Rattle.directory.specs.Directory.{directoryBytes}
 use Rattle.builder.specs.Calls.{After}
-use Rattle.builder.specs.Plain.{Entry, plainNumbers, separatorsOf, runNumbers, runEnd}
+use Rattle.builder.specs.Plain.{Entry, roomsOf, plainNumbers, separatorsOf, runNumbers, runEnd}
 use Rattle.builder.specs.Finish.{Finish, indexOf, finishStep, finishDef}
 use Rattle.builder.proofs.Machine.{run-fresh}
 use Rattle.builder.proofs.Finishing.{finished, Finishes, finish-fresh}
 use Rattle.replay.specs.Format.{calls}
-use Rattle.replay.specs.Made.{freshOf, roomsIn, entriesOf, entriesIndex, entriesDirectory, isShort, finishCells, finishOut}
+use Rattle.replay.specs.Made.{freshOf, entriesOf, entriesIndex, entriesDirectory, isShort, finishCells, finishOut}
 use Rattle.replay.specs.Steps.{finishedCells}
 
 -- each call's number is the plain machine's
-pub numbers-plain : (s B K : List ℕ) → runNumbers (calls s) (freshOf B K) ≡ plainNumbers (roomsIn B K) (calls s) []
+pub numbers-plain : (s B K : List ℕ) → runNumbers (calls s) (freshOf B K) ≡ plainNumbers (roomsOf (freshOf B K)) (calls s) []
 numbers-plain s B K = run-fresh (calls s) (freshOf B K) refl .numbers
 
 -- the bytes that a finish gives to be opened: the index, or none where it is refused

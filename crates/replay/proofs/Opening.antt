@@ -28,9 +28,9 @@ use Rattle.replay.specs.Asked.{Indexed, Given}
 use Rattle.replay.proofs.Entries.{given, some-index, none-index}
 
 -- an id that is found is one of the entries', and theirs are found
-missing-id : (entryBlock : ℕ → BlockAddr) (n id : ℕ) → ByIdExact entryBlock n id 17 noBlock → n ≤ id
-missing-id entryBlock n id (inl p) = absurd (let z : ⊥ = omega (arith, p .0) in z)
-missing-id entryBlock n id (inr p) = p .1
+missing-id : (block : ℕ → BlockAddr) (n id : ℕ) → ByIdExact block n id 17 noBlock → n ≤ id
+missing-id block n id (inl p) = absurd (let z : ⊥ = omega (arith, p .0) in z)
+missing-id block n id (inr p) = p .1
 
 module _ (es : List Entry) (ok : EntriesOk es) (few : length es ≤ 65536) (two : 2 ≤ length es) where
   abbrev opened : SSTableIndexV3

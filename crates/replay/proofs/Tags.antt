@@ -3,10 +3,11 @@ use Prim.Native.Nat.{ℕ, _+_}
 use mathlib.Core.Path.{_≡_}
 use mathlib.Core.List.{List}
 use borrow.Author.Tests.{ne-eqb}
-use Rattle.replay.specs.Format.{byId, byOrdinal, byKey, addressByKey, separatorOf, markOf, tagAt, numberAt, stringAt, questionAt}
+use Rattle.serialize.specs.Digits.{numberAt}
+use Rattle.replay.specs.Format.{byId, byOrdinal, byKey, addressByKey, separatorOf, markOf, tagAt, stringAt, questionAt}
 
 module _ (s : List ℕ) (at : ℕ) where
-  module _ (n : ℕ) (e : n ≡ numberAt s 8 (at + 1)) where
+  module _ (n : ℕ) (e : n ≡ numberAt s (at + 1) 8) where
     pub asks-id : tagAt s at ≡ 2 → questionAt s at ≡ byId n
     unfolding questionAt
     asks-id t = rw (e, t)

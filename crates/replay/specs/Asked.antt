@@ -8,7 +8,7 @@ use Rattle.builder.specs.Plain.{Entry}
 use Rattle.automaton.specs.Table.{tableNo}
 use Rattle.index.specs.declared.SSTableIndexV3.{SSTableIndexV3}
 use Rattle.index.specs.declared.Loaded.{Loaded}
-use Rattle.index.specs.declared.Loaded.the-variants.{Opened as Index, Refused}
+use Rattle.index.specs.declared.Loaded.the-variants.{Opened, Refused}
 use Rattle.index.specs.declared.Place.the-variants.{Missing}
 use Rattle.index.specs.Lookups.{placeDef}
 use Rattle.listing.specs.Listing.{listingNo}
@@ -27,7 +27,7 @@ pub record Indexed (es : List Entry) (f : List ℕ) (opened : SSTableIndexV3) : 
 
 -- an opening of f with number k
 abbrev pub Given : ℕ → List Entry → List ℕ → Loaded → Type 0
-Given k es f (Index opened) = (k ≡ 0) × Indexed es f opened
+Given k es f (Opened opened) = (k ≡ 0) × Indexed es f opened
 Given k es f (Refused j) = (k ≡ j) × (0 < k)
 
 -- questions answered from answer i on

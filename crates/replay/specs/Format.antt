@@ -9,7 +9,8 @@ use mathlib.Core.List.{List, [], _∷_}
 use mathlib.Core.Bool.{Bool, not, _||_, cond}
 use lib.Dec.{eqb, ltb, leb}
 use lib.ListN.{length, getD, take, drop}
-use Rattle.serialize.specs.Digits.{leVal}
+use Rattle.serialize.specs.Digits.{numberAt}
+use Rattle.group.specs.declared.BlockAddr.{BlockAddr}
 use Rattle.builder.specs.Plain.{Call, add, shortenLast}
 
 -- what is asked of the finished index
@@ -24,12 +25,8 @@ pub data Question : Type 0 where
 abbrev pub tagAt : List ℕ → ℕ → ℕ
 tagAt s at = getD s at 0
 
--- the number of the w bytes from `at` on
-abbrev pub numberAt : List ℕ → ℕ → ℕ → ℕ
-numberAt s w at = leVal (take w (drop at s))
-
 abbrev pub stringLen : List ℕ → ℕ → ℕ
-stringLen s at = numberAt s 4 at
+stringLen s at = numberAt s at 4
 
 abbrev pub stringAt : List ℕ → ℕ → List ℕ
 stringAt s at = take (stringLen s at) (drop (at + 4) s)
@@ -45,10 +42,14 @@ callLen s at =
     (cond (eqb (tagAt s at) 0) (within s at (29 + stringLen s (at + 25)))
     (cond (eqb (tagAt s at) 1) (within s at (5 + stringLen s (at + 1))) 0))
 
+-- the block of the add at `at`
+abbrev pub addedBlock : List ℕ → ℕ → BlockAddr
+addedBlock s at = record { start = numberAt s (at + 1) 8; end = numberAt s (at + 9) 8; «first_ordinal» = numberAt s (at + 17) 8 }
+
 unfoldable pub callAt : List ℕ → ℕ → Call
 callAt s at =
     cond (eqb (tagAt s at) 0)
-    (add (stringAt s (at + 25)) (record { start = numberAt s 8 (at + 1); end = numberAt s 8 (at + 9); «first_ordinal» = numberAt s 8 (at + 17) }))
+    (add (stringAt s (at + 25)) (addedBlock s at))
     (shortenLast (stringAt s (at + 1)))
 
 -- how many bytes the question at `at` takes; 0 where there is none
@@ -61,12 +62,12 @@ questionLen s at =
 
 unfoldable pub questionAt : List ℕ → ℕ → Question
 questionAt s at =
-    cond (eqb (tagAt s at) 2) (byId (numberAt s 8 (at + 1)))
-    (cond (eqb (tagAt s at) 3) (byOrdinal (numberAt s 8 (at + 1)))
+    cond (eqb (tagAt s at) 2) (byId (numberAt s (at + 1) 8))
+    (cond (eqb (tagAt s at) 3) (byOrdinal (numberAt s (at + 1) 8))
     (cond (eqb (tagAt s at) 4) (byKey (stringAt s (at + 1)))
     (cond (eqb (tagAt s at) 5) (addressByKey (stringAt s (at + 1)))
-    (cond (eqb (tagAt s at) 6) (separatorOf (numberAt s 8 (at + 1)))
-    (markOf (numberAt s 8 (at + 1)) (stringAt s (at + 9)))))))
+    (cond (eqb (tagAt s at) 6) (separatorOf (numberAt s (at + 1) 8))
+    (markOf (numberAt s (at + 1) 8) (stringAt s (at + 9)))))))
 
 -- behind k items from `at` on, whose lengths are given by their places; 0 where one of them isn't there
 unfoldable pub behind : (ℕ → ℕ) → ℕ → ℕ → ℕ
@@ -80,7 +81,7 @@ items len item at (suc k) = item at ∷ items len item (at + len at) k
 
 -- how many calls and questions, where the questions begin and where they end
 abbrev pub callCount : List ℕ → ℕ
-callCount s = numberAt s 4 0
+callCount s = numberAt s 0 4
 
 abbrev pub questionCount : List ℕ → ℕ
 questionCount s = numberAt s 4 4

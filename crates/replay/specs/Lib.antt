@@ -1,5 +1,5 @@
 pub mod Format
 pub mod Made
-pub mod Steps
 pub mod Replay
+pub mod Steps
 pub mod Asked

@@ -3,15 +3,13 @@ use Prim.Native.Nat.{ℕ}
 use mathlib.Core.List.{List, [], _∷_, _++_}
 use mathlib.Core.Bool.{Bool, _||_, cond}
 use lib.Dec.{ltb}
-use lib.ListN.{length, getD}
+use lib.ListN.{length}
 use lib.Seq.{sets}
-use Rattle.slope.specs.Slope.{bestSlope}
-use Rattle.group.specs.declared.BlockAddr.{BlockAddr}
-use Rattle.group.specs.Blocks.{blockOf}
 use Rattle.directory.specs.Directory.{directoryBytes}
 use Rattle.builder.specs.Calls.{After}
-use Rattle.builder.specs.Plain.{Entry, Rooms, plainEnd, blocksOf, separatorsOf}
-use Rattle.builder.specs.Index.{indexBytes}
+use Rattle.builder.specs.Plain.{Entry, separatorsOf}
+use Rattle.builder.specs.Finish.{indexOf}
+use Rattle.demands.specs.Demand3.{entries}
 use Rattle.replay.specs.Format.{calls}
 
 -- an answer is five numbers
@@ -27,22 +25,12 @@ callCells (k ∷ ks) = cells k 0 0 0 0 ++ callCells ks
 abbrev pub freshOf : List ℕ → List ℕ → After
 freshOf B K = record { no = 0; builder = record { n = 0 }; blocks = B; keys = K }
 
-abbrev pub roomsIn : List ℕ → List ℕ → Rooms
-roomsIn B K = record { blocks = length B; keys = length K }
-
 abbrev pub entriesOf : List ℕ → List ℕ → List ℕ → List Entry
-entriesOf s B K = plainEnd (roomsIn B K) (calls s) []
-
--- block i and separator i of entries
-abbrev pub entryBlock : List Entry → ℕ → BlockAddr
-entryBlock es i = blockOf (blocksOf es) i
-
-abbrev pub entryKey : List Entry → ℕ → List ℕ
-entryKey es i = getD (separatorsOf es) i []
+entriesOf s B K = entries (calls s) (freshOf B K)
 
 -- the index of entries and its directory; there is none of 0 or 1
 unfoldable pub entriesIndex : List Entry → List ℕ
-entriesIndex es = cond (ltb (length es) 2) [] (indexBytes bestSlope 128 (blocksOf es) (separatorsOf es))
+entriesIndex es = cond (ltb (length es) 2) [] (indexOf es)
 
 unfoldable pub entriesDirectory : List Entry → List ℕ
 entriesDirectory es = cond (ltb (length es) 2) [] (directoryBytes (separatorsOf es))

@@ -8,13 +8,13 @@ use lib.Dec.{ltb}
 use lib.ListN.{length, getD, take, drop}
 use lib.Seq.{sets}
 use Rattle.group.specs.declared.BlockAddr.{BlockAddr}
-use Rattle.builder.specs.Plain.{Entry, plainNumbers, runEnd}
+use Rattle.builder.specs.Plain.{Entry, roomsOf, plainNumbers, runEnd}
 use Rattle.automaton.specs.Table.{tableNo}
 use Rattle.index.specs.Lookups.{ByIdExact, ByOrdExact, ByKeyExact, AddrByKeyExact}
 use Rattle.listing.specs.Marks.{Marks, ones}
 use Rattle.demands.specs.Demand3.{entryBlock, entrySeparator}
 use Rattle.replay.specs.Format.{Question, byId, byOrdinal, byKey, addressByKey, separatorOf, markOf, calls, questions, callCount, questionCount, listBad}
-use Rattle.replay.specs.Made.{cells, callCells, freshOf, roomsIn, entriesOf, entriesIndex, finishCells, finishOut, openNumber}
+use Rattle.replay.specs.Made.{cells, callCells, freshOf, entriesOf, entriesIndex, finishCells, finishOut, openNumber}
 
 -- by id: entry i's start, end and ordinal, or 17
 pub record IdAnswer (es : List Entry) (id : ℕ) (cs : List ℕ) : Type 0 where
@@ -89,5 +89,5 @@ pub record Replayed (s B K out answers B′ K′ out′ answers′ : List ℕ) :
   pub answered : Answered (openNumber (entriesOf s B K) out) (entriesOf s B K) (questions s) asked
   pub written : answers′
       ≡ sets answers 0
-      (callCells (plainNumbers (roomsIn B K) (calls s) [])
+      (callCells (plainNumbers (roomsOf (freshOf B K)) (calls s) [])
       ++ (finishCells (entriesOf s B K) out ++ (cells (openNumber (entriesOf s B K) out) 0 0 0 0 ++ asked)))

@@ -1,10 +1,8 @@
--- What the code's own records stand for, and the block that an add of a list gives.
-use Prim.Native.Nat.{ℕ, _+_}
+-- What the code's own records stand for.
+use Prim.Native.Nat.{ℕ}
 use mathlib.Core.List.{List}
-use Rattle.group.specs.declared.BlockAddr.{BlockAddr}
 use Rattle.builder.specs.Calls.{After}
 use Rattle.builder.specs.Finish.{Finish}
-use Rattle.replay.specs.Format.{numberAt}
 use Rattle.replay.specs.Made.{cells}
 use Rattle.replay.specs.declared.cells.Cells.{Cells}
 use Rattle.replay.specs.declared.calls.Called.{Called}
@@ -16,10 +14,6 @@ cellsOf x = cells (x .no) (x .a) (x .b) (x .c) (x .d)
 -- a call's number and builder, with the areas as it left them
 abbrev pub leaves : Called → List ℕ → List ℕ → After
 leaves c B K = record { no = c .no; builder = c .builder; blocks = B; keys = K }
-
--- the block of the add at `at`
-abbrev pub blockIn : List ℕ → ℕ → BlockAddr
-blockIn s at = record { start = numberAt s 8 (at + 1); end = numberAt s 8 (at + 9); «first_ordinal» = numberAt s 8 (at + 17) }
 
 -- a finish as its number, total and directory length
 abbrev pub finishedCells : Finish → List ℕ

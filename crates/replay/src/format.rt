@@ -4,7 +4,8 @@ ghost use mathlib.Core.Bool.{cond, _||_};
 ghost use Prim.Native.Nat.{_+_, _^_, _≤_, _<_};
 ghost use lib.Dec.{eqb};
 ghost use lib.ListN.{length};
-ghost use Rattle.replay.specs.Format.{numberAt, stringLen, stringAt, within, callLen, questionLen, behind, callCount, questionCount, listBad};
+ghost use Rattle.serialize.specs.Digits.{numberAt};
+ghost use Rattle.replay.specs.Format.{stringLen, stringAt, within, callLen, questionLen, behind, callCount, questionCount, listBad};
 
 pub const ADD: u8 = 0;
 
@@ -28,7 +29,7 @@ pub const COUNTS_LEN: usize = 8;
 // The number of the eight bytes from `at` on.
 pub fn number(list: &[u8], at: usize) -> u64
     requires { ⌜ at + 8 ≤ length (now list) ⌝ }
-    ensures { λ r. ⌜ r ≡ numberAt (now (list .entry)) 8 at ⌝ }
+    ensures { λ r. ⌜ r ≡ numberAt (now (list .entry)) at 8 ⌝ }
 {
     serialize::deserialize_u64(list, at)
 }
@@ -36,7 +37,7 @@ pub fn number(list: &[u8], at: usize) -> u64
 // The number of the four bytes from `at` on.
 fn small_number(list: &[u8], at: usize) -> usize
     requires { ⌜ at + 4 ≤ length (now list) ⌝ }
-    ensures { λ r. ⌜ (r ≡ numberAt (now (list .entry)) 4 at) × (r < 2 ^ 32) ⌝ }
+    ensures { λ r. ⌜ (r ≡ numberAt (now (list .entry)) at 4) × (r < 2 ^ 32) ⌝ }
 {
     serialize::deserialize_u32(list, at) as usize
 }

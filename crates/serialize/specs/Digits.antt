@@ -1,7 +1,7 @@
 -- Numbers and their digits of k bits, the lowest digit first. Bytes are digits of 8 bits: document 01's "numbers in files are little-endian".
 use Prim.Native.Nat.{ℕ, zero, suc, _+_, _*_, _/_, _%_, _^_, _<_}
 use mathlib.Core.List.{List, [], _∷_}
-use lib.ListN.{getD}
+use lib.ListN.{getD, take, drop}
 
 -- the number whose digits of k bits are ds
 unfoldable pub ofDigits : ℕ → List ℕ → ℕ
@@ -20,6 +20,10 @@ Below k ds = (i : ℕ) → getD ds i 0 < 2 ^ k
 -- the number that bytes spell
 abbrev pub leVal : List ℕ → ℕ
 leVal bytes = ofDigits 8 bytes
+
+-- the number of the w bytes from `at` on
+abbrev pub numberAt : List ℕ → ℕ → ℕ → ℕ
+numberAt bytes at w = leVal (take w (drop at bytes))
 
 -- the w bytes of v
 abbrev pub leBytes : ℕ → ℕ → List ℕ

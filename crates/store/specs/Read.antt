@@ -1,9 +1,9 @@
 -- Block i of a store, read from its group records and its address bytes (document 01, "Opening and lookups").
-use Prim.Native.Nat.{ℕ, suc, _+_, _-_, _*_, _/_, _%_, _≤_, _<_, min}
+use Prim.Native.Nat.{ℕ, _-_, _*_, _/_, _%_, _≤_, _<_, min}
 use mathlib.Core.Path.{_≡_}
 use mathlib.Core.List.{List}
 use mathlib.Core.Bool.{Bool, false, _||_, cond}
-use lib.Dec.{ltb, leb}
+use lib.Dec.{leb}
 use lib.ListN.{length, drop}
 use Rattle.serialize.specs.Digits.{leVal}
 use Rattle.group.specs.declared.BlockAddr.{BlockAddr}

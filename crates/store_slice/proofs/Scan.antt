@@ -11,7 +11,12 @@ use Rattle.group.specs.Blocks.{blockOf}
 use Rattle.group.specs.Rows.{numbersBad, joinBad, ordinalBad}
 use Rattle.store_slice.specs.declared.rows.Seen.{Seen}
 use Rattle.store_slice.specs.Slice.{anyBad, pairBad, recordsNo}
-use Rattle.store_slice.specs.Records.{seenWith, seenAll, seenNone, seenNo}
+use Rattle.store_slice.specs.Records.{seenWith, seenNone, seenNo}
+
+-- all of them, one after the other
+unfoldable pub seenAll : Seen → List BlockAddr → Seen
+seenAll s [] = s
+seenAll s (b ∷ bs) = seenAll (seenWith s b) bs
 
 seen-numbers : (s : Seen) (bs : List BlockAddr) → seenAll s bs .«numbers_bad» ≡ (s .«numbers_bad» || anyBad numbersBad bs)
 unfolding seenAll seenWith anyBad

@@ -4,6 +4,7 @@ use mathlib.Core.List.{List, [], _∷_}
 use mathlib.Core.Bool.{true, false, _||_, _&&_, cond}
 use lib.Dec.{ltb}
 use Rattle.group.specs.declared.BlockAddr.{BlockAddr}
+use Rattle.group.specs.Blocks.{noBlock}
 use Rattle.group.specs.Rows.{numbersBad, joinBad, ordinalBad}
 use Rattle.store_slice.specs.declared.rows.Seen.{Seen}
 
@@ -17,15 +18,11 @@ seenWith s b = record {
   «ordinal_bad» = s .«ordinal_bad» || (s .some && ordinalBad (s .last) b);
 }
 
-unfoldable pub seenAll : Seen → List BlockAddr → Seen
-seenAll s [] = s
-seenAll s (b ∷ bs) = seenAll (seenWith s b) bs
-
 -- before the first
 abbrev pub seenNone : Seen
 seenNone = record {
   some = false;
-  last = record { start = 0; end = 0; «first_ordinal» = 0 };
+  last = noBlock;
   «numbers_bad» = false;
   «join_bad» = false;
   «ordinal_bad» = false;

@@ -54,8 +54,8 @@ use Rattle.group.proofs.BlockAddr as B
 use Rattle.group.proofs.BlockAddr.Laws as B′
 use Rattle.store_slice.specs.declared.rows.Seen.{Seen}
 use Rattle.store_slice.specs.Slice.{recordsNo}
-use Rattle.store_slice.specs.Records.{seenWith, seenAll, seenNone, seenNo}
-use Rattle.store_slice.proofs.Scan.{seen-next, seen-last, seen-no}
+use Rattle.store_slice.specs.Records.{seenWith, seenNone, seenNo}
+use Rattle.store_slice.proofs.Scan.{seenAll, seen-next, seen-last, seen-no}
 use Rattle.store_slice.proofs.rows.Seen as S
 use Rattle.store_slice.proofs.rows.Seen.Laws as S′
 use Rattle.store_slice.proofs.rows.Seen.none as none
