@@ -1,14 +1,14 @@
 -- What the writers leave: parts one behind the other at the front of the output are the line, which is at most 2,103 bytes long.
-use mathlib.Core.Path.{_≡_, sym, _∙_}
+use mathlib.Core.Path.{_≡_, _∙_}
 use mathlib.Core.List.{List, [], _∷_, _++_, append-assoc}
 use Prim.Native.Nat.{ℕ, _+_, _-_, _≤_, _<_}
 use native.Mathlib.Nat.{zero-add, add-zero}
 use native.Mathlib.Numerals.{add-one}
 use native.Mathlib.Omega.{arith}
 use lib.ListN.{length, take, drop, set, length-append, length-drop}
-use lib.Seq.{sets, sets-eq, length-sets, length-take-le, take-length}
+use lib.Seq.{sets, length-sets, length-take-le}
 use borrow.Rule.Slice.PartMut.{putMid}
-use Rattle.serialize.proofs.Stores.{sets-append, sets-in-part}
+use Rattle.serialize.proofs.Stores.{sets-append, sets-in-part, copied}
 use Rattle.group.specs.declared.BlockAddr.{BlockAddr}
 use Rattle.group.specs.Legal.{limit, NumbersOk}
 use Rattle.block_lines.specs.Lines.{decimal, separatorText, lineOf}
@@ -19,9 +19,9 @@ pub put-copied : (out w y : List ℕ) (at : ℕ) → at + length w ≤ length ou
     → y ≡ take (length w) w ++ drop (length w) (take (length out - at) (drop at out)) → putMid at (length out - at) out y ≡ sets out at w
 put-copied out w y at h e =
     let part : List ℕ = take (length out - at) (drop at out) in
-    let room : 0 + length w ≤ length part
+    let room : length w ≤ length part
     = omega (arith, length-take-le (length out - at) (drop at out) (omega (arith, length-drop at out))) in
-    let front : y ≡ sets part 0 w = e ∙ sym (sets-eq w part 0 room ∙ rw (zero-add (length w), take-length w)) in
+    let front : y ≡ sets part 0 w = e ∙ copied part w room in
     rw front (sets-in-part out w at 0 ∙ rw (add-zero at))
 
 -- a sign, and a text behind it

@@ -7,7 +7,7 @@ use mathlib.Core.Bool.{false, cond}
 use native.Mathlib.Nat.{zero-add}
 use native.Mathlib.Omega.{arith}
 use lib.Dec.{eqb, ltb}
-use lib.ListN.{length, getD, take, length-reverse, length-map}
+use lib.ListN.{length, getD, take}
 use lib.Seq.{ext-getD, sets}
 use borrow.Author.Tests.{eqb-true, eqb-false, eq-eqb, lt-ltb, le-ltb, ltb-true, ltb-false}
 use Rattle.keys.specs.Order.{_≺_}
@@ -33,12 +33,9 @@ use Rattle.builder.proofs.Entries.{Rep, rep-view}
 use Rattle.builder.proofs.Machine.{never-one}
 use Rattle.builder.proofs.Rules.{EntriesOk, run-rules}
 use Rattle.builder.proofs.IndexBytes.{index-inj}
-use Rattle.builder.proofs.Indexed.{held-block, held-key, keys-touch, blocks-keep, entries-legal, separators-short, separators-rise}
+use Rattle.builder.proofs.Indexed.{length-oldest, held-block, held-key, keys-touch, blocks-keep, entries-legal, separators-short, separators-rise}
 
 -- ---- the entries' index
-
-pub length-oldest : {X : Type 0} (f : Entry → X) (es : List Entry) → length (reverse (map f es)) ≡ length es
-length-oldest f es = length-reverse (map f es) ∙ length-map es f
 
 -- blocks and separators are such as an index is read back from
 module _ (es : List Entry) (ok : EntriesOk es) where

@@ -21,15 +21,15 @@ use Rattle.builder.proofs.Rules.{EntryOk, Behind, EntriesOk, none, firs
 
 -- ---- entries oldest first
 
-module _ {X : Type 0} (f : Entry → X) (e : Entry) (es : List Entry) (d : X) where
-  older-length : length (reverse (map f es)) ≡ length es
-  older-length = length-reverse (map f es) ∙ length-map es f
+pub length-oldest : {X : Type 0} (f : Entry → X) (es : List Entry) → length (reverse (map f es)) ≡ length es
+length-oldest f es = length-reverse (map f es) ∙ length-map es f
 
+module _ {X : Type 0} (f : Entry → X) (e : Entry) (es : List Entry) (d : X) where
   newest : getD (reverse (map f (e ∷ es))) (length es) d ≡ f e
-  newest = rw (reverse-cons (f e) (map f es)) (getD-at (reverse (map f es)) (f e) [] d (length es) older-length)
+  newest = rw (reverse-cons (f e) (map f es)) (getD-at (reverse (map f es)) (f e) [] d (length es) (length-oldest f es))
 
   older : (i : ℕ) → i < length es → getD (reverse (map f (e ∷ es))) i d ≡ getD (reverse (map f es)) i d
-  older i h = rw (reverse-cons (f e) (map f es)) (List·getD-append (reverse (map f es)) (f e ∷ []) d i (omega (arith, older-length)))
+  older i h = rw (reverse-cons (f e) (map f es)) (List·getD-append (reverse (map f es)) (f e ∷ []) d i (omega (arith, length-oldest f es)))
 
 -- a claim on each index, from the newest entry and those before it
 each : (e : Entry) (es : List Entry) (P : ℕ → Type 0) → P (length es) → ((i : ℕ) → i < length es → P i) → (i : ℕ) → i < length (e ∷ es) → P i

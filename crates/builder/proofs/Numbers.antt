@@ -8,16 +8,18 @@ use lib.Dec.{eqb, ltb}
 use lib.ListN.{length}
 use lib.Seq.{sets}
 use borrow.Author.Tests.{eqb-false, ltb-false, lt-ltb, le-ltb, not-false}
+use Rattle.serialize.proofs.Tests.{neither}
 use Rattle.keys.specs.Order.{less, _≺_}
 use Rattle.group.specs.declared.BlockAddr.{BlockAddr}
 use Rattle.group.specs.Legal.{NumbersOk, Follows}
 use Rattle.group.specs.Rows.{numbersBad, joinBad, ordinalBad, orElse}
 use Rattle.group.proofs.Legal as legal
+use Rattle.group.proofs.RowOrder.{orElse-first, orElse-zero}
 use Rattle.builder.specs.declared.SSTableIndexBuilder.{SSTableIndexBuilder}
 use Rattle.builder.specs.Area.{View, stride, viewOf}
 use Rattle.builder.specs.Rows.{areaBad, AreaOk, keyLong, keyBad, roomBad, blockNo, addNo, shortenNo}
 use Rattle.builder.specs.Calls.{After, addStep, addDef, shortBlocks, shortKeys, shortenStep, shortenDef}
-use Rattle.builder.proofs.Views.{or-false, area-ok}
+use Rattle.builder.proofs.Views.{area-ok}
 
 -- ---- the first row that is hit
 
@@ -49,10 +51,6 @@ module _ (v : View) (key : List ℕ) (b : BlockAddr) where
         unfolding blockNo keyLong
         no-row t e h = simp (le-ltb 1024 (length key) short, numbers, join, ordinal, sym e ∙ h)
 
-orElse-first : (j k : ℕ) → (j ≡ 0 → ⊥) → orElse j k ≡ j
-orElse-first zero k h = absurd (h refl)
-orElse-first (suc j) k h = refl
-
 module _ (v : View) (key : List ℕ) (b : BlockAddr) where
   pub add-area : areaBad v ≡ true → 1 ≡ addNo v key b
   unfolding addNo
@@ -76,10 +74,6 @@ module _ (v : View) (key : List ℕ) (b : BlockAddr) where
 cond-zero : (t : Bool) (k r : ℕ) → cond t (suc k) r ≡ 0 → (t ≡ false) × (r ≡ 0)
 cond-zero true k r e = absurd (omega arith)
 cond-zero false k r e = (refl, e)
-
-orElse-zero : (j k : ℕ) → orElse j k ≡ 0 → (j ≡ 0) × (k ≡ 0)
-orElse-zero zero k e = (refl, e)
-orElse-zero (suc j) k e = absurd (omega arith)
 
 -- a row that asks only behind a block
 behind : (n : ℕ) (t : Bool) → (ltb 0 n && t) ≡ false → (n ≡ 0 → ⊥) → t ≡ false
@@ -148,8 +142,8 @@ pub record RoomOk (v : View) (key : List ℕ) : Type 0 where
 pub room-ok : (v : View) (key : List ℕ) → roomBad v key ≡ false → RoomOk v key
 unfolding roomBad
 room-ok v key e =
-    let p = or-false (eqb (v .n) 65536) (ltb (v .room) (stride * v .n + stride) || ltb (v .keyRoom) (v .nextKey + length key)) e in
-    let q = or-false (ltb (v .room) (stride * v .n + stride)) (ltb (v .keyRoom) (v .nextKey + length key)) (p .1) in
+    let p = neither (eqb (v .n) 65536) (ltb (v .room) (stride * v .n + stride) || ltb (v .keyRoom) (v .nextKey + length key)) e in
+    let q = neither (ltb (v .room) (stride * v .n + stride)) (ltb (v .keyRoom) (v .nextKey + length key)) (p .1) in
     record {
       few = eqb-false (v .n) 65536 (p .0);
       five = ltb-false (v .room) (stride * v .n + stride) (q .0);

@@ -8,6 +8,7 @@ use native.Mathlib.Omega.{arith}
 use lib.Dec.{eqb}
 use lib.ListN.{length, length-take, length-drop}
 use borrow.Author.Tests.{eqb-true, eqb-false, eq-eqb, ne-eqb, not-false}
+use Rattle.serialize.proofs.Tests.{neither}
 use Rattle.keys.proofs.Order.{by-test}
 use Rattle.group.specs.Legal.{Follows}
 use Rattle.directory.specs.Facts.{KeysArea}
@@ -17,7 +18,7 @@ use Rattle.builder.specs.Rows.{areaBad, AreaOk, blockNo}
 use Rattle.builder.specs.Finish.{offsetsBad, rulesBad, listNo}
 use Rattle.builder.specs.declared.SSTableIndexBuilder.{SSTableIndexBuilder}
 use Rattle.builder.proofs.Numbers.{BlockOk, block-ok}
-use Rattle.builder.proofs.Views.{or-false, area-ok, next-none, next-some, last-some}
+use Rattle.builder.proofs.Views.{area-ok, next-none, next-some, last-some}
 
 -- ---- a test of every block
 
@@ -138,7 +139,7 @@ list-ok b B K e =
     (λ t. by-test (offsetsBad (b .n) B K || rulesBad (b .n) B K)
     (λ u. absurd (let z : _≡_ {A = ℕ} 8 0 = simp (t, u) at e in omega arith))
     (λ u.
-    let p = or-false (offsetsBad (b .n) B K) (rulesBad (b .n) B K) u in
+    let p = neither (offsetsBad (b .n) B K) (rulesBad (b .n) B K) u in
     record { area = area-ok (viewOf b B K) t; offsets = p .0; rules = p .1 }))
 
 module _ (b : SSTableIndexBuilder) (B K : List ℕ) where

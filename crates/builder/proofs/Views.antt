@@ -7,20 +7,16 @@ use native.Mathlib.Omega.{arith}
 use lib.Dec.{ltb}
 use lib.ListN.{length}
 use borrow.Author.Tests.{eq-eqb, ne-eqb, lt-ltb, le-ltb, ltb-true, ltb-false}
+use Rattle.serialize.proofs.Tests.{neither}
 use Rattle.keys.proofs.Order.{by-test}
 use Rattle.builder.specs.Area.{View, stride, areaKeyOffset, areaKeyLen, areaBlock, areaKey, areaView}
 use Rattle.builder.specs.Rows.{areaBad, AreaOk, roomBad}
 
--- neither of two tests
-pub or-false : (a b : Bool) → (a || b) ≡ false → (a ≡ false) × (b ≡ false)
-or-false true b e = (e, cc)
-or-false false b e = (refl, e)
-
 pub area-ok : (v : View) → areaBad v ≡ false → AreaOk v
 unfolding areaBad
 area-ok v e =
-    let p = or-false (ltb 65536 (v .n)) (ltb (v .room) (stride * v .n) || ltb (v .keyRoom) (v .nextKey)) e in
-    let q = or-false (ltb (v .room) (stride * v .n)) (ltb (v .keyRoom) (v .nextKey)) (p .1) in
+    let p = neither (ltb 65536 (v .n)) (ltb (v .room) (stride * v .n) || ltb (v .keyRoom) (v .nextKey)) e in
+    let q = neither (ltb (v .room) (stride * v .n)) (ltb (v .keyRoom) (v .nextKey)) (p .1) in
     record {
       few = ltb-false 65536 (v .n) (p .0);
       inside = ltb-false (v .room) (stride * v .n) (q .0);

@@ -6,12 +6,11 @@ use Prim.Native.Nat.{ℕ, zero, suc, _+_, _*_, _≤_, _<_}
 use native.Mathlib.Nat.{add-zero, add-suc, suc-add, zero-add, le-refl, le-of-suc-le-suc, not-suc-le-zero}
 use native.Mathlib.Omega.{arith}
 use lib.ListN.{length, getD, take, drop, length-drop, take-append-drop}
-use lib.Pow.{pow-pos}
 use lib.Seq.{length-take-le, take-length, take-add, drop-drop, drop-length, ext-getD}
 use Rattle.keys.specs.Order.{_≺_}
 use Rattle.keys.proofs.Order.{by-test}
-use Rattle.serialize.specs.Digits.{leBytes, numberAt, Below}
-use Rattle.serialize.proofs.Digits.{digits-ofDigits, below-drop}
+use Rattle.serialize.specs.Digits.{leBytes, Below}
+use Rattle.serialize.proofs.Numbers.{number-bytes}
 use Rattle.directory.specs.Directory.{pairs, keyBytes, directoryBytes}
 use Rattle.directory.specs.Read.{countOf, keyOffset, keyLength, keyOf, keysFrom, keysIn, keyBegin, directoryBad, keysBad, directoryNo, Sorted}
 use Rattle.directory.proofs.Lengths.{Bounded, length-directoryBytes, length-keyBytes-suc}
@@ -119,17 +118,6 @@ keysIn-written ks b =
 
 -- ---- a directory that row 12 lets pass
 
-below-take : (k n : ℕ) (l : List ℕ) → Below k l → Below k (take n l)
-below-take k zero l h i = pow-pos k
-below-take k (suc n) [] h i = pow-pos k
-below-take k (suc n) (x ∷ l) h zero = h 0
-below-take k (suc n) (x ∷ l) h (suc i) = below-take k n l (λ j. h (suc j)) i
-
--- four bytes are those of their number
-number-bytes : (d : List ℕ) (at : ℕ) → Below 8 d → at + 4 ≤ length d → leBytes 4 (numberAt d at 4) ≡ take 4 (drop at d)
-number-bytes d at below h =
-    rw (length-take-le 4 (drop at d) (omega (arith, length-drop at d))) at (digits-ofDigits 8 (take 4 (drop at d)) (below-take 8 4 (drop at d) (below-drop 8 at d below)))
-
 -- the bytes of pair i, then those behind it
 pair-split : (d : List ℕ) (i count : ℕ) → take (8 * suc count) (drop (4 + 8 * i) d)
     ≡ take 4 (drop (4 + 8 * i) d) ++ (take 4 (drop (8 + 8 * i) d) ++ take (8 * count) (drop (4 + 8 * suc i) d))
@@ -175,8 +163,8 @@ module _ (d : List ℕ) (good : directoryBad d ≡ false) where
   pairs-are below i zero e = refl
   pairs-are below i (suc count) e =
       let next : keyBegin d (suc i) ≡ keyOffset d i + keyLength d i = unfold keyBegin in refl in
-      let offset = number-bytes d (4 + 8 * i) below (omega (arith, ok .fits)) in
-      let len = number-bytes d (8 + 8 * i) below (omega (arith, ok .fits)) in
+      let offset = number-bytes d (4 + 8 * i) 4 (omega (arith, ok .fits)) below in
+      let len = number-bytes d (8 + 8 * i) 4 (omega (arith, ok .fits)) below in
       rw (length-key i (omega arith), ← (ok .pairs .offsets i (omega arith)), ← next, ← (pairs-are below (suc i) count (omega arith)), offset, len)
       (pair-split d i count)
 
@@ -185,7 +173,7 @@ pub directory-is : (d : List ℕ) → Below 8 d → directoryBad d ≡ false →
 unfolding directoryBytes
 directory-is d below good =
     let n = countOf d in
-    let count : leBytes 4 (length (keysIn d)) ≡ take 4 d = rw (length-keysIn d) (number-bytes d 0 below (omega (arith, ok d good .fits))) in
+    let count : leBytes 4 (length (keysIn d)) ≡ take 4 d = rw (length-keysIn d) (number-bytes d 0 4 (omega (arith, ok d good .fits)) below) in
     let numbers : pairs 0 (keysIn d) ≡ take (8 * n) (drop 4 d) = unfold keyBegin in sym (pairs-are d good below 0 n (zero-add n)) in
     let keys : keyBytes (keysIn d) ≡ drop (4 + 8 * n) d = unfold keyBegin in sym (rw (add-zero (4 + 8 * n)) at (keys-are d good 0 n (zero-add n))) in
     rw (count, numbers, keys, ← (drop-drop (8 * n) 4 d), take-append-drop (8 * n) (drop 4 d), take-append-drop 4 d)

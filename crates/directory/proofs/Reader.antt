@@ -1,4 +1,4 @@
--- Laws of reading: what an accepted directory is, that its keys rise, the first key that isn't below, and that what was written is accepted.
+-- Laws of a key's search: keys that rise one by one rise between any two, and there is one first key that isn't below, at most.
 use mathlib.Core.Path.{_≡_, refl, sym, ap, _∙_}
 use mathlib.Core.Bool.{Bool, true, false, true≢false}
 use mathlib.Core.List.{List, []}

@@ -10,14 +10,11 @@ use native.Mathlib.Omega.{arith}
 use lib.Dec.{eqb, ltb}
 use borrow.Author.Tests.{lt-ltb, le-ltb, eq-eqb, ne-eqb, ltb-false, eqb-true, not-false}
 use lib.ListN.{length, take, drop}
+use Rattle.serialize.proofs.Tests.{neither}
 use Rattle.keys.specs.Order.{less, _≺_}
 use Rattle.keys.proofs.Order.{by-test}
 use Rattle.serialize.specs.Digits.{numberAt}
 use Rattle.directory.specs.Read.{countOf, keyOffset, keyLength, keyOf, keyBegin, pairsBad, directoryBad, keysBad, keyOutside}
-
-neither : (a b : Bool) → a || b ≡ false → (a ≡ false) × (b ≡ false)
-neither true b e = absurd (true≢false e)
-neither false b e = (refl, e)
 
 or-true : (a b : Bool) → a ≡ true → a || b ≡ true
 or-true a b e = rw e refl

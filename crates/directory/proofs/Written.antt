@@ -2,14 +2,14 @@
 use mathlib.Core.Path.{_≡_, refl, sym, ap, _∙_}
 use mathlib.Core.List.{List, _++_}
 use Prim.Native.Nat.{ℕ, _+_, _-_, _*_, _≤_, _<_}
-use native.Mathlib.Nat.{add-zero, zero-add, add-assoc}
+use native.Mathlib.Nat.{add-zero, add-assoc}
 use native.Mathlib.Omega.{arith}
 use lib.ListN.{length, getD, take, drop, length-append, length-drop}
-use lib.Seq.{sets, sets-eq, take-length, length-take-le}
+use lib.Seq.{sets, length-take-le}
 use borrow.Rule.Slice.PartMut.{putMid}
 use Rattle.serialize.specs.Digits.{leBytes}
 use Rattle.serialize.proofs.Digits.{length-digits}
-use Rattle.serialize.proofs.Stores.{sets-append, sets-in-part}
+use Rattle.serialize.proofs.Stores.{sets-append, sets-in-part, copied}
 use Rattle.directory.specs.Directory.{pairs, keyBytes, directoryBytes}
 use Rattle.directory.specs.Keys.{offsetAt, lengthAt, keyAt, keysAt}
 use Rattle.directory.specs.Facts.{KeysArea}
@@ -19,10 +19,6 @@ use Rattle.directory.proofs.Lengths.{length-pairs}
 -- one run of stores, and the next behind it
 sets-run : (d a b : List ℕ) (i k : ℕ) → length a ≡ k → sets d i (a ++ b) ≡ sets (sets d i a) (i + k) b
 sets-run d a b i k e = rw (← e) (sym (sets-append d a b i))
-
--- what `copy` leaves is a run of stores at the front
-copied : (d w : List ℕ) → length w ≤ length d → take (length w) w ++ drop (length w) d ≡ sets d 0 w
-copied d w h = sym (sets-eq w d 0 (omega arith) ∙ rw (zero-add (length w), take-length w))
 
 -- what is left of the output behind a place
 pub length-rest : (out : List ℕ) (to : ℕ) → length (take (length out - to) (drop to out)) ≡ length out - to

@@ -2,16 +2,15 @@
 use mathlib.Core.Path.{_≡_, sym, ap, _∙_}
 use mathlib.Core.List.{List, [], _∷_, _++_}
 use Prim.Native.Nat.{ℕ, _+_, _≤_, _<_}
-use native.Mathlib.Nat.{zero-add}
 use native.Mathlib.Numerals.{add-one}
 use native.Mathlib.Omega.{arith}
 use lib.ListN.{length, set, take, drop, length-append}
-use lib.Seq.{sets, sets-eq, take-length, length-take-le}
+use lib.Seq.{sets, length-take-le}
 use Rattle.keys.specs.Order.{_≺_, _≼_}
 use Rattle.automaton.specs.Table.{next}
 use Rattle.automaton.specs.Words.{Bytes, run, Hits, Word}
 use Rattle.automaton.proofs.Strings.{hits-cons, hits-append, bytes-take}
-use Rattle.serialize.proofs.Stores.{sets-append}
+use Rattle.serialize.proofs.Stores.{sets-append, copied}
 use Rattle.example.proofs.Bounds.{leaving}
 
 -- L and U are the interval's bounds
@@ -24,10 +23,6 @@ found-map {new = new} L U L′ U′ e f m =
     let (l, u) = f (m .word) (m .good .0) (m .good .1) in
     record { word = m .word; hits = m .hits; good = (l, u, m .good .2, m .good .3 ∙ ap (λ (x : List ℕ). sets x 0 (m .word)) e) }
 
--- what `copy` leaves is a run of stores at the front
-copied : (d w a : List ℕ) → length w ≤ length d → a ≡ take (length w) w ++ drop (length w) d → a ≡ sets d 0 w
-copied d w a h e = e ∙ sym (sets-eq w d 0 (omega arith) ∙ rw (zero-add (length w), take-length w))
-
 module _ (t key out a : List ℕ) (len : ℕ) (within : len ≤ length key) (room : length key ≤ length out) (bytes : Bytes key)
     (copy : a ≡ take (length (take len key)) (take len key) ++ drop (length (take len key)) out) where
   long : length (take len key) ≡ len
@@ -35,7 +30,7 @@ module _ (t key out a : List ℕ) (len : ℕ) (within : len ≤ length key) (roo
 
   -- the key's first bytes alone
   pub found-front : {L U : List ℕ → Type 0} → Hits t 0 (take len key) → L (take len key) → U (take len key) → Found t L U out a len
-  found-front h l u = record { word = take len key; hits = h; good = (l, u, sym long, copied out (take len key) a (omega (arith, long)) copy) }
+  found-front h l u = record { word = take len key; hits = h; good = (l, u, sym long, copy ∙ copied out (take len key) (omega (arith, long))) }
 
   -- a byte and a tail behind them
   pub found-leaving : {c : List ℕ} (b lo hi k : ℕ) → lo ≤ b → b < hi → b < 256
@@ -53,6 +48,6 @@ module _ (t key out a : List ℕ) (len : ℕ) (within : len ≤ length key) (roo
       put : sets (set a len b) (len + 1) (m .word) ≡ sets out 0 (take len key ++ (b ∷ m .word))
       put =
           let e : len ≡ 0 + length (take len key) = omega (arith, long) in
-          rw (add-one len) (ap (λ (x : List ℕ). sets x len (b ∷ m .word)) (copied out (take len key) a (omega (arith, long)) copy)
+          rw (add-one len) (ap (λ (x : List ℕ). sets x len (b ∷ m .word)) (copy ∙ copied out (take len key) (omega (arith, long)))
           ∙ ap (λ (n : ℕ). sets (sets out 0 (take len key)) n (b ∷ m .word)) e
           ∙ sets-append out (take len key) (b ∷ m .word) 0)

@@ -4,28 +4,20 @@ use mathlib.Core.Bool.{Bool, true, false, not, _||_}
 use Prim.Native.Nat.{ℕ, _≤_, _<_}
 use lib.Dec.{eqb, ltb, leb}
 use borrow.Author.Tests.{ltb-false, leb-false, eqb-true, not-false, le-ltb, lt-leb, eq-eqb}
+use Rattle.serialize.proofs.Tests.{neither}
 use Rattle.group.specs.declared.BlockAddr.{BlockAddr}
 use Rattle.group.specs.Legal.{limit, NumbersOk, Follows}
 use Rattle.group.specs.Rows.{numbersBad, joinBad, ordinalBad}
 
--- neither of two tests
-or-false-left : (a b : Bool) → (a || b) ≡ false → a ≡ false
-or-false-left true b e = e
-or-false-left false b e = refl
-
-or-false-right : (a b : Bool) → (a || b) ≡ false → b ≡ false
-or-false-right true true e = e
-or-false-right true false e = refl
-or-false-right false b e = e
-
 pub numbers-ok : (b : BlockAddr) → numbersBad b ≡ false → NumbersOk b
 unfolding numbersBad
 numbers-ok b e =
-    let rest = or-false-right (ltb (b .end) (b .start)) (leb limit (b .end) || leb limit (b .«first_ordinal»)) e in
+    let first = neither (ltb (b .end) (b .start)) (leb limit (b .end) || leb limit (b .«first_ordinal»)) e in
+    let rest = neither (leb limit (b .end)) (leb limit (b .«first_ordinal»)) (first .1) in
     record {
-      ordered = ltb-false (b .end) (b .start) (or-false-left (ltb (b .end) (b .start)) (leb limit (b .end) || leb limit (b .«first_ordinal»)) e);
-      end-small = leb-false limit (b .end) (or-false-left (leb limit (b .end)) (leb limit (b .«first_ordinal»)) rest);
-      ordinal-small = leb-false limit (b .«first_ordinal») (or-false-right (leb limit (b .end)) (leb limit (b .«first_ordinal»)) rest);
+      ordered = ltb-false (b .end) (b .start) (first .0);
+      end-small = leb-false limit (b .end) (rest .0);
+      ordinal-small = leb-false limit (b .«first_ordinal») (rest .1);
     }
 
 pub numbers-good : (b : BlockAddr) → NumbersOk b → numbersBad b ≡ false

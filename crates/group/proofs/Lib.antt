@@ -1,5 +1,6 @@
 pub mod Limit
 pub mod Legal
+pub mod RowOrder
 pub mod Blocks
 pub mod Metadata
 pub mod Written

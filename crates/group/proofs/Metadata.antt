@@ -1,14 +1,13 @@
 -- Laws of a group record's bytes: what was written is read back, and what is read is what stands there.
 use mathlib.Core.Path.{_≡_, refl, sym, ap, _∙_}
-use mathlib.Core.List.{List, [], _∷_, _++_}
-use Prim.Native.Nat.{ℕ, zero, suc, _+_, _*_, _^_, _≤_, _<_}
+use mathlib.Core.List.{List, _++_}
+use Prim.Native.Nat.{ℕ, _+_, _*_, _^_, _≤_, _<_}
 use native.Mathlib.Nat.{add-zero}
 use native.Mathlib.Omega.{arith}
-use lib.ListN.{length, take, drop, length-drop}
-use lib.Seq.{take-take, take-all, take-add, drop-drop}
-use Rattle.serialize.specs.Digits.{digits, leVal, leBytes, Below, numberAt}
-use Rattle.serialize.proofs.Digits.{ofDigits-digits-lt, digits-ofDigits, ofDigits-take, ofDigits-take-lt, take-digits, below-drop}
-use Rattle.bitpacker.proofs.Words.{low-digits}
+use lib.ListN.{length, take, drop}
+use lib.Seq.{take-all, take-add, drop-drop}
+use Rattle.serialize.specs.Digits.{digits, leBytes, Below, numberAt}
+use Rattle.serialize.proofs.Numbers.{part-of-front, number-back, number-lt, number-bytes}
 use Rattle.group.specs.Meta.{metaBytes, metaAt}
 use Rattle.group.specs.declared.BlockAddrBlockMetadata.{BlockAddrBlockMetadata}
 
@@ -52,39 +51,11 @@ pub length-metaBytes : (m : BlockAddrBlockMetadata) → length (metaBytes m) ≡
 unfolding metaBytes digits
 length-metaBytes m = refl
 
--- ---- one number of w bytes
-
--- w bytes at p of the first n are those of the whole
-part : (l : List ℕ) (n p w : ℕ) → p + w ≤ n → take w (drop p (take n l)) ≡ take w (drop p l)
-part l n zero w h = take-take w n l (omega arith)
-part l zero (suc p) w h = absurd (let z : ⊥ = omega arith in z)
-part [] (suc n) (suc p) w h = refl
-part (x ∷ l) (suc n) (suc p) w h = part l n p w (omega arith)
-
--- the number at `at` is v if its bytes are v's
-number-back : (s : List ℕ) (at w v : ℕ) → v < 2 ^ (8 * w) → take w (drop at s) ≡ leBytes w v → numberAt s at w ≡ v
-number-back s at w v h e = ap leVal e ∙ ofDigits-digits-lt 8 w v h
-
-number-lt : (s : List ℕ) (at w : ℕ) → Below 8 s → numberAt s at w < 2 ^ (8 * w)
-number-lt s at w h = ofDigits-take-lt 8 w (drop at s) (below-drop 8 at s h)
-
--- the bytes of the number at `at` stand there
-number-bytes : (s : List ℕ) (at w : ℕ) → at + w ≤ length s → Below 8 s → leBytes w (numberAt s at w) ≡ take w (drop at s)
-number-bytes s at w h k =
-    let l = drop at s in
-    let below = below-drop 8 at s k in
-    ap (leBytes w) (ofDigits-take 8 w l below)
-    ∙ low-digits 8 w (leVal l)
-    ∙ sym (take-digits 8 w (length l) (leVal l) (simp length-drop (omega arith)))
-    ∙ ap (take w) (digits-ofDigits 8 l below)
-
--- ---- the record
-
 pub meta-back : (m : BlockAddrBlockMetadata) (s : List ℕ) (at : ℕ) → MetaFits m → take 36 (drop at s) ≡ metaBytes m → metaAt s at ≡ m
 unfolding metaBytes metaAt digits
 meta-back m s at k e =
     let field : (p w v : ℕ) → p + w ≤ 36 → v < 2 ^ (8 * w) → take w (drop p (metaBytes m)) ≡ leBytes w v → numberAt s (at + p) w ≡ v =
-    λ p w v h l q. rw (drop-drop p at s) at (number-back (drop at s) p w v l (sym (part (drop at s) 36 p w h) ∙ ap (λ (x : List ℕ). take w (drop p x)) e ∙ q)) in
+    λ p w v h l q. rw (drop-drop p at s) at (number-back (drop at s) p w v l (sym (part-of-front (drop at s) 36 p w h) ∙ ap (λ (x : List ℕ). take w (drop p x)) e ∙ q)) in
     same-meta
     (rw (add-zero at) at (field 0 8 (m .offset) (omega arith) (k .offset) refl))
     (field 8 8 (m .«range_start») (omega arith) (k .range-start) refl)

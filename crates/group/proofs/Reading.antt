@@ -8,6 +8,7 @@ use native.Mathlib.Omega.{arith}
 use borrow.Author.Tests.{ltb-false, eqb-true, not-false, le-ltb, lt-ltb, eq-eqb}
 use lib.Dec.{ltb}
 use lib.Pow.{pow-pos, pow-mono}
+use Rattle.serialize.proofs.Tests.{neither}
 use Rattle.bitpacker.specs.Bits.{bytesOf}
 use Rattle.bitpacker.specs.Fields.{rangeBit, ordinalBit, groupBits}
 use Rattle.group.specs.Legal.{limit}
@@ -16,10 +17,6 @@ use Rattle.group.specs.Facts.{Readable}
 use Rattle.group.specs.declared.BlockAddrBlockMetadata.{BlockAddrBlockMetadata}
 
 -- ---- row 15
-
-neither : (a b : Bool) → a || b ≡ false → (a ≡ false) × (b ≡ false)
-neither true b e = (e, sym (absurd (true≢false e)))
-neither false b e = (refl, e)
 
 pub width-ok : (w : ℕ) → widthBad w ≡ false → (1 ≤ w) × (w ≤ 56)
 unfolding widthBad

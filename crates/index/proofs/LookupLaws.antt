@@ -1,11 +1,11 @@
 -- Laws of bytes and record of one opening: its blocks are legal, and a separator's place holds the separator.
 use mathlib.Core.Path.{_≡_, refl, sym, ap, _∙_}
 use mathlib.Core.Bool.{false}
-use mathlib.Core.List.{List, [], _∷_}
-use Prim.Native.Nat.{ℕ, zero, suc, _+_, _*_, _≤_, _<_}
+use mathlib.Core.List.{List}
+use Prim.Native.Nat.{ℕ, _+_, _*_, _≤_, _<_}
 use native.Mathlib.Omega.{arith}
 use lib.ListN.{take, drop, length-take}
-use lib.Seq.{take-take}
+use Rattle.serialize.proofs.Numbers.{part-of-front}
 use Rattle.group.specs.Legal.{Legal}
 use Rattle.directory.specs.Read.{keyOffset, keyLength, keyOutside}
 use Rattle.directory.proofs.Rules.{is-inside, length-place}
@@ -17,13 +17,6 @@ use Rattle.index.specs.Answers.{partAt}
 use Rattle.index.specs.Lookups.{placeDef}
 use Rattle.index.proofs.OpenFacts.{OpenFacts}
 use Rattle.index.proofs.Places.{place-read}
-
--- w bytes at p of the first n are those of the whole
-part-of-front : (l : List ℕ) (n p w : ℕ) → p + w ≤ n → take w (drop p (take n l)) ≡ take w (drop p l)
-part-of-front l n zero w h = take-take w n l (omega arith)
-part-of-front l zero (suc p) w h = absurd (let z : ⊥ = omega arith in z)
-part-of-front [] (suc n) (suc p) w h = refl
-part-of-front (x ∷ l) (suc n) (suc p) w h = part-of-front l n p w (omega arith)
 
 module _ (L : ℕ) (f : List ℕ) (opened : SSTableIndexV3) (facts : OpenFacts L f opened) where
   pub opened-legal : Legal (blockIn L f) (opened .n)

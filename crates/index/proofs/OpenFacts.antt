@@ -9,11 +9,12 @@ use native.Mathlib.Omega.{arith}
 use lib.Dec.{eqb, ltb}
 use lib.ListN.{length, take, drop}
 use borrow.Author.Tests.{ltb-false, eqb-true, eqb-false, not-false}
+use Rattle.serialize.proofs.Tests.{neither}
 use Rattle.group.specs.Rows.{orElse}
+use Rattle.group.proofs.RowOrder.{orElse-zero}
 use Rattle.store.specs.Store.{groupCount}
 use Rattle.store.specs.Read.{StoreOk}
 use Rattle.store.specs.Facts.{GroupLenOk}
-use Rattle.store.proofs.Lookup.{neither}
 use Rattle.store.proofs.Rows.{store-kept}
 use Rattle.directory.specs.Read.{directoryNo, Sorted}
 use Rattle.directory.proofs.Rules.{DirectoryOk, directory-kept}
@@ -56,10 +57,6 @@ no-cond : (b : Bool) (k later : ℕ) → cond b (suc k) later ≡ 0 → (b ≡ f
 no-cond true k later e = absurd (let z : ⊥ = omega arith in z)
 no-cond false k later e = (refl, e)
 
-no-else : (k later : ℕ) → orElse k later ≡ 0 → (k ≡ 0) × (later ≡ 0)
-no-else zero later e = (refl, e)
-no-else (suc k) later e = absurd (let z : ⊥ = omega arith in z)
-
 module _ (f : List ℕ) where
   opens-no : (k : ℕ) (opened : SSTableIndexV3) → openStep k f ≡ Opened opened → (k ≡ 0) × (opened ≡ openedOf f)
   opens-no zero opened e = (refl, cc)
@@ -87,8 +84,8 @@ module _ (L : ℕ) (f : List ℕ) (len : GroupLenOk L) where
   accepted-facts : openNo L f ≡ 0 → OpenFacts L f (openedOf f)
   unfolding openNo openedOf
   accepted-facts e =
-      let a = no-else (footerNo f) _ e in
-      let b = no-else (directoryNo (directoryPart f)) _ (a .1) in
+      let a = orElse-zero (footerNo f) _ e in
+      let b = orElse-zero (directoryNo (directoryPart f)) _ (a .1) in
       let c = no-cond (recordsBad L f) 13 _ (b .1) in
       let foot = footer-kept f (a .0) in
       let recs = records-kept f L (c .0) in

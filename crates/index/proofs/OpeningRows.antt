@@ -10,14 +10,15 @@ use lib.Dec.{eqb, ltb}
 use lib.ListN.{length, take, drop, length-drop}
 use lib.Seq.{length-take-le, take-take}
 use Rattle.serialize.specs.Digits.{leVal}
+use Rattle.serialize.proofs.Tests.{neither}
 use Rattle.group.specs.Rows.{orElse}
+use Rattle.group.proofs.RowOrder.{orElse-first, orElse-zero}
 use Rattle.store.specs.Store.{groupCount}
 use Rattle.store.specs.Facts.{RecordsOk}
 use Rattle.store.specs.Check.{storeNo}
 use Rattle.directory.specs.Read.{directoryNo}
 use Rattle.directory.proofs.Rules.{DirectoryOk, directory-kept}
 use Rattle.directory.proofs.Opened.{opened-good}
-use Rattle.builder.proofs.Views.{or-false}
 use Rattle.index.specs.Parts.{directoryLen, directoryPart, storeLen, recordsLen, recordsPart, addrsPart, countIn}
 use Rattle.index.specs.Opening.{footerNo, recordsBad, openNo, openedOf, openDef}
 use Rattle.index.specs.declared.SSTableIndexV3.{SSTableIndexV3}
@@ -118,7 +119,7 @@ module _ (L : ℕ) (f : List ℕ) where
   pub records-ok : recordsBad L f ≡ false → RecordsOk L f
   unfolding recordsBad
   records-ok e =
-      let both = or-false (not (eqb (recordsLen f) (36 * groupCount L (countIn f)))) _ e in
+      let both = neither (not (eqb (recordsLen f) (36 * groupCount L (countIn f)))) _ e in
       record {
         exact = eqb-true (recordsLen f) (36 * groupCount L (countIn f)) (not-false (eqb (recordsLen f) (36 * groupCount L (countIn f))) (both .0));
         inside = ltb-false (storeLen f) (8 + recordsLen f) (both .1);
@@ -168,14 +169,6 @@ module _ (L : ℕ) (f : List ℕ) (d m : ℕ) (footer : FooterOk f) (ed : d ≡ 
 
 -- ---- the number, and the answer
 
-or-hit : (k later : ℕ) → (k ≡ 0 → ⊥) → orElse k later ≡ k
-or-hit zero later h = absurd (h refl)
-or-hit (suc k) later h = refl
-
-or-none : (k later : ℕ) → orElse k later ≡ 0 → (k ≡ 0) × (later ≡ 0)
-or-none zero later e = (refl, e)
-or-none (suc k) later e = absurd (omega arith)
-
 -- no row is hit
 pub record OpenOk (L : ℕ) (f : List ℕ) : Type 0 where
   pub footer : footerNo f ≡ 0
@@ -186,12 +179,12 @@ pub record OpenOk (L : ℕ) (f : List ℕ) : Type 0 where
 module _ (L : ℕ) (f : List ℕ) where
   pub open-footer : (footerNo f ≡ 0 → ⊥) → footerNo f ≡ openNo L f
   unfolding openNo
-  open-footer h = sym (or-hit (footerNo f) _ h)
+  open-footer h = sym (orElse-first (footerNo f) _ h)
 
   module _ (footer : footerNo f ≡ 0) where
     pub open-directory : (directoryNo (directoryPart f) ≡ 0 → ⊥) → directoryNo (directoryPart f) ≡ openNo L f
     unfolding openNo
-    open-directory h = rw footer (sym (or-hit (directoryNo (directoryPart f)) _ h))
+    open-directory h = rw footer (sym (orElse-first (directoryNo (directoryPart f)) _ h))
 
     module _ (directory : directoryNo (directoryPart f) ≡ 0) where
       pub open-records : recordsBad L f ≡ true → 14 ≡ openNo L f
@@ -208,8 +201,8 @@ module _ (L : ℕ) (f : List ℕ) where
   pub open-ok : openNo L f ≡ 0 → OpenOk L f
   unfolding openNo
   open-ok e =
-      let footer = or-none (footerNo f) _ e in
-      let directory = or-none (directoryNo (directoryPart f)) _ (footer .1) in
+      let footer = orElse-zero (footerNo f) _ e in
+      let directory = orElse-zero (directoryNo (directoryPart f)) _ (footer .1) in
       let records = passed (recordsBad L f) 13 _ (directory .1) in
       record { footer = footer .0; directory = directory .0; records = records .0; store = records .1 }
 

@@ -7,14 +7,11 @@ use lib.Dec.{ltb}
 use lib.ListN.{length}
 use borrow.Author.Tests.{lt-ltb, le-ltb}
 use Rattle.group.specs.Rows.{orElse}
+use Rattle.group.proofs.RowOrder.{orElse-first}
 use Rattle.automaton.specs.Table.{tableNo}
 use Rattle.index.specs.declared.SSTableIndexV3.{SSTableIndexV3}
 use Rattle.index.specs.Lookups.{openedBad, directoryAt}
 use Rattle.listing.specs.Listing.{keysOutside, listingNo}
-
-else-hit : (k later : ℕ) → (k ≡ 0 → ⊥) → orElse k later ≡ k
-else-hit zero later h = absurd (h refl)
-else-hit (suc k) later h = refl
 
 module _ (L : ℕ) (opened : SSTableIndexV3) (f t : List ℕ) (room : ℕ) where
   pub record-refused : openedBad L opened (length f) ≡ true → listingNo L opened f t room ≡ 20
@@ -32,7 +29,7 @@ module _ (L : ℕ) (opened : SSTableIndexV3) (f t : List ℕ) (room : ℕ) where
       past-20 = rw (fits, inside)
 
       pub table-refused : (tableNo t ≡ 0 → ⊥) → listingNo L opened f t room ≡ tableNo t
-      table-refused h = past-20 ∙ else-hit (tableNo t) _ h
+      table-refused h = past-20 ∙ orElse-first (tableNo t) _ h
 
       pub room-refused : tableNo t ≡ 0 → room < opened .n → listingNo L opened f t room ≡ 24
       room-refused e h = rw (past-20, e, lt-ltb room (opened .n) h)

@@ -7,8 +7,8 @@ use native.Mathlib.Omega.{arith}
 use lib.Dec.{eqb, ltb, leb}
 use lib.ListN.{length}
 use borrow.Author.Tests.{lt-ltb, le-ltb, le-leb, lt-leb, eq-eqb, ne-eqb, eqb-true, eqb-false, ltb-false, leb-true, leb-false, not-false}
+use Rattle.serialize.proofs.Tests.{neither}
 use Rattle.keys.proofs.Order.{by-test}
-use Rattle.builder.proofs.Views.{or-false}
 use Rattle.replay.specs.Format.{tagAt, stringLen, within, callLen, questionLen, behind, callCount, questionCount, questionsFrom, listBad}
 
 module _ (s : List ℕ) (at : ℕ) where
@@ -215,8 +215,8 @@ module _ (s : List ℕ) where
   pub list-ok : listBad s ≡ false → ListOk
   unfolding listBad
   list-ok e =
-      let short = or-false (ltb (length s) 8) _ e in
-      let both = or-false (eqb (questionsFrom s) 0) _ (short .1) in
+      let short = neither (ltb (length s) 8) _ e in
+      let both = neither (eqb (questionsFrom s) 0) _ (short .1) in
       record {
         counts = ltb-false (length s) 8 (short .0);
         calls-there = eqb-false (questionsFrom s) 0 (both .0);

@@ -1,3 +1,5 @@
+pub mod Tests
 pub mod Digits
+pub mod Numbers
 pub mod Stores
 mod Turns

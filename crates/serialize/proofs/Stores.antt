@@ -2,11 +2,11 @@
 use mathlib.Core.Path.{_≡_, refl, sym, ap, ap₂, _∙_}
 use mathlib.Core.List.{List, [], _∷_, _++_, append-assoc, append-nil}
 use Prim.Native.Nat.{ℕ, zero, suc, _+_, _-_, _*_, _/_, _%_, _^_, _≤_, _<_}
-use native.Mathlib.Nat.{add-zero, add-suc, suc-add, add-assoc}
+use native.Mathlib.Nat.{add-zero, zero-add, add-suc, suc-add, add-assoc}
 use native.Mathlib.Omega.{arith}
 use native.Mathlib.Numerals.{add-one, sub-one}
 use lib.ListN.{length, take, drop, getD, set, length-take, length-drop, length-append, length-set, take-append-drop, drop-of-length-le}
-use lib.Seq.{sets, sets-eq, length-sets, take-at, drop-at, length-take-le, take-append-le, drop-append-add, drop-drop, take-all, drop-set-add, set-append-left, take-set-le, drop-set-lt}
+use lib.Seq.{sets, sets-eq, length-sets, take-length, take-at, drop-at, length-take-le, take-append-le, drop-append-add, drop-drop, take-all, drop-set-add, set-append-left, take-set-le, drop-set-lt}
 use borrow.Rule.Slice.PartMut.{putMid}
 use Rattle.serialize.specs.Digits.{digits, leVal, leBytes}
 use Rattle.serialize.proofs.Digits.{length-digits, ofDigits-digits-lt}
@@ -44,6 +44,10 @@ pub sets-in-part : (d w : List ℕ) (a at : ℕ)
 sets-in-part d w a at =
     let all : length (drop a d) ≤ length d - a = omega (arith, length-drop a d) in
     rw (take-all (length d - a) (drop a d) all, drop-of-length-le (drop a d) all, append-nil (sets (drop a d) at w)) (sets-behind d w a at)
+
+-- what `copy` leaves is a run of stores at the front
+pub copied : (d w : List ℕ) → length w ≤ length d → take (length w) w ++ drop (length w) d ≡ sets d 0 w
+copied d w h = sym (sets-eq w d 0 (omega arith) ∙ rw (zero-add (length w), take-length w))
 
 -- a number written and read back
 pub written-read : (d : List ℕ) (at w v : ℕ) → at + w ≤ length d → v < 2 ^ (8 * w) → leVal (take w (drop at (sets d at (leBytes w v)))) ≡ v

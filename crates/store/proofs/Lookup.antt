@@ -12,6 +12,7 @@ use borrow.Author.Tests.{leb-false}
 use lib.ListN.{length, take, drop, length-drop}
 use lib.Seq.{take-all}
 use Rattle.serialize.specs.Digits.{leVal}
+use Rattle.serialize.proofs.Tests.{neither}
 use Rattle.group.specs.declared.BlockAddr.{BlockAddr}
 use Rattle.group.specs.declared.BlockAddrBlockMetadata.{BlockAddrBlockMetadata}
 use Rattle.group.specs.Legal.{limit, Legal}
@@ -85,10 +86,6 @@ get-block L recs addr n i some ok h =
 -- all from n on, as a part
 pub rest-part : (s : List ℕ) (n : ℕ) → take (length s - n) (drop n s) ≡ drop n s
 rest-part s n = take-all (length s - n) (drop n s) (omega (arith, length-drop n s))
-
-pub neither : (a b : Bool) → a || b ≡ false → (a ≡ false) × (b ≡ false)
-neither true b e = absurd (true≢false e)
-neither false b e = (refl, e)
 
 module _ (m : BlockAddrBlockMetadata) (count : ℕ) (addr : List ℕ)
     (e : (groupBad m count (length addr) || (leb limit (m .«range_start») || leb limit (m .«first_ordinal»))) ≡ false) where

@@ -11,6 +11,7 @@ use native.Mathlib.Omega.{arith}
 use lib.Dec.{eqb, ltb, leb}
 use lib.ListN.{length, take, drop}
 use Rattle.serialize.specs.Digits.{leVal}
+use Rattle.serialize.proofs.Tests.{neither}
 use Rattle.group.specs.declared.BlockAddr.{BlockAddr}
 use Rattle.group.specs.declared.BlockAddrBlockMetadata.{BlockAddrBlockMetadata}
 use Rattle.group.specs.Legal.{limit, Follows, Legal}
@@ -23,7 +24,7 @@ use Rattle.store.specs.Check.{firstsBad, blocksBad}
 use Rattle.store.specs.declared.Got.{Got}
 use Rattle.store.specs.declared.Got.the-variants.{Block, Broken}
 use Rattle.store.proofs.Groups.{legal-part}
-use Rattle.store.proofs.Lookup.{neither, block-of-group, part-readable, block-is}
+use Rattle.store.proofs.Lookup.{block-of-group, part-readable, block-is}
 use Rattle.store.proofs.Rows.{refused, firsts-kept, blocks-kept, blocks-keep}
 
 -- ---- a group's first values

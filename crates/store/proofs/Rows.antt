@@ -8,6 +8,7 @@ use native.Mathlib.Nat.{eq-or-lt-of-le, le-of-suc-le-suc}
 use native.Mathlib.Omega.{arith}
 use lib.Dec.{leb}
 use lib.ListN.{length}
+use Rattle.serialize.proofs.Tests.{neither}
 use Rattle.group.specs.declared.BlockAddr.{BlockAddr}
 use Rattle.group.specs.Legal.{limit, NumbersOk, Follows, Legal}
 use Rattle.group.specs.Rows.{numbersBad, joinBad, ordinalBad}
@@ -16,7 +17,6 @@ use Rattle.group.proofs.Legal.{numbers-ok, numbers-good, follows, joins, ordina
 use Rattle.store.specs.Store.{groupCount}
 use Rattle.store.specs.Read.{groupMeta, groupLen, storeBlock, metaBad, StoreOk}
 use Rattle.store.specs.Check.{groupsBad, firstsBad, blocksBad, storeNo}
-use Rattle.store.proofs.Lookup.{neither}
 
 -- ---- tests
 

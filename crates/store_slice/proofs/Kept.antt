@@ -8,6 +8,7 @@ use native.Mathlib.Omega.{arith}
 use lib.Dec.{ltb}
 use lib.ListN.{length}
 use borrow.Author.Tests.{ltb-false}
+use Rattle.serialize.proofs.Tests.{neither}
 use Rattle.group.specs.declared.BlockAddr.{BlockAddr}
 use Rattle.group.specs.Blocks.{blockOf, blockAt, blocksAt}
 use Rattle.group.specs.Legal.{Legal}
@@ -15,7 +16,6 @@ use Rattle.group.specs.Rows.{numbersBad, joinBad, ordinalBad}
 use Rattle.group.proofs.Legal.{numbers-ok, follows}
 use Rattle.group.proofs.Blocks.{length-blocksAt, blocksAt-at, legal-same}
 use Rattle.store.specs.Facts.{StoreArea}
-use Rattle.store.proofs.Lookup.{neither}
 use Rattle.store_slice.specs.Slice.{anyBad, pairBad, recordsNo}
 
 any-kept : (bad : BlockAddr → Bool) (bs : List BlockAddr) (i : ℕ) → i < length bs → anyBad bad bs ≡ false → bad (blockOf bs i) ≡ false
