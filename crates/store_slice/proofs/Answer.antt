@@ -7,7 +7,6 @@ use native.Mathlib.Omega.{arith}
 use lib.Dec.{ltb}
 use lib.ListN.{length}
 use lib.Seq.{sets}
-use borrow.Author.Tests.{lt-ltb}
 use Rattle.slope.specs.Slope.{bestSlope}
 use Rattle.group.specs.declared.BlockAddr.{BlockAddr}
 use Rattle.store.specs.declared.Serialized.the-variants.{Len, Short}
@@ -21,7 +20,7 @@ module _ (bs : List BlockAddr) (out : List ℕ) (none : recordsNo bs ≡ 0) wher
 
   only-nine : sliceNo bs (length out) ≡ cond (ltb (length out) (length bytes)) 9 0
   unfolding sliceNo
-  only-nine = simp none
+  only-nine = rw none refl
 
   len-by : (t : Bool) (len : ℕ) → Len len ≡ cond t Short (Len (length bytes)) → record { no = 0; len = len } ≡ storedStep (cond t 9 0) bs
   unfolding storedStep
@@ -53,7 +52,7 @@ module _ (bs : List BlockAddr) (out : List ℕ) (none : recordsNo bs ≡ 0) wher
 -- records that hit a row
 hit-no : (bs : List BlockAddr) (room k : ℕ) → recordsNo bs ≡ suc k → sliceNo bs room ≡ suc k
 unfolding sliceNo
-hit-no bs room k e = simp (e, lt-ltb 0 (suc k) (omega arith))
+hit-no bs room k e = rw e refl
 
 pub stored-refused : (bs : List BlockAddr) (out : List ℕ) (no : ℕ) → recordsNo bs ≡ no → (no ≡ 0 → ⊥) → (record { no = no; len = 0 } ≡ sliceStored bs out) × (out ≡ sliceOut bs out)
 unfolding storedStep outStep

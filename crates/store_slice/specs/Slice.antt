@@ -7,7 +7,7 @@ use lib.ListN.{length}
 use lib.Seq.{sets}
 use Rattle.slope.specs.Slope.{bestSlope}
 use Rattle.group.specs.declared.BlockAddr.{BlockAddr}
-use Rattle.group.specs.Rows.{numbersBad, joinBad, ordinalBad}
+use Rattle.group.specs.Rows.{numbersBad, joinBad, ordinalBad, orElse}
 use Rattle.store.specs.Store.{storeBytes}
 use Rattle.store_slice.specs.declared.Stored.{Stored}
 
@@ -29,7 +29,7 @@ recordsNo bs =
 
 -- then 9: the output is shorter than the store
 unfoldable pub sliceNo : List BlockAddr → ℕ → ℕ
-sliceNo bs room = cond (ltb 0 (recordsNo bs)) (recordsNo bs) (cond (ltb room (length (storeBytes bestSlope 128 bs))) 9 0)
+sliceNo bs room = orElse (recordsNo bs) (cond (ltb room (length (storeBytes bestSlope 128 bs))) 9 0)
 
 -- the number and the store's length; the store from byte 0 on with the rest as it was, or what was there
 unfoldable pub storedStep : ℕ → List BlockAddr → Stored
