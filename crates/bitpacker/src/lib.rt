@@ -1,9 +1,9 @@
 // Fields of bits in slices of bytes: `extract_bits` of src/index/v3.rs, and the missing `compute_num_bits` and `BitPacker`.
 ghost use mathlib.Core.Path.{_≡_};
 ghost use Prim.Native.Nat.{_+_, _*_, _/_, _%_, _^_, _≤_, _<_};
-ghost use lib.ListN.{length, take, drop};
+ghost use lib.ListN.{length};
 ghost use lib.Seq.{sets};
-ghost use Rattle.serialize.specs.Digits.{leVal, leBytes};
+ghost use Rattle.serialize.specs.Digits.{leVal, numberAt, leBytes};
 ghost use Rattle.bitpacker.specs.Bits.{numBits, bytesOf};
 ghost use Rattle.bitpacker.specs.Packer.{Waiting, leaving, packedWith};
 
@@ -18,7 +18,7 @@ pub fn compute_num_bits(value: u64) -> u8
 // The number that the eight bytes from `at` on spell, or those that are left.
 fn load(data: &[u8], at: usize) -> u64
     requires { ⌜ at ≤ length (now «data») ⌝ }
-    ensures { λ r. ⌜ r ≡ leVal (take 8 (drop at (now («data» .entry)))) ⌝ }
+    ensures { λ r. ⌜ r ≡ numberAt (now («data» .entry)) at 8 ⌝ }
 {
     let left = data.len() - at;
     if left >= 8 {

@@ -34,7 +34,7 @@ rulesBad (suc m) B K = rulesBad m B K || not (eqb (blockNo (areaView m B K) (are
 unfoldable pub listNo : SSTableIndexBuilder → List ℕ → List ℕ → ℕ
 listNo b B K = cond (areaBad (viewOf b B K)) 1 (cond (offsetsBad (b .n) B K || rulesBad (b .n) B K) 8 0)
 
--- the separators of the areas, and the index of the areas; with n of 0 or 1 there is none
+-- the separators of the areas, their directory and their index; with n of 0 or 1 there is neither
 abbrev pub areaKeys : SSTableIndexBuilder → List ℕ → List ℕ → List (List ℕ)
 areaKeys b B K = keysAt B stride 3 K 0 (b .n)
 
@@ -78,10 +78,10 @@ finishStep (suc k) b B K out = record { no = suc k; builder = b; out = out; tota
 unfoldable pub finishDef : SSTableIndexBuilder → List ℕ → List ℕ → List ℕ → Finish
 finishDef b B K out = finishStep (finishNo b B K out) b B K out
 
+-- what `finish_len` answers: rows 1 and 8, or the total that finish would need
 abbrev pub lenStep : ℕ → ℕ → FinishLen
 lenStep zero total = Total total
 lenStep (suc k) total = Refused (suc k)
 
--- what `finish_len` answers: rows 1 and 8, or the total that finish would need
 unfoldable pub finishLenDef : SSTableIndexBuilder → List ℕ → List ℕ → FinishLen
 finishLenDef b B K = lenStep (listNo b B K) (length (areaIndex b B K))

@@ -1,7 +1,7 @@
 -- A group read (document 01, "Opening and lookups", rows 15 and 16): its rule, and the values in its bits.
 use Prim.Native.Nat.{ℕ, zero, suc, _+_, _-_, _*_, _/_, _%_, _^_}
 use mathlib.Core.Bool.{Bool, not, _||_, cond}
-use lib.Dec.{eqb, ltb}
+use lib.Dec.{eqb, ltb, leb}
 use Rattle.bitpacker.specs.Bits.{bytesOf}
 use Rattle.bitpacker.specs.Fields.{rangeBit, ordinalBit, groupBits}
 use Rattle.group.specs.Legal.{limit}
@@ -18,6 +18,10 @@ groupBad m count len =
     widthBad (m .«first_ordinal_nbits») || widthBad (m .«range_start_nbits»)
     || not (eqb (m .«block_len» + 1) count)
     || ltb len (m .offset + bytesOf (groupBits (m .«range_start_nbits») (m .«first_ordinal_nbits») (m .«block_len»)))
+
+-- row 16 for a group's first values: one is outside the range
+abbrev pub firstBad : BlockAddrBlockMetadata → Bool
+firstBad m = leb limit (m .«range_start») || leb limit (m .«first_ordinal»)
 
 -- a value read: first value + field + slope × i - 2^(width-1), over the whole numbers; one below 0 stands as the limit, which is outside too
 unfoldable pub valueRead : ℕ → ℕ → ℕ → ℕ → ℕ → ℕ

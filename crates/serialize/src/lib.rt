@@ -1,14 +1,14 @@
 // Little-endian numbers in slices of bytes: the Rust's `BinarySerializable` for u16, u32 and u64.
 ghost use mathlib.Core.Path.{_≡_};
 ghost use Prim.Native.Nat.{_+_, _*_, _^_, _≤_, _<_};
-ghost use lib.ListN.{length, take, drop};
+ghost use lib.ListN.{length};
 ghost use lib.Seq.{sets};
-ghost use Rattle.serialize.specs.Digits.{leVal, leBytes};
+ghost use Rattle.serialize.specs.Digits.{numberAt, leBytes};
 
 // The number that the `width` bytes from `at` on spell.
 pub fn deserialize_le(bytes: &[u8], at: usize, width: usize) -> u64
     requires { ⌜ (width ≤ 8) × (at + width ≤ length (now bytes)) ⌝ }
-    ensures { λ r. ⌜ r ≡ leVal (take width (drop at (now (bytes .entry)))) ⌝ }
+    ensures { λ r. ⌜ r ≡ numberAt (now (bytes .entry)) at width ⌝ }
     ensures { λ r. ⌜ r < 2 ^ (8 * width) ⌝ }
 {
     let mut value: u64 = 0;
@@ -38,21 +38,21 @@ pub fn serialize_le(out: &mut [u8], at: usize, width: usize, value: u64)
 
 pub fn deserialize_u64(bytes: &[u8], at: usize) -> u64
     requires { ⌜ at + 8 ≤ length (now bytes) ⌝ }
-    ensures { λ r. ⌜ r ≡ leVal (take 8 (drop at (now (bytes .entry)))) ⌝ }
+    ensures { λ r. ⌜ r ≡ numberAt (now (bytes .entry)) at 8 ⌝ }
 {
     deserialize_le(bytes, at, 8)
 }
 
 pub fn deserialize_u32(bytes: &[u8], at: usize) -> u32
     requires { ⌜ at + 4 ≤ length (now bytes) ⌝ }
-    ensures { λ r. ⌜ r ≡ leVal (take 4 (drop at (now (bytes .entry)))) ⌝ }
+    ensures { λ r. ⌜ r ≡ numberAt (now (bytes .entry)) at 4 ⌝ }
 {
     deserialize_le(bytes, at, 4) as u32
 }
 
 pub fn deserialize_u16(bytes: &[u8], at: usize) -> u16
     requires { ⌜ at + 2 ≤ length (now bytes) ⌝ }
-    ensures { λ r. ⌜ r ≡ leVal (take 2 (drop at (now (bytes .entry)))) ⌝ }
+    ensures { λ r. ⌜ r ≡ numberAt (now (bytes .entry)) at 2 ⌝ }
 {
     deserialize_le(bytes, at, 2) as u16
 }

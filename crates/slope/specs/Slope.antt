@@ -50,7 +50,7 @@ bestSlope (v ∷ vs) =
 unfoldable pub derivation : ℕ → ℕ → ℕ → ℕ
 derivation slope i v = (v - slope * i) + (slope * i - v)
 
--- the largest of the values, numbered from i on; no points: 0
+-- the largest |v - slope × i| of values that are numbered from i on; no points: 0
 unfoldable pub maxDerivation : ℕ → ℕ → List ℕ → ℕ
 maxDerivation slope i [] = 0
 maxDerivation slope i (v ∷ vs) = max (derivation slope i v) (maxDerivation slope (suc i) vs)

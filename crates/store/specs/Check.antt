@@ -2,12 +2,10 @@
 use Prim.Native.Nat.{ℕ, zero, suc}
 use mathlib.Core.List.{List}
 use mathlib.Core.Bool.{Bool, false, _||_, cond}
-use lib.Dec.{leb}
 use lib.ListN.{length}
 use Rattle.group.specs.declared.BlockAddr.{BlockAddr}
-use Rattle.group.specs.Legal.{limit}
 use Rattle.group.specs.Rows.{numbersBad, joinBad, ordinalBad}
-use Rattle.group.specs.Read.{groupBad}
+use Rattle.group.specs.Read.{groupBad, firstBad}
 use Rattle.store.specs.Store.{groupCount}
 use Rattle.store.specs.Read.{groupMeta, groupLen, storeBlock}
 
@@ -19,7 +17,7 @@ groupsBad L recs addr n (suc k) = groupsBad L recs addr n k || groupBad (groupMe
 -- row 16: a first value of one of the first k groups is outside the range
 unfoldable pub firstsBad : List ℕ → ℕ → Bool
 firstsBad recs zero = false
-firstsBad recs (suc k) = firstsBad recs k || (leb limit (groupMeta recs k .«range_start») || leb limit (groupMeta recs k .«first_ordinal»))
+firstsBad recs (suc k) = firstsBad recs k || firstBad (groupMeta recs k)
 
 -- row 16: one of the first m blocks breaks 3, which a value read outside the range does, or 4 or 5 behind the one before it
 unfoldable pub blocksBad : (ℕ → BlockAddr) → ℕ → Bool

@@ -6,7 +6,7 @@ use Rattle.group.specs.Blocks.{blockAt}
 use Rattle.group.specs.Legal.{Legal}
 use Rattle.store.specs.Store.{groupCount}
 
--- a group's length
+-- a group's length, 1 to 256
 pub record GroupLenOk (L : ℕ) : Type 0 where
   pub some : 1 ≤ L
   pub few : L ≤ 256
@@ -18,7 +18,7 @@ pub record StoreArea (area : List ℕ) (stride n : ℕ) : Type 0 where
   pub inside : stride * n ≤ length area
   pub legal : Legal (blockAt area stride) n
 
--- group records for n blocks
+-- enough group records for n blocks, 1 to 65,536
 pub record RecordsOk (L : ℕ) (recs : List ℕ) (n : ℕ) : Type 0 where
   pub some : 1 ≤ n
   pub few : n ≤ 65536

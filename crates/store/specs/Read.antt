@@ -3,15 +3,14 @@ use Prim.Native.Nat.{ℕ, _-_, _*_, _/_, _%_, _≤_, _<_, min}
 use mathlib.Core.Path.{_≡_}
 use mathlib.Core.List.{List}
 use mathlib.Core.Bool.{Bool, false, _||_, cond}
-use lib.Dec.{leb}
 use lib.ListN.{length, drop}
 use Rattle.serialize.specs.Digits.{leVal}
 use Rattle.group.specs.declared.BlockAddr.{BlockAddr}
 use Rattle.group.specs.declared.BlockAddrBlockMetadata.{BlockAddrBlockMetadata}
-use Rattle.group.specs.Legal.{limit, NumbersOk, Legal}
+use Rattle.group.specs.Legal.{NumbersOk, Legal}
 use Rattle.group.specs.Rows.{numbersBad}
 use Rattle.group.specs.Meta.{metaAt}
-use Rattle.group.specs.Read.{groupBad, blockRead}
+use Rattle.group.specs.Read.{groupBad, firstBad, blockRead}
 use Rattle.store.specs.Store.{groupCount}
 use Rattle.store.specs.declared.Got.{Got}
 use Rattle.store.specs.declared.Got.the-variants.{Block, Broken}
@@ -33,9 +32,7 @@ storeBlock L recs addr i =
 
 -- a group that breaks row 15, or whose first values are outside row 16's range
 unfoldable pub metaBad : ℕ → List ℕ → List ℕ → ℕ → ℕ → Bool
-metaBad L recs addr n g =
-    groupBad (groupMeta recs g) (groupLen L n g) (length addr)
-    || (leb limit (groupMeta recs g .«range_start») || leb limit (groupMeta recs g .«first_ordinal»))
+metaBad L recs addr n g = groupBad (groupMeta recs g) (groupLen L n g) (length addr) || firstBad (groupMeta recs g)
 
 -- what a lookup of block i finds: it, or that its group is broken or its numbers break row 3 (row 20)
 unfoldable pub storeGet : ℕ → List ℕ → List ℕ → ℕ → ℕ → Got

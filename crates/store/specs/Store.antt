@@ -12,7 +12,7 @@ use Rattle.group.specs.Write.{metaOf, addrBytes}
 abbrev pub groupCount : ℕ → ℕ → ℕ
 groupCount L n = (n + (L - 1)) / L
 
--- the record and the bits of one group
+-- the record and the bits of one group; its bits don't depend on where they stand
 unfoldable pub groupRecord : (List ℕ → ℕ) → ℕ → List BlockAddr → List ℕ
 groupRecord choose offset [] = []
 groupRecord choose offset (b ∷ bs) = metaBytes (metaOf choose offset b bs)
