@@ -1,5 +1,5 @@
 -- The bits of a word under `+`, `-`, `|`, `&`, `!` and shifts.
-use mathlib.Core.Path.{_≡_, refl, sym, ap, _∙_}
+use mathlib.Core.Path.{_≡_, refl, sym, ap, _∙_, subst}
 use mathlib.Core.Logic.{_≢_}
 use Prim.Native.Nat.{ℕ, zero, suc, _+_, _-_, _*_, _/_, _%_, _^_, _≤_, _<_, min, max}
 use native.Mathlib.Nat.{pow-suc, zero-add, one-mul, lt-of-not-le, mod-lt}
@@ -10,7 +10,7 @@ use lib.Dec.{lit<, eqb}
 use lib.Arith.{le-zero}
 use lib.Pow.{pow-pos, shr-le, shr-shr, shl-shr, shl-exact, field, mod-mod-pow}
 use lib.Bits.{bitAnd, bitOr, and-step, or-step, and-mask, and-self, or-zero-r}
-use lib.Count.{trailingZeros, under}
+use lib.Count.{trailingZeros, under, leadingZeros, leading-top}
 use Rattle.automaton.specs.Bits.{bit, Exactly}
 use Rattle.automaton.proofs.Exact.{exactly-eqb, exactly-not}
 
@@ -106,7 +106,36 @@ bit-trailing (suc k) w p h = go (w % 2) refl (λ q. bit-trailing k (w / 2) q (le
     go zero e i = i (omega arith)
     go (suc r) e i = omega arith
 
--- `w & (w - 1)` clears it
+-- no bit below it
+pub bit-under : (k w s : ℕ) → s < trailingZeros k w → bit w s ≡ 0
+unfolding bit trailingZeros
+bit-under zero w s h = absurd (omega arith)
+bit-under (suc k) w s h = go (w % 2) refl s h (λ j. bit-under k (w / 2) j)
+  where
+    go : (r : ℕ) → w % 2 ≡ r → (j : ℕ) → j < under r (trailingZeros k (w / 2)) → ((i : ℕ) → i < trailingZeros k (w / 2) → bit (w / 2) i ≡ 0) → bit w j ≡ 0
+    go zero e zero h f = e
+    go zero e (suc j) h f = f j (omega arith)
+    go (suc r) e j h f = absurd (omega arith)
+
+-- ---- the highest set bit
+pub bit-high : (j w : ℕ) → 2 ^ j ≤ w → w < 2 ^ suc j → bit w j ≡ 1
+unfolding bit
+bit-high zero w l h = omega arith
+bit-high (suc j) w l h =
+    let p = pow-suc 2 j in
+    let q = pow-suc 2 (suc j) in
+    bit-high j (w / 2) (omega (arith, p)) (omega (arith, p, q))
+
+abbrev pub Highest : ℕ → ℕ → ℕ → Type 0
+Highest k w r = (r < k) × (bit w r ≡ 1) × ((s : ℕ) → r < s → bit w s ≡ 0)
+
+pub bit-leading : (k w r : ℕ) → 0 < w → w < 2 ^ k → leadingZeros k w + suc r ≡ k → Highest k w r
+bit-leading k w r p h e =
+    let (j, q, l, g) = leading-top k w p h in
+    let s : j ≡ r = omega arith in
+    subst (Highest k w) s (omega arith, bit-high j w l g, λ s d. bit-top (suc j) w s g (omega arith))
+
+-- `w & (w - 1)` clears the lowest
 pub and-pred : (k w : ℕ) → 0 < w → w < 2 ^ k → bitAnd w (w - 1) ≡ w - 2 ^ trailingZeros k w
 unfolding trailingZeros
 and-pred zero w p h = omega arith

@@ -1,9 +1,10 @@
--- Which bytes lead from a state to one that can match: four words of 64 bits a state.
+-- Which bytes lead from a state to one that can match: four words of 64 bits a state, and the lowest and the highest of them.
 use Prim.Native.Nat.{ℕ, _+_, _*_, _/_, _%_, _≤_, _<_}
 use mathlib.Core.Path.{_≡_}
 use mathlib.Core.List.{List}
+use lib.Dec.{ltb}
 use lib.ListN.{length, getD}
-use Rattle.automaton.specs.Bits.{bit}
+use Rattle.automaton.specs.Bits.{bit, Exactly}
 use Rattle.automaton.specs.Table.{states, next}
 use Rattle.automaton.specs.Words.{CanMatch}
 
@@ -23,3 +24,21 @@ pub record LiveByte (t : List ℕ) (s lo hi : ℕ) : Type 0 where
   pub low : lo ≤ byte
   pub high : byte < hi
   pub rest : CanMatch t (next t s byte)
+
+-- the lowest byte that leads on from s, 256 where none does
+abbrev pub First : List ℕ → ℕ → ℕ → Type 0
+First t s first = (hi : ℕ) → hi ≤ 256 → Exactly (ltb first hi) (LiveByte t s 0 hi)
+
+-- one more than the highest byte that leads on from s, 0 where none does
+abbrev pub End : List ℕ → ℕ → ℕ → Type 0
+End t s end = (lo : ℕ) → Exactly (ltb lo end) (LiveByte t s lo 256)
+
+-- for each state the lowest
+pub record Firsts (t firsts : List ℕ) : Type 0 where
+  pub long : length firsts ≡ 64
+  pub each : (s : ℕ) → s < states t → First t s (getD firsts s 0)
+
+-- for each state one more than the highest
+pub record Ends (t ends : List ℕ) : Type 0 where
+  pub long : length ends ≡ 64
+  pub each : (s : ℕ) → s < states t → End t s (getD ends s 0)

@@ -22,9 +22,17 @@ pub fn with(word: u64, s: usize) -> u64
 // The place of the lowest set bit.
 pub fn lowest(word: u64) -> usize
     requires { ⌜ 0 < word ⌝ }
-    ensures { λ r. ⌜ (r < 64) × (r ≡ trailingZeros 64 word) × (bit word r ≡ 1) ⌝ }
+    ensures { λ r. ⌜ (r < 64) × (r ≡ trailingZeros 64 word) × (bit word r ≡ 1) × ((s : ℕ) → s < r → bit word s ≡ 0) ⌝ }
 {
     u64::trailing_zeros(word) as usize
+}
+
+// The place of the highest set bit.
+pub fn highest(word: u64) -> usize
+    requires { ⌜ 0 < word ⌝ }
+    ensures { λ r. ⌜ (r < 64) × (bit word r ≡ 1) × ((s : ℕ) → r < s → bit word s ≡ 0) ⌝ }
+{
+    63 - u64::leading_zeros(word) as usize
 }
 
 // The word without its lowest set bit.

@@ -1,12 +1,14 @@
 // The bytes that lead from each state to one that can match.
 use crate::bits::any_set;
+use crate::bits::highest;
+use crate::bits::lowest;
 ghost use mathlib.Core.Path.{_≡_};
 ghost use Prim.Native.Nat.{ℕ, _+_, _≤_, _<_};
 ghost use lib.ListN.{length, getD};
 ghost use Rattle.automaton.specs.Bits.{bit, Exactly};
 ghost use Rattle.automaton.specs.Table.{WellFormed, states};
 ghost use Rattle.automaton.specs.Words.{Reach};
-ghost use Rattle.automaton.specs.Live.{Live, LiveByte};
+ghost use Rattle.automaton.specs.Live.{Live, LiveByte, First, End, Firsts, Ends};
 
 // Of the 64 next states from `at` on, the word of those that can match.
 fn live_word(table: &[u8], reach: u64, at: usize) -> u64
@@ -53,4 +55,68 @@ pub fn any_byte(table: &[u8], live: &[u64; 256], state: usize, lo: usize, hi: us
         b = first + 64;
     }
     false
+}
+
+// The lowest byte that leads on from a state: in the first word that isn't 0. 256 where there is none.
+// The table is there for the contract alone.
+fn first(table: &[u8], live: &[u64; 256], state: usize) -> u16
+    requires { ⌜ WellFormed (now table) × Live (now table) (now live) × (state < states (now table)) ⌝ }
+    ensures { λ r. ⌜ First (now (table .entry)) state r ⌝ }
+{
+    let mut i: usize = 0;
+    while i < 4 {
+        let word = live[4 * state + i];
+        if word != 0 {
+            return (i * 64 + lowest(word)) as u16;
+        }
+        i += 1;
+    }
+    256
+}
+
+// One more than the highest byte that leads on from a state: in the last word that isn't 0. 0 where there is none.
+// The table is there for the contract alone.
+fn end(table: &[u8], live: &[u64; 256], state: usize) -> u16
+    requires { ⌜ WellFormed (now table) × Live (now table) (now live) × (state < states (now table)) ⌝ }
+    ensures { λ r. ⌜ End (now (table .entry)) state r ⌝ }
+{
+    let mut i: usize = 4;
+    while i > 0 {
+        i -= 1;
+        let word = live[4 * state + i];
+        if word != 0 {
+            return (i * 64 + highest(word) + 1) as u16;
+        }
+    }
+    0
+}
+
+// For each state the lowest byte that leads on.
+pub fn firsts(table: &[u8], live: &[u64; 256]) -> [u16; 64]
+    requires { ⌜ WellFormed (now table) × Live (now table) (now live) ⌝ }
+    ensures { λ r. ⌜ Firsts (now (table .entry)) r ⌝ }
+{
+    let m = table[0] as usize;
+    let mut bytes: [u16; 64] = [256; 64];
+    let mut s: usize = 0;
+    while s < m {
+        bytes[s] = first(table, live, s);
+        s += 1;
+    }
+    bytes
+}
+
+// For each state one more than the highest byte that leads on.
+pub fn ends(table: &[u8], live: &[u64; 256]) -> [u16; 64]
+    requires { ⌜ WellFormed (now table) × Live (now table) (now live) ⌝ }
+    ensures { λ r. ⌜ Ends (now (table .entry)) r ⌝ }
+{
+    let m = table[0] as usize;
+    let mut bytes: [u16; 64] = [0; 64];
+    let mut s: usize = 0;
+    while s < m {
+        bytes[s] = end(table, live, s);
+        s += 1;
+    }
+    bytes
 }

@@ -15,6 +15,36 @@ pub fn compute_num_bits(value: u64) -> u8
     if amplitude <= 56 { amplitude as u8 } else { 64 }
 }
 
+// The number that the last bytes spell, fewer than eight. Each count has its own loads and no loop, and the code is too long
+// to be copied to every call of `load`.
+fn load_tail(data: &[u8], at: usize, left: usize) -> u64
+    requires { ⌜ (left < 8) × (at + left ≤ length (now «data»)) ⌝ }
+    ensures { λ r. ⌜ r ≡ leVal (take left (drop at (now («data» .entry)))) ⌝ }
+{
+    if left >= 7 {
+        return serialize::deserialize_le(data, at, 7);
+    }
+    if left >= 6 {
+        return serialize::deserialize_le(data, at, 6);
+    }
+    if left >= 5 {
+        return serialize::deserialize_le(data, at, 5);
+    }
+    if left >= 4 {
+        return serialize::deserialize_le(data, at, 4);
+    }
+    if left >= 3 {
+        return serialize::deserialize_le(data, at, 3);
+    }
+    if left >= 2 {
+        return serialize::deserialize_le(data, at, 2);
+    }
+    if left >= 1 {
+        return serialize::deserialize_le(data, at, 1);
+    }
+    0
+}
+
 // The number that the eight bytes from `at` on spell, or those that are left.
 fn load(data: &[u8], at: usize) -> u64
     requires { ⌜ at ≤ length (now «data») ⌝ }
@@ -24,7 +54,7 @@ fn load(data: &[u8], at: usize) -> u64
     if left >= 8 {
         serialize::deserialize_u64(data, at)
     } else {
-        serialize::deserialize_le(data, at, left)
+        load_tail(data, at, left)
     }
 }
 

@@ -1,24 +1,21 @@
 -- Laws of the lookups: what the store and the directory find is what the index's lookups are defined to find.
-use mathlib.Core.Path.{_≡_, refl, ap, _∙_}
-use mathlib.Core.Bool.{true}
+use mathlib.Core.Path.{_≡_, refl, sym, _∙_}
+use mathlib.Core.Bool.{true, true≢false}
 use mathlib.Core.List.{List}
 use mathlib.Core.Logic.{_⊎_, inl, inr}
-use Prim.Native.Nat.{ℕ, _/_, _<_}
+use Prim.Native.Nat.{ℕ, _<_}
 use native.Mathlib.Omega.{arith}
 use denote.Enum.Declared.{tagOf}
 use lib.ListN.{length, drop, length-take, length-drop}
 use Rattle.keys.specs.Order.{_≺_}
-use Rattle.keys.proofs.Order.{by-test}
 use Rattle.group.specs.declared.BlockAddr.{BlockAddr}
-use Rattle.group.specs.Legal.{NumbersOk}
+use Rattle.group.specs.Legal.{Legal}
 use Rattle.group.specs.Rows.{numbersBad}
-use Rattle.group.proofs.Legal.{numbers-ok}
-use Rattle.store.specs.Read.{storeBlock, metaBad, storeGet, StoreOk, LocatedAs}
+use Rattle.group.proofs.Legal.{numbers-good}
+use Rattle.store.specs.Read.{storeBlock, blockOr, StoreOk, LocatedAs}
 use Rattle.store.specs.Facts.{GroupLenOk, RecordsOk}
-use Rattle.store.specs.declared.Got.{Got}
-use Rattle.store.specs.declared.Got.the-variants.{Block, Broken}
 use Rattle.store.specs.declared.Located.{Located}
-use Rattle.store.proofs.Lookup.{get-block}
+use Rattle.store.proofs.Lookup.{read-block}
 use Rattle.directory.specs.Read.{keyOf, Sorted, FoundAs}
 use Rattle.directory.specs.declared.read.Found.{Found}
 use Rattle.directory.specs.declared.read.Found.the-variants.{At, Above, Outside}
@@ -43,23 +40,11 @@ enough-records L f opened recs fits e = record {
   long = rw e (omega (arith, fits, length-take (opened .«metas_len») (drop (opened .metas) f), length-drop (opened .metas) f));
 }
 
--- ---- a block that was got
+-- ---- a block that was read
 
-pub not-broken : (g : Got) (b : BlockAddr) → g ≡ Broken → g ≡ Block b → ⊥
-not-broken g b p q = let z : _≡_ {A = ℕ} 0 1 = cc in omega arith
-
-pub same-block : (g : Got) (a b : BlockAddr) → g ≡ Block a → g ≡ Block b → a ≡ b
-same-block g a b p q = cc
-
--- it keeps row 3
-pub got-numbers : (L : ℕ) (recs addr : List ℕ) (n i : ℕ) (b : BlockAddr) → Block b ≡ storeGet L recs addr n i → NumbersOk b
-unfolding storeGet
-got-numbers L recs addr n i b e =
-    by-test (metaBad L recs addr n (i / L))
-    (λ t. absurd (not-broken (Block b) b (rw t at e) refl))
-    (λ kept. by-test (numbersBad (storeBlock L recs addr i))
-    (λ t. absurd (not-broken (Block b) b (rw (kept, t) at e) refl))
-    (λ good. numbers-ok b (ap numbersBad (same-block (Block b) b (storeBlock L recs addr i) refl (rw (kept, good) at e)) ∙ good)))
+-- a legal one keeps row 3
+pub kept : (block : ℕ → BlockAddr) (n i : ℕ) (b : BlockAddr) → Legal block n → i < n → b ≡ block i → numbersBad b ≡ true → ⊥
+kept block n i b legal h e bad = true≢false (sym bad ∙ numbers-good b (rw e (legal .numbers i h)))
 
 -- ---- a key that was found
 
@@ -102,12 +87,12 @@ module _ (L : ℕ) (f : List ℕ) (opened : SSTableIndexV3) (facts : OpenFacts L
     addr-are = q ∙ facts .addrs
 
     -- by id
-    pub got-as : (id : ℕ) (g : Got) → id < opened .n → g ≡ storeGet L recs addr (opened .n) id → g ≡ Block (blockIn L f id)
+    pub got-as : (id : ℕ) (b : BlockAddr) → id < opened .n → b ≡ blockOr L recs addr (opened .n) id → b ≡ blockIn L f id
     unfolding blockIn
-    got-as id g h e =
+    got-as id b h e =
         e
         ∙ rw (recs-are, addr-are, facts .count)
-        (get-block L (recordsPart f) (addrsPart f) (countIn f) id (facts .group .some) (facts .ok) (rw (facts .count) at h))
+        (read-block L (recordsPart f) (addrsPart f) (countIn f) id (facts .group .some) (facts .ok) (rw (facts .count) at h))
 
     -- by ordinal
     pub located-as : (ord : ℕ) (r : Located)

@@ -4,8 +4,6 @@ ghost use Prim.Native.Nat.{_+_, _≤_, _<_};
 ghost use lib.Dec.{ltb};
 ghost use lib.ListN.{length, take, drop};
 ghost use Rattle.store.specs.Facts.{GroupLenOk};
-ghost use Rattle.group.specs.declared.BlockAddr.{BlockAddr};
-ghost use Rattle.group.specs.Legal.{NumbersOk};
 ghost use Rattle.directory.specs.Read.{FoundIn, FoundAs};
 ghost use Rattle.index.specs.Parts.{blockIn, separatorIn};
 ghost use Rattle.index.specs.Opening.{Opens};
@@ -17,7 +15,7 @@ use crate::LocatedId;
 use crate::Place;
 use crate::SSTableIndexV3;
 use directory::read::Found;
-use store::Got;
+use group::BlockAddr;
 
 const MAX_BLOCKS: usize = 65536;
 
@@ -67,13 +65,12 @@ pub fn opened_bad(opened: SSTableIndexV3, len: usize, group_len: usize) -> bool
     opened.metas_len < META_LEN * store::write::group_count(opened.n, group_len)
 }
 
-// Block `id` as the store gives it.
-fn get(opened: SSTableIndexV3, data: &[u8], group_len: usize, id: usize) -> Got
+// Block `id` as the store gives it: where its group can't be read, its numbers break row 3.
+fn get(opened: SSTableIndexV3, data: &[u8], group_len: usize, id: usize) -> BlockAddr
     requires { ⌜ GroupLenOk «group_len» × OpenedFits «group_len» opened (length (now «data»)) × (id < opened .n) ⌝ }
-    ensures { λ r. ⌜ ((block : BlockAddr) → r ≡ Got.Block block → NumbersOk block) ⌝ }
-    ensures { λ r. ⌜ (Opens «group_len» (now («data» .entry)) opened → r ≡ Got.Block (blockIn «group_len» (now («data» .entry)) id)) ⌝ }
+    ensures { λ r. ⌜ (Opens «group_len» (now («data» .entry)) opened → r ≡ blockIn «group_len» (now («data» .entry)) id) ⌝ }
 {
-    store::read::get(
+    store::read::block(
         part(data, opened.metas, opened.metas_len),
         part(data, opened.addrs, opened.addrs_len),
         opened.n,
@@ -112,9 +109,10 @@ pub fn get_block(opened: SSTableIndexV3, data: &[u8], group_len: usize, block_id
     if block_id >= opened.n as u64 {
         return BlockById::Refused(17);
     }
-    let Got::Block(block) = get(opened, data, group_len, block_id as usize) else {
+    let block = get(opened, data, group_len, block_id as usize);
+    if group::rows::numbers_bad(block) {
         return BlockById::Refused(20);
-    };
+    }
     BlockById::Block(block)
 }
 
@@ -170,9 +168,10 @@ pub fn get_block_with_key(
     let Found::At(id) = found else {
         return Located::Refused(refusal(found));
     };
-    let Got::Block(block) = get(opened, data, group_len, id) else {
+    let block = get(opened, data, group_len, id);
+    if group::rows::numbers_bad(block) {
         return Located::Refused(20);
-    };
+    }
     Located::At(id, block)
 }
 

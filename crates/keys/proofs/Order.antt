@@ -7,7 +7,7 @@ use mathlib.Core.Bool.{Bool, true, false}
 use native.Mathlib.Omega.{arith}
 use native.Mathlib.Numerals.{add-one}
 use lib.Dec.{eqb, ltb}
-use lib.ListN.{length, take, drop, getD, drop-of-length-le}
+use lib.ListN.{length, take, drop, getD}
 use lib.Seq.{drop-cons}
 use borrow.Author.Tests.{eq-eqb, ne-eqb, eqb-true, eqb-false, lt-ltb, ltb-true, ltb-false}
 use Rattle.keys.specs.Order.{less, _≺_, _≼_, commonPrefixLen}
@@ -180,7 +180,7 @@ commonPrefixLen-differ (x ∷ xs) (y ∷ ys) h k q =
     commonPrefixLen-differ xs ys (omega arith) (omega arith) (simp e at q))
     (λ e. eqb-false x y e (simp e at q))
 
--- counted from index i on: one common byte more, or none where the bytes differ or a byte string ends
+-- counted from index i on: one common byte more, or none where the bytes differ
 pub commonPrefixLen-same : (a b : List ℕ) (i : ℕ) → i < length a → i < length b → getD a i 0 ≡ getD b i 0
     → i + commonPrefixLen (drop i a) (drop i b) ≡ i + 1 + commonPrefixLen (drop (i + 1) a) (drop (i + 1) b)
 unfolding commonPrefixLen
@@ -192,18 +192,6 @@ pub commonPrefixLen-other : (a b : List ℕ) (i : ℕ) → i < length a → i < 
 unfolding commonPrefixLen
 commonPrefixLen-other a b i h k e =
     rw (drop-cons a i 0 h, drop-cons b i 0 k, ne-eqb (getD a i 0) (getD b i 0) e) (omega arith)
-
-commonPrefixLen-nil : (a : List ℕ) → commonPrefixLen a [] ≡ 0
-unfolding commonPrefixLen
-commonPrefixLen-nil [] = refl
-commonPrefixLen-nil (x ∷ xs) = refl
-
-pub commonPrefixLen-end-left : (a b : List ℕ) (i : ℕ) → length a ≤ i → i + commonPrefixLen (drop i a) (drop i b) ≡ i
-unfolding commonPrefixLen
-commonPrefixLen-end-left a b i h = rw (drop-of-length-le a h) (omega arith)
-
-pub commonPrefixLen-end-right : (a b : List ℕ) (i : ℕ) → length b ≤ i → i + commonPrefixLen (drop i a) (drop i b) ≡ i
-commonPrefixLen-end-right a b i h = rw (drop-of-length-le b h, commonPrefixLen-nil (drop i a)) (omega arith)
 
 -- ---- the order, by the common prefix and the bytes behind it
 

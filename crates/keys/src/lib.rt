@@ -1,26 +1,71 @@
 // Keys: the order of byte strings, the common prefix (src/lib.rs) and the shortened separator (src/index/mod.rs).
 ghost use mathlib.Core.Path.{_≡_};
-ghost use Prim.Native.Nat.{ℕ, _+_, _≤_, _<_};
+ghost use Prim.Native.Nat.{ℕ, _+_, _≤_, _<_, min};
 ghost use lib.ListN.{length, take, drop, getD};
 ghost use lib.Seq.{sets};
 ghost use Rattle.keys.specs.Order.{less, commonPrefixLen};
 ghost use Rattle.keys.specs.Shorten.{shorten};
 
-// How many bytes the keys have in common at the front.
-pub fn common_prefix_len(left: &[u8], right: &[u8]) -> usize
-    ensures { λ r. ⌜ r ≡ commonPrefixLen (now (left .entry)) (now (right .entry)) ⌝ }
+// The shorter key's length.
+fn shorter(left: &[u8], right: &[u8]) -> usize
+    ensures { λ r. ⌜ r ≡ min (length (now (left .entry))) (length (now (right .entry))) ⌝ }
+{
+    if left.len() < right.len() {
+        return left.len();
+    }
+    right.len()
+}
+
+// How many of the first `end` bytes the keys have in common, byte by byte.
+fn common_bytes(left: &[u8], right: &[u8], end: usize) -> usize
+    requires { ⌜ (end ≤ length (now left)) × (end ≤ length (now right)) ⌝ }
+    ensures { λ r. ⌜ r ≡ min end (commonPrefixLen (now (left .entry)) (now (right .entry))) ⌝ }
 {
     let mut i = 0;
-    while i < left.len() {
-        if i >= right.len() {
-            return i;
-        }
+    while i < end {
         if left[i] != right[i] {
             return i;
         }
         i += 1;
     }
     i
+}
+
+// How many of the eight bytes from `at` on the keys have in common: a common byte gives eight trailing zeros.
+fn common_of_word(left: &[u8], right: &[u8], at: usize) -> usize
+    requires { ⌜ (at + 8 ≤ length (now left)) × (at + 8 ≤ length (now right)) ⌝ }
+    ensures { λ r. ⌜ r ≡ min 8 (commonPrefixLen (drop at (now (left .entry))) (drop at (now (right .entry)))) ⌝ }
+{
+    let differing = serialize::deserialize_u64(left, at) ^ serialize::deserialize_u64(right, at);
+    u64::trailing_zeros(differing) as usize / 8
+}
+
+// The place of the first word that differs, in steps of eight bytes; `last` where none before it does.
+fn first_other_word(left: &[u8], right: &[u8], last: usize) -> usize
+    requires { ⌜ last + 8 ≡ min (length (now left)) (length (now right)) ⌝ }
+    ensures { λ r. ⌜ (r ≤ last) × (r ≤ commonPrefixLen (now (left .entry)) (now (right .entry))) ⌝ }
+    ensures { λ r. ⌜ commonPrefixLen (now (left .entry)) (now (right .entry)) ≤ r + 8 ⌝ }
+{
+    let mut at = 0;
+    while at < last {
+        if serialize::deserialize_u64(left, at) != serialize::deserialize_u64(right, at) {
+            return at;
+        }
+        at += 8;
+    }
+    last
+}
+
+// How many bytes the keys have in common at the front. The last word may overlap the one before it.
+pub fn common_prefix_len(left: &[u8], right: &[u8]) -> usize
+    ensures { λ r. ⌜ r ≡ commonPrefixLen (now (left .entry)) (now (right .entry)) ⌝ }
+{
+    let short = shorter(left, right);
+    if short < 8 {
+        return common_bytes(left, right, short);
+    }
+    let at = first_other_word(left, right, short - 8);
+    at + common_of_word(left, right, at)
 }
 
 // The common prefix, as the front of the first key.

@@ -1,3 +1,4 @@
+pub mod Following
 pub mod ListedOpened
 pub mod ListedOnce
 pub mod Outside

@@ -3,22 +3,23 @@ use mathlib.Core.Path.{_≡_, refl, sym, ap, _∙_}
 use mathlib.Core.Bool.{Bool, true, false, cond}
 use mathlib.Core.List.{List, [], _∷_, _++_}
 use mathlib.Core.Logic.{⊎-elim, inl, inr}
+use mathlib.Core.Option.{some}
 use Prim.Native.Nat.{ℕ, zero, suc, _+_, _-_, _≤_, _<_}
 use native.Mathlib.Nat.{add-zero, zero-add, add-suc, suc-add, add-assoc}
 use native.Mathlib.Omega.{arith}
-use lib.Dec.{ltb, eqb}
-use borrow.Author.Tests.{lt-ltb}
+use lib.Dec.{eqb}
 use lib.ListN.{length, set, length-append, List·getD-append}
-use lib.Seq.{sets, length-sets, getD-at}
+use lib.Seq.{sets, length-sets, getD-at, set-set}
+use Rattle.automaton.specs.Bits.{Exactly}
 use Rattle.automaton.proofs.Exact.{same-or}
-use Rattle.pruning.specs.Interval.{startOf, Marked}
+use Rattle.pruning.specs.Interval.{Marked}
 use Rattle.listing.specs.Marks.{startAt, Mark, Marks, ones}
 use Rattle.listing.specs.Listing.{Listing}
 
--- the start that the code gives is that of block i
-pub start-at : (separator : ℕ → List ℕ) (i before : ℕ) → (0 < i → before ≡ i - 1) → startOf (ltb 0 i) (separator before) ≡ startAt separator i
-start-at separator zero before h = refl
-start-at separator (suc i) before h = let e : before ≡ i = omega (arith, h (omega arith)) in rw (lt-ltb 0 (suc i) (omega arith), e)
+-- a block behind the first starts at the separator before it
+pub start-behind : (separator : ℕ → List ℕ) (i : ℕ) → 1 ≤ i → startAt separator i ≡ some (separator (i - 1))
+start-behind separator zero h = absurd (omega arith)
+start-behind separator (suc i) h = let e : suc i - 1 ≡ i = omega arith in rw e
 
 -- ---- the count of ones
 pub ones-append : (a b : List ℕ) → ones (a ++ b) ≡ ones a + ones b
@@ -26,14 +27,14 @@ unfolding ones
 ones-append [] b = sym (zero-add (ones b))
 ones-append (x ∷ a) b = rw (ones-append a b, add-assoc (cond (eqb x 1) 1 0) (ones a) (ones b))
 
-one-or-none : (b : Bool) → cond b 1 0 ≤ 1
-one-or-none true = omega arith
-one-or-none false = omega arith
+pub one-at-most : (b : Bool) → cond b 1 0 ≤ 1
+one-at-most true = omega arith
+one-at-most false = omega arith
 
 pub ones-le : (ms : List ℕ) → ones ms ≤ length ms
 unfolding ones
 ones-le [] = omega arith
-ones-le (x ∷ ms) = omega (arith, one-or-none (eqb x 1), ones-le ms)
+ones-le (x ∷ ms) = omega (arith, one-at-most (eqb x 1), ones-le ms)
 
 -- ---- one block more
 sets-more : (d ms : List ℕ) (i x : ℕ) → set (sets d i ms) (i + length ms) x ≡ sets d i (ms ++ (x ∷ []))
@@ -69,11 +70,32 @@ module _ (t : List ℕ) (separator : ℕ → List ℕ) where
       bytes = rw (l .bytes, ← (sets-more marks (l .list) 0 x), zero-add (length (l .list)), l .right .long);
     }
 
-    pub listing-one : Marked t (startAt separator i) (separator i) → Listing t separator (i + 1) marks (set written i 1) (count + 1)
+    listing-one : Marked t (startAt separator i) (separator i) → Listing t separator (i + 1) marks (set written i 1) (count + 1)
     listing-one p = listing-more 1 (inl (refl, p))
 
-    pub listing-zero : (Marked t (startAt separator i) (separator i) → ⊥) → Listing t separator (i + 1) marks (set written i 0) count
+    listing-zero : (Marked t (startAt separator i) (separator i) → ⊥) → Listing t separator (i + 1) marks (set written i 0) count
     listing-zero p = rw add-zero at (listing-more 0 (inr (refl, p)))
+
+    -- the mark that the code writes
+    pub listing-turn : (b : Bool) (x : ℕ) (after : List ℕ) → Exactly b (Marked t (startAt separator i) (separator i)) → x ≡ cond b 1 0 → after ≡ set written i (cond b 1 0) → Listing t separator (i + 1) marks after (count + x)
+    listing-turn true x after m p q = rw (p, q) (listing-one m)
+    listing-turn false x after m p q = rw (p, q, add-zero count) (listing-zero m)
+
+-- ---- marks of which the first was written before
+sets-over : (d ms : List ℕ) (x : ℕ) → 1 ≤ length ms → sets (set d 0 x) 0 ms ≡ sets d 0 ms
+sets-over d [] x h = absurd (omega arith)
+sets-over d (y ∷ ms) x h = ap (λ (l : List ℕ). sets l 1 ms) (set-set d 0 x y)
+
+module _ (marks first : List ℕ) (x : ℕ) (e : first ≡ set marks 0 x) where
+  same-sets : {n : ℕ} (ms : List ℕ) → 1 ≤ n → length ms ≡ n → sets first 0 ms ≡ sets marks 0 ms
+  same-sets ms h l = rw e (sets-over marks ms x (omega arith))
+
+  module _ {t : List ℕ} {separator : ℕ → List ℕ} {n : ℕ} {written : List ℕ} {count : ℕ} (some : 1 ≤ n) where
+    pub listing-over : Listing t separator n first written count → Listing t separator n marks written count
+    listing-over l = record { list = l .list; right = l .right; counted = l .counted; bytes = l .bytes ∙ same-sets (l .list) some (l .right .long) }
+
+    pub listing-under : Listing t separator n marks written count → Listing t separator n first written count
+    listing-under l = record { list = l .list; right = l .right; counted = l .counted; bytes = l .bytes ∙ sym (same-sets (l .list) some (l .right .long)) }
 
 -- ---- what the loop asks of it
 module _ {t : List ℕ} {separator : ℕ → List ℕ} {n : ℕ} {marks written : List ℕ} {count : ℕ} (l : Listing t separator n marks written count) where

@@ -1,2 +1,3 @@
 pub mod Marks
+pub mod Followed
 pub mod Listing

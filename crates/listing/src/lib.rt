@@ -1,14 +1,21 @@
 // The blocks that can hold a key of a pattern: `get_block_for_automaton` of src/index/v3.rs.
 ghost use mathlib.Core.Path.{_≡_};
-ghost use mathlib.Core.Bool.{false};
-ghost use Prim.Native.Nat.{_≤_};
-ghost use lib.ListN.{length};
-ghost use Rattle.automaton.specs.Table.{WellFormed};
+ghost use mathlib.Core.Bool.{false, cond};
+ghost use Prim.Native.Nat.{_≤_, _<_, min};
+ghost use lib.ListN.{length, take, set};
+ghost use Rattle.automaton.specs.Table.{WellFormed, states as stateCount};
+ghost use Rattle.automaton.specs.Words.{run};
 ghost use Rattle.directory.specs.Read.{keyOf};
 ghost use Rattle.listing.specs.Listing.{keysOutside, listingNo, separatorAt, Listing, listedNo, listedCount, ListingLeaves};
+ghost use Rattle.listing.specs.Followed.{Followed};
+use automaton::table::accept;
+use directory::read::key;
 use index::SSTableIndexV3;
 use index::STORE_BLOCK_LEN;
 use index::lookup::opened_bad;
+use pruning::block_match_automaton::accept_prefix;
+use pruning::block_match_automaton::can_block_match;
+use pruning::block_match_automaton::can_block_match_from;
 
 // How many blocks are marked, or a row's number.
 pub enum Listed {
@@ -31,30 +38,80 @@ fn keys_outside(directory: &[u8], n: usize) -> bool
     false
 }
 
-// Marks the n blocks of a directory, 0 or 1 each. Returns how many are 1.
+// The states behind the first bytes of a key, up to n bytes or 1,024: those behind at most `known` bytes are there.
+// Returns how many bytes they are followed.
+fn follow(table: &[u8], key: &[u8], states: &mut [u8; 1025], known: usize, n: usize) -> usize
+    requires { ⌜ WellFormed (now table) × Followed (now table) (now key) (now states) known × (known ≤ 1024) × (n ≤ length (now key)) ⌝ }
+    ensures { λ r. ⌜ (r ≡ min n 1024) × Followed (now (table .entry)) (now (key .entry)) (now (states .exit)) r ⌝ }
+{
+    let end = if n < 1024 { n } else { 1024 };
+    let mut i = if known < end { known } else { end };
+    let mut state = states[i] as usize;
+    while i < end {
+        state = accept(table, state, key[i]);
+        i += 1;
+        states[i] = state as u8;
+    }
+    end
+}
+
+// The state behind the first n bytes of a key, where `known` are followed: all of them, but in a key that no file has.
+fn state_behind(table: &[u8], key: &[u8], states: &[u8; 1025], known: usize, n: usize) -> usize
+    requires { ⌜ WellFormed (now table) × Followed (now table) (now key) (now states) known × (known ≤ 1024) × (n ≤ length (now key)) ⌝ }
+    ensures { λ r. ⌜ (r ≡ run (now (table .entry)) 0 (take n (now (key .entry)))) × (r < stateCount (now (table .entry))) ⌝ }
+{
+    if n == known {
+        return states[n] as usize;
+    }
+    accept_prefix(table, key, n)
+}
+
+// Marks block i with 0 or 1, and returns the mark.
+fn mark(marks: &mut [u8], i: usize, matches: bool) -> usize
+    requires { ⌜ i < length (now marks) ⌝ }
+    ensures { λ r. ⌜ (r ≡ cond «matches» 1 0) × (now (marks .exit) ≡ set (now (marks .entry)) i (cond «matches» 1 0)) ⌝ }
+{
+    if matches {
+        marks[i] = 1;
+        return 1;
+    }
+    marks[i] = 0;
+    0
+}
+
+// Marks the n blocks of a directory, 0 or 1 each. Returns how many are 1. The states along a key are kept for the next:
+// those behind the bytes that it shares.
 fn mark_blocks(directory: &[u8], n: usize, table: &[u8], marks: &mut [u8]) -> usize
-    requires { ⌜ (n ≤ 65536) × (keysOutside (now directory) n n ≡ false) × WellFormed (now table) × (n ≤ length (now marks)) ⌝ }
+    requires { ⌜ ((1 ≤ n) × (n ≤ 65536)) × (keysOutside (now directory) n n ≡ false) × WellFormed (now table) × (n ≤ length (now marks)) ⌝ }
     ensures { λ r. ⌜ Listing (now (table .entry)) (keyOf (now (directory .entry)) n) n (now (marks .entry)) (now (marks .exit)) r ⌝ }
 {
     let reach = automaton::reach::reach(table);
     let live = automaton::live::live(table, reach);
-    let mut count: usize = 0;
-    let mut i: usize = 0;
+    let firsts = automaton::live::firsts(table, &live);
+    let ends = automaton::live::ends(table, &live);
+    let first_key = key(directory, n, 0);
+    let first = can_block_match(table, &live, &firsts, &ends, false, first_key, first_key);
+    let mut count = mark(marks, 0, first);
+    let mut states: [u8; 1025] = [0; 1025];
+    let mut known: usize = 0;
+    let mut i: usize = 1;
     while i < n {
-        let before = if i > 0 { i - 1 } else { 0 };
-        if pruning::block_match_automaton::can_block_match(
+        let start_key = key(directory, n, i - 1);
+        let end_key = key(directory, n, i);
+        let common = keys::common_prefix_len(start_key, end_key);
+        known = follow(table, start_key, &mut states, known, common);
+        let base = state_behind(table, start_key, &states, known, common);
+        let matches = can_block_match_from(
             table,
-            reach,
             &live,
-            i > 0,
-            directory::read::key(directory, n, before),
-            directory::read::key(directory, n, i),
-        ) {
-            marks[i] = 1;
-            count += 1;
-        } else {
-            marks[i] = 0;
-        }
+            &firsts,
+            &ends,
+            base,
+            common,
+            start_key,
+            end_key,
+        );
+        count += mark(marks, i, matches);
         i += 1;
     }
     count

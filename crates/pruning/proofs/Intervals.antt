@@ -4,20 +4,21 @@ use mathlib.Core.List.{List, [], _∷_, _++_}
 use mathlib.Core.Bool.{false, false≢true}
 use mathlib.Core.Option.{none, some}
 use mathlib.Core.Logic.{_⊎_, inl, inr, ⊎-elim, _↔_, Iff·rfl, Iff·trans}
-use Prim.Native.Nat.{ℕ, _+_, _≤_, _<_, zero-le}
+use Prim.Native.Nat.{ℕ, _+_, _-_, _≤_, _<_, zero-le}
 use native.Mathlib.Omega.{arith}
 use native.Mathlib.Numerals.{add-one}
 use lib.Dec.{eqb, ltb}
-use lib.ListN.{length, take, drop, getD, take-append-drop, drop-of-length-le}
+use lib.ListN.{length, take, drop, getD, take-append-drop, drop-of-length-le, length-drop}
 use lib.Seq.{drop-cons}
 use lib.Arith.{lt-of-le-ne}
 use borrow.Author.Tests.{eqb-true, eqb-false, ne-eqb, lt-ltb, ltb-true, ltb-false, le-ltb}
 use Rattle.keys.specs.Order.{less, _≺_, _≼_, commonPrefixLen}
 use Rattle.keys.proofs.Order.{by-test, less-asym, less-append, prefix-≼, prefix-≺, ≺-≼-trans, commonPrefixLen-take, commonPrefixLen-differ, less-end-right, less-at}
 use Rattle.automaton.specs.Table.{flag, next}
-use Rattle.automaton.specs.Words.{Bytes, run, Hits, Word, CanMatch}
+use Rattle.automaton.specs.Words.{Bytes, run, Hits, Word}
 use Rattle.automaton.specs.Live.{LiveByte}
-use Rattle.automaton.proofs.Strings.{word-nil, word-cons, word-map, word-any, word-cases, byte-word, can-match-hits, bytes-take}
+use Rattle.automaton.proofs.Refusal.{part-rest}
+use Rattle.automaton.proofs.Strings.{word-nil, word-cons, word-map, word-cases, byte-word, can-match-hits, bytes-take}
 use Rattle.pruning.specs.Interval.{Marked, MatchAbove, MatchBetween}
 
 -- ---- the order, by first bytes
@@ -154,6 +155,13 @@ between-lower t s x y a b l hy = (
     both c w i (inl lo) (inr q) = inr (inr (upto-split t (next t s y) b .0 (from s (λ v. v ≼ b) c y (q .0) i (q .1))))
     both c w i (inr q) hi = inr (inl (from s (λ v. a ≺ v) c x (sym (q .0)) i (q .1)))
 
+-- the same by the bytes of two keys
+pub between-heads : (t : List ℕ) (s : ℕ) (a b : List ℕ) → 0 < length a → 0 < length b → getD a 0 0 < getD b 0 0 → getD b 0 0 < 256
+    → MatchBetween t s a b ↔ Parted t s (getD a 0 0) (getD b 0 0) (drop 1 a) (drop 1 b)
+between-heads t s [] b ha hb l h = absurd (omega arith)
+between-heads t s (x ∷ a) [] ha hb l h = absurd (omega arith)
+between-heads t s (x ∷ a) (y ∷ b) ha hb l h = between-lower t s x y a b l h
+
 -- the run over a common prefix
 pub between-prefix : (t : List ℕ) (s : ℕ) (p a b : List ℕ) → Bytes p → MatchBetween t s (p ++ a) (p ++ b) ↔ MatchBetween t (run t s p) a b
 unfolding run
@@ -176,19 +184,19 @@ marked-some t a end = Iff·rfl
 pub drop-byte : (key : List ℕ) (i : ℕ) → i < length key → drop i key ≡ getD key i 0 ∷ drop (i + 1) key
 drop-byte key i h = rw add-one (drop-cons key i 0 h)
 
-pub after-at : (t : List ℕ) (s : ℕ) (key : List ℕ) (i : ℕ) → i < length key → getD key i 0 < 256
-    → MatchAbove t s (drop i key) ↔ (LiveByte t s (getD key i 0 + 1) 256 ⊎ MatchAbove t (next t s (getD key i 0)) (drop (i + 1) key))
-after-at t s key i h g = rw (drop-byte key i h) (after-cons t s (getD key i 0) (drop (i + 1) key) g)
-
-pub upto-at : (t : List ℕ) (s : ℕ) (key : List ℕ) (i : ℕ) → i < length key → getD key i 0 < 256
-    → MatchBetween t s [] (drop i key) ↔ (LiveByte t s 0 (getD key i 0) ⊎ ((flag t (next t s (getD key i 0)) ≡ 1) ⊎ MatchBetween t (next t s (getD key i 0)) [] (drop (i + 1) key)))
-upto-at t s key i h g = rw (drop-byte key i h) (upto-cons t s (getD key i 0) (drop (i + 1) key) g)
-
 pub after-end : (t : List ℕ) (s : ℕ) (key : List ℕ) (i : ℕ) → length key ≤ i → MatchAbove t s (drop i key) ↔ LiveByte t s 0 256
 after-end t s key i h = rw (drop-of-length-le key h) (after-nil t s)
 
 pub upto-end : (t : List ℕ) (s : ℕ) (key : List ℕ) (i : ℕ) → length key ≤ i → MatchBetween t s [] (drop i key) → ⊥
 upto-end t s key i h = rw (drop-of-length-le key h) (upto-nil t s)
+
+-- the code's part of a key from byte n on, which isn't its end
+module _ (key : List ℕ) (n : ℕ) (h : n < length key) where
+  pub part-some : 0 < length (take (length key - n) (drop n key))
+  part-some = rw (part-rest key n) (simp length-drop (omega arith))
+
+  pub part-first : getD (take (length key - n) (drop n key)) 0 0 ≡ getD key n 0
+  part-first = rw (part-rest key n, drop-byte key n h)
 
 -- ---- two keys, by the length n of their common prefix
 module _ (t : List ℕ) (s : ℕ) (a b : List ℕ) {n : ℕ} (e : n ≡ commonPrefixLen a b) where
@@ -198,6 +206,9 @@ module _ (t : List ℕ) (s : ℕ) (a b : List ℕ) {n : ℕ} (e : n ≡ commonPr
   pub common-above : n < length a → n < length b → getD b n 0 < getD a n 0 → MatchBetween t s a b → ⊥
   common-above ha hb h = between-none t s a b (less-at a b (omega arith) (omega arith) ∙ rw (sym e) (le-ltb (getD a n 0) (getD b n 0) (omega arith)))
 
+  pub common-below : n < length a → n < length b → getD a n 0 ≤ getD b n 0 → getD a n 0 < getD b n 0
+  common-below ha hb h = lt-of-le-ne h (subst (λ (k : ℕ). getD a k 0 ≡ getD b k 0 → ⊥) (sym e) (commonPrefixLen-differ a b (omega arith) (omega arith)))
+
   module _ (bytes : Bytes a) {base : ℕ} (r : base ≡ run t s (take n a)) where
     pub common-run : MatchBetween t s a b ↔ MatchBetween t base (drop n a) (drop n b)
     common-run =
@@ -205,17 +216,6 @@ module _ (t : List ℕ) (s : ℕ) (a b : List ℕ) {n : ℕ} (e : n ≡ commonPr
         let same : take n a ≡ take n b = rw e (commonPrefixLen-take a b) in
         rw r (subst₂ (λ (x y : List ℕ). MatchBetween t s x y ↔ MatchBetween t (run t s (take n a)) (drop n a) (drop n b)) (take-append-drop n a) (rw same (take-append-drop n b)) i)
 
-    pub common-can : MatchBetween t s a b → CanMatch t base
-    common-can m = word-any (λ w. (drop n a ≺ w) × (w ≼ drop n b)) (common-run .0 m)
-
     -- the start is the prefix
     pub common-end : length a ≤ n → MatchBetween t s a b ↔ MatchBetween t base [] (drop n b)
     common-end h = rw (drop-of-length-le a h) at common-run
-
-    -- the start's next byte is below the end's
-    pub common-lower : n < length a → n < length b → getD b n 0 < 256 → getD a n 0 ≤ getD b n 0
-        → MatchBetween t s a b ↔ Parted t base (getD a n 0) (getD b n 0) (drop (n + 1) a) (drop (n + 1) b)
-    common-lower ha hb hy h =
-        let l : getD a n 0 < getD b n 0 = lt-of-le-ne h (subst (λ (k : ℕ). getD a k 0 ≡ getD b k 0 → ⊥) (sym e) (commonPrefixLen-differ a b (omega arith) (omega arith))) in
-        let i : MatchBetween t s a b ↔ MatchBetween t base (getD a n 0 ∷ drop (n + 1) a) (getD b n 0 ∷ drop (n + 1) b) = rw (drop-byte a n ha, drop-byte b n hb) at common-run in
-        Iff·trans i (between-lower t base (getD a n 0) (getD b n 0) (drop (n + 1) a) (drop (n + 1) b) l hy)

@@ -1,65 +1,52 @@
-// The walk over a block's two keys, by the words of the states and bytes that lead to acceptance.
+// The walk over a block's two keys, by the bytes that lead to acceptance from each state.
 ghost use mathlib.Core.Path.{_≡_};
 ghost use mathlib.Core.List.{[]};
 ghost use Prim.Native.Nat.{ℕ, _≤_, _<_};
-ghost use lib.ListN.{length, take};
+ghost use lib.ListN.{length, take, getD};
+ghost use Rattle.keys.specs.Order.{commonPrefixLen};
 ghost use Rattle.automaton.specs.Bits.{Exactly};
 ghost use Rattle.automaton.specs.Table.{WellFormed, states};
-ghost use Rattle.automaton.specs.Words.{Reach, run};
-ghost use Rattle.automaton.specs.Live.{Live};
+ghost use Rattle.automaton.specs.Words.{run};
+ghost use Rattle.automaton.specs.Live.{Firsts, Ends};
 ghost use Rattle.pruning.specs.Interval.{startOf, Marked, MatchAbove, MatchBetween};
+ghost use Rattle.pruning.specs.Prepared.{Prepared};
 use automaton::live::any_byte;
-use automaton::reach::can_match;
 use automaton::table::accept;
 use automaton::table::is_match;
 
-// Whether a string above `start_key` can match from `state` on.
-fn match_range_start(
-    table: &[u8],
-    reach: u64,
-    live: &[u64; 256],
-    start_key: &[u8],
-    state: usize,
-) -> bool
-    requires { ⌜ WellFormed (now table) × Reach (now table) reach × Live (now table) (now live) × (state < states (now table)) ⌝ }
+// Whether a string above `start_key` can match from `state` on. Where the highest byte that leads on is the key's,
+// the walk goes on behind it; a higher one matches, and below it the key's own leads nowhere.
+fn match_range_start(table: &[u8], ends: &[u16; 64], start_key: &[u8], state: usize) -> bool
+    requires { ⌜ WellFormed (now table) × Ends (now table) (now ends) × (state < states (now table)) ⌝ }
     ensures { λ r. ⌜ Exactly r (MatchAbove (now (table .entry)) state (now («start_key» .entry))) ⌝ }
 {
     let mut at = state;
     let mut i: usize = 0;
     while i < start_key.len() {
-        if !can_match(reach, at) {
-            return false;
-        }
         let kb = start_key[i];
-        if any_byte(table, live, at, kb as usize + 1, 256) {
-            return true;
+        let behind = kb as u16 + 1;
+        let end = ends[at];
+        if end != behind {
+            return end > behind;
         }
         at = accept(table, at, kb);
         i += 1;
     }
-    any_byte(table, live, at, 0, 256)
+    ends[at] > 0
 }
 
-// Whether a string that isn't empty and not above `end_key` can match from `state` on.
-fn match_range_end(
-    table: &[u8],
-    reach: u64,
-    live: &[u64; 256],
-    end_key: &[u8],
-    state: usize,
-) -> bool
-    requires { ⌜ WellFormed (now table) × Reach (now table) reach × Live (now table) (now live) × (state < states (now table)) ⌝ }
+// Whether a string that isn't empty and not above `end_key` can match from `state` on: the same by the lowest byte.
+fn match_range_end(table: &[u8], firsts: &[u16; 64], end_key: &[u8], state: usize) -> bool
+    requires { ⌜ WellFormed (now table) × Firsts (now table) (now firsts) × (state < states (now table)) ⌝ }
     ensures { λ r. ⌜ Exactly r (MatchBetween (now (table .entry)) state [] (now («end_key» .entry))) ⌝ }
 {
     let mut at = state;
     let mut i: usize = 0;
     while i < end_key.len() {
-        if !can_match(reach, at) {
-            return false;
-        }
         let kb = end_key[i];
-        if any_byte(table, live, at, 0, kb as usize) {
-            return true;
+        let first = firsts[at];
+        if first != kb as u16 {
+            return first < kb as u16;
         }
         at = accept(table, at, kb);
         if is_match(table, at) {
@@ -84,75 +71,116 @@ pub fn accept_prefix(table: &[u8], key: &[u8], n: usize) -> usize
     state
 }
 
-fn can_block_match_automaton_with_start(
+// Whether a string above `start_key` and not above `end_key` can match from `state` on, where the first byte of the one
+// is below that of the other.
+fn match_between(
     table: &[u8],
-    reach: u64,
     live: &[u64; 256],
+    firsts: &[u16; 64],
+    ends: &[u16; 64],
     start_key: &[u8],
     end_key: &[u8],
+    state: usize,
 ) -> bool
-    requires { ⌜ WellFormed (now table) × Reach (now table) reach × Live (now table) (now live) ⌝ }
-    ensures { λ r. ⌜ Exactly r (MatchBetween (now (table .entry)) 0 (now («start_key» .entry)) (now («end_key» .entry))) ⌝ }
+    requires { ⌜ Prepared (now table) (now live) (now firsts) (now ends) × (state < states (now table)) × (0 < length (now «start_key»)) × (0 < length (now «end_key»)) × (getD (now «start_key») 0 0 < getD (now «end_key») 0 0) ⌝ }
+    ensures { λ r. ⌜ Exactly r (MatchBetween (now (table .entry)) state (now («start_key» .entry)) (now («end_key» .entry))) ⌝ }
 {
-    let n = keys::common_prefix_len(start_key, end_key);
-    if n == end_key.len() {
+    let start_range = start_key[0];
+    let end_range = end_key[0];
+    if ends[state] <= start_range as u16 {
         return false;
     }
-    let base = accept_prefix(table, start_key, n);
-    if !can_match(reach, base) {
-        return false;
-    }
-    if n == start_key.len() {
-        return match_range_end(table, reach, live, &end_key[n..], base);
-    }
-    let start_range = start_key[n];
-    let end_range = end_key[n];
-    if end_range < start_range {
+    if firsts[state] > end_range as u16 {
         return false;
     }
     if any_byte(
         table,
         live,
-        base,
+        state,
         start_range as usize + 1,
         end_range as usize,
     ) {
         return true;
     }
-    let next = n + 1;
-    if match_range_start(
-        table,
-        reach,
-        live,
-        &start_key[next..],
-        accept(table, base, start_range),
-    ) {
+    let start_state = accept(table, state, start_range);
+    if match_range_start(table, ends, &start_key[1..], start_state) {
         return true;
     }
-    let last = accept(table, base, end_range);
-    if is_match(table, last) {
+    let end_state = accept(table, state, end_range);
+    if is_match(table, end_state) {
         return true;
     }
-    match_range_end(table, reach, live, &end_key[next..], last)
+    match_range_end(table, firsts, &end_key[1..], end_state)
 }
 
-// The same for a table that keeps its rules, whose words are worked out; the first block lets the empty string in.
+// Whether a key above `start_key` and not above `end_key` can match, by the state behind the n bytes that they share.
+pub fn can_block_match_from(
+    table: &[u8],
+    live: &[u64; 256],
+    firsts: &[u16; 64],
+    ends: &[u16; 64],
+    base: usize,
+    n: usize,
+    start_key: &[u8],
+    end_key: &[u8],
+) -> bool
+    requires { ⌜ Prepared (now table) (now live) (now firsts) (now ends) × (n ≡ commonPrefixLen (now «start_key») (now «end_key»)) × (base ≡ run (now table) 0 (take n (now «start_key»))) × (base < states (now table)) ⌝ }
+    ensures { λ r. ⌜ Exactly r (MatchBetween (now (table .entry)) 0 (now («start_key» .entry)) (now («end_key» .entry))) ⌝ }
+{
+    if n == end_key.len() {
+        return false;
+    }
+    if n == start_key.len() {
+        return match_range_end(table, firsts, &end_key[n..], base);
+    }
+    if end_key[n] < start_key[n] {
+        return false;
+    }
+    match_between(
+        table,
+        live,
+        firsts,
+        ends,
+        &start_key[n..],
+        &end_key[n..],
+        base,
+    )
+}
+
+fn can_block_match_automaton_with_start(
+    table: &[u8],
+    live: &[u64; 256],
+    firsts: &[u16; 64],
+    ends: &[u16; 64],
+    start_key: &[u8],
+    end_key: &[u8],
+) -> bool
+    requires { ⌜ Prepared (now table) (now live) (now firsts) (now ends) ⌝ }
+    ensures { λ r. ⌜ Exactly r (MatchBetween (now (table .entry)) 0 (now («start_key» .entry)) (now («end_key» .entry))) ⌝ }
+{
+    let n = keys::common_prefix_len(start_key, end_key);
+    let base = accept_prefix(table, start_key, n);
+    can_block_match_from(table, live, firsts, ends, base, n, start_key, end_key)
+}
+
+// The same for the first block too, which has no start and lets the empty string in.
 pub fn can_block_match(
     table: &[u8],
-    reach: u64,
     live: &[u64; 256],
+    firsts: &[u16; 64],
+    ends: &[u16; 64],
     has_start: bool,
     start_key: &[u8],
     end_key: &[u8],
 ) -> bool
-    requires { ⌜ WellFormed (now table) × Reach (now table) reach × Live (now table) (now live) ⌝ }
+    requires { ⌜ Prepared (now table) (now live) (now firsts) (now ends) ⌝ }
     ensures { λ r. ⌜ Exactly r (Marked (now (table .entry)) (startOf «has_start» (now («start_key» .entry))) (now («end_key» .entry))) ⌝ }
 {
     if has_start {
-        return can_block_match_automaton_with_start(table, reach, live, start_key, end_key);
+        return can_block_match_automaton_with_start(table, live, firsts, ends, start_key, end_key);
     }
     if is_match(table, 0) {
         return true;
     }
-    can_block_match_automaton_with_start(table, reach, live, &end_key[..0], end_key)
+    can_block_match_automaton_with_start(table, live, firsts, ends, &end_key[..0], end_key)
 }

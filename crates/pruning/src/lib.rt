@@ -29,10 +29,13 @@ pub fn can_block_match_automaton(
     }
     let reach = automaton::reach::reach(table);
     let live = automaton::live::live(table, reach);
+    let firsts = automaton::live::firsts(table, &live);
+    let ends = automaton::live::ends(table, &live);
     Matched::Matches(block_match_automaton::can_block_match(
         table,
-        reach,
         &live,
+        &firsts,
+        &ends,
         has_start,
         start_key,
         end_key,

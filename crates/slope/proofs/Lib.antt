@@ -1,3 +1,4 @@
 pub mod Column
 mod Points
+mod Step
 pub mod Widths

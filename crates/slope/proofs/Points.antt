@@ -9,9 +9,11 @@ use native.Mathlib.Numerals.{add-one}
 use lib.Dec.{leb}
 use lib.ListN.{getD}
 use Rattle.slope.specs.Column.{column, ColumnOk, ValueOk}
+use Rattle.slope.specs.Step.{LowerOf, HigherOf, Picked}
 use Rattle.slope.specs.Slope.{Point, pointsFrom, slopeAt, lower, higher, lowest, highest, between, bestSlope}
 use Rattle.slope.specs.declared.Point as code
 use Rattle.slope.proofs.Column.{column-step}
+use Rattle.slope.proofs.Step.{higher-stays, lower-stays}
 
 abbrev pub point : code.Point → Point
 point p = record { i = p .i; v = p .v }
@@ -34,28 +36,24 @@ new-good n i v p e first last small =
 new-point : (i v : ℕ) (p : code.Point) → New i v p → point p ≡ record { i = i; v = v }
 new-point i v p e = rw (e .0, e .1)
 
-pick-good : (n : ℕ) (t : Bool) (p q : code.Point) → Good n p → Good n q → Good n (cond t q p)
-pick-good n true p q g h = h
-pick-good n false p q g h = g
+-- a point that a test picked: p, or (i, v)
+module _ (n : ℕ) (p r : code.Point) (i v : ℕ) (g : Good n p) where
+  picked-good : (t : Bool) → 1 ≤ i → i ≤ n → v < 2 ^ 62 → Picked t (p .i) (p .v) (p .slope) i v (r .i) (r .v) (r .slope) → Good n r
+  picked-good true first last small e = new-good n i v r e first last small
+  picked-good false first last small e =
+      record { first = omega arith; last = omega arith; small = omega arith; sloped = rw (e .2, e .0, e .1) (g .sloped) }
 
-pick-point : (t : Bool) (p q : code.Point) → point (cond t q p) ≡ cond t (point q) (point p)
-pick-point true p q = refl
-pick-point false p q = refl
+  picked-point : (t : Bool) → Picked t (p .i) (p .v) (p .slope) i v (r .i) (r .v) (r .slope) → point r ≡ cond t (record { i = i; v = v }) (point p)
+  picked-point true e = rw (e .0, e .1)
+  picked-point false e = rw (e .0, e .1)
 
-module _ (n : ℕ) (p q r : code.Point) (g : Good n p) (h : Good n q) where
-  lower-good : r ≡ cond (leb (q .slope) (p .slope)) q p → Good n r
-  lower-good e = rw e (pick-good n (leb (q .slope) (p .slope)) p q g h)
-
-  lower-point : r ≡ cond (leb (q .slope) (p .slope)) q p → point r ≡ lower (point p) (point q)
+  lower-point : LowerOf (p .i) (p .v) (p .slope) i v (r .i) (r .v) (r .slope) → point r ≡ lower (point p) (record { i = i; v = v })
   unfolding lower
-  lower-point e = rw (e, ← g .sloped, ← h .sloped) (pick-point (leb (q .slope) (p .slope)) p q)
+  lower-point e = rw (← g .sloped) (picked-point (leb (v / i % 2 ^ 32) (p .slope)) e)
 
-  higher-good : r ≡ cond (leb (p .slope) (q .slope)) q p → Good n r
-  higher-good e = rw e (pick-good n (leb (p .slope) (q .slope)) p q g h)
-
-  higher-point : r ≡ cond (leb (p .slope) (q .slope)) q p → point r ≡ higher (point p) (point q)
+  higher-point : HigherOf (p .i) (p .v) (p .slope) i v (r .i) (r .v) (r .slope) → point r ≡ higher (point p) (record { i = i; v = v })
   unfolding higher
-  higher-point e = rw (e, ← g .sloped, ← h .sloped) (pick-point (leb (p .slope) (q .slope)) p q)
+  higher-point e = rw (← g .sloped) (picked-point (leb (p .slope) (v / i % 2 ^ 32)) e)
 
 -- the slope between the lowest and the highest of lo, hi and the points from place j on
 abbrev pub left : List ℕ → ℕ → ℕ → ℕ → ℕ → Point → Point → ℕ → ℕ
@@ -99,17 +97,21 @@ module _ (area : List ℕ) (at stride base count : ℕ) where
         same = rw (new-point 1 (getD area at 0 - base) p e) (left-start area at stride base count h);
       }
 
-  pub kept-step : (low high next low′ high′ : code.Point) (j : ℕ) → j < count → Kept area at stride base count low high j → ValueOk area base (at + stride * j) → New (j + 1) (getD area (at + stride * j) 0 - base) next → low′ ≡ cond (leb (next .slope) (low .slope)) next low → high′ ≡ cond (leb (high .slope) (next .slope)) next high → Kept area at stride base count low′ high′ (j + 1)
-  kept-step low high next low′ high′ j h k ok e l g =
-      let good = new-good count (j + 1) (getD area (at + stride * j) 0 - base) next e (omega arith) (omega arith) (omega arith) in
+  pub kept-step : (low high low′ high′ : code.Point) (j v : ℕ) → j < count → Kept area at stride base count low high j → ValueOk area base (at + stride * j) → v ≡ getD area (at + stride * j) 0 - base → LowerOf (low .i) (low .v) (low .slope) (j + 1) v (low′ .i) (low′ .v) (low′ .slope) → HigherOf (high .i) (high .v) (high .slope) (j + 1) v (high′ .i) (high′ .v) (high′ .slope) → Kept area at stride base count low′ high′ (j + 1)
+  kept-step low high low′ high′ j v h k ok e l g =
       record {
         within = omega arith;
-        lows = lower-good count low next low′ (k .lows) good l;
-        highs = higher-good count high next high′ (k .highs) good g;
+        lows = picked-good count low low′ (j + 1) v (k .lows) (leb (v / (j + 1) % 2 ^ 32) (low .slope)) (omega arith) (omega arith) (omega arith) l;
+        highs = picked-good count high high′ (j + 1) v (k .highs) (leb (high .slope) (v / (j + 1) % 2 ^ 32)) (omega arith) (omega arith) (omega arith) g;
         same =
-            rw (lower-point count low next low′ (k .lows) good l, higher-point count high next high′ (k .highs) good g, new-point (j + 1) (getD area (at + stride * j) 0 - base) next e)
+            rw (lower-point count low low′ (j + 1) v (k .lows) l, higher-point count high high′ (j + 1) v (k .highs) g, e)
             (left-step area at stride base count (point low) (point high) j h ∙ k .same);
       }
+
+  -- a point whose slope lies between both
+  pub kept-stays : (low high : code.Point) (j v : ℕ) → j < count → Kept area at stride base count low high j → ValueOk area base (at + stride * j) → v ≡ getD area (at + stride * j) 0 - base → low .slope < v / (j + 1) % 2 ^ 32 → v / (j + 1) % 2 ^ 32 < high .slope → Kept area at stride base count low high (j + 1)
+  kept-stays low high j v h k ok e l g =
+      kept-step low high low high j v h k ok e (lower-stays (low .slope) (j + 1) v (low .i) (low .v) l) (higher-stays (high .slope) (j + 1) v (high .i) (high .v) g)
 
   -- the slope as the code works it out
   pub kept-stop : (low high : code.Point) (j : ℕ) → count ≤ j → Kept area at stride base count low high j → (low .v + high .v + (low .i + high .i) / 2) / (low .i + high .i) % 2 ^ 32 ≡ bestSlope (column area at stride base count)

@@ -1,2 +1,3 @@
 pub mod Slope
 pub mod Column
+pub mod Step

@@ -1,9 +1,10 @@
 // `find_best_slope` of src/index/v3.rs, over values taken from a lent area.
 ghost use mathlib.Core.Path.{_≡_};
 ghost use Prim.Native.Nat.{_+_, _-_, _*_, _/_, _%_, _^_, _≤_, _<_, max};
-ghost use mathlib.Core.Bool.{cond};
+ghost use mathlib.Core.Bool.{true, cond};
 ghost use lib.Dec.{leb};
 ghost use Rattle.slope.specs.Slope.{bestSlope, maxDerivation, widthOf};
+ghost use Rattle.slope.specs.Step.{LowerOf, HigherOf};
 ghost use Rattle.slope.specs.Column.{column, ColumnOk};
 
 // A point with its slope.
@@ -47,6 +48,59 @@ fn higher(earlier: Point, later: Point) -> Point
     }
 }
 
+// The slopes of (i, v) that are s lie from s × i on, below s × i + i. So most points need no division.
+
+// Whether the slope of (i, v) is above the one and below the other; so it fits 32 bits.
+fn inside(low: u64, high: u64, i: u64, v: u64) -> bool
+    requires { ⌜ (0 < i) × (i ≤ 2 ^ 31) × (low < 2 ^ 32) × (high < 2 ^ 32) ⌝ }
+    ensures { λ r. ⌜ (r ≡ true → (low < v / i % 2 ^ 32) × (v / i % 2 ^ 32 < high)) ⌝ }
+{
+    if v < low * i + i {
+        return false;
+    }
+    v < high * i
+}
+
+// The lower of a point and the later (i, v).
+fn lower_with(low: Point, i: u64, v: u64) -> Point
+    requires { ⌜ (0 < i) × (i ≤ 2 ^ 31) × (low .slope < 2 ^ 32) ⌝ }
+    ensures { λ r. ⌜ LowerOf (low .i) (low .v) (low .slope) i v (r .i) (r .v) (r .slope) ⌝ }
+{
+    let at = low.slope * i;
+    if v >= at {
+        if v < at + i {
+            return Point {
+                i,
+                v,
+                slope: low.slope,
+            };
+        }
+        if v / 0x1_0000_0000 < i {
+            return low;
+        }
+    }
+    lower(low, Point::new(i, v))
+}
+
+// The higher of a point and the later (i, v).
+fn higher_with(high: Point, i: u64, v: u64) -> Point
+    requires { ⌜ (0 < i) × (i ≤ 2 ^ 31) × (high .slope < 2 ^ 32) ⌝ }
+    ensures { λ r. ⌜ HigherOf (high .i) (high .v) (high .slope) i v (r .i) (r .v) (r .slope) ⌝ }
+{
+    let at = high.slope * i;
+    if v < at {
+        return high;
+    }
+    if v - at < i {
+        return Point {
+            i,
+            v,
+            slope: high.slope,
+        };
+    }
+    higher(high, Point::new(i, v))
+}
+
 // The slope between the lowest and the highest point, rounded.
 fn between(low: Point, high: Point) -> u32
     requires { ⌜ (0 < low .i) × (low .i + high .i < 2 ^ 32) × (low .v < 2 ^ 62) × (high .v < 2 ^ 62) ⌝ }
@@ -70,9 +124,12 @@ pub fn best_slope(area: &[u64], at: usize, stride: usize, base: u64, count: usiz
     let mut j: usize = 1;
     while j < count {
         let p = at + stride * j;
-        let next = Point::new(j as u64 + 1, area[p] - base);
-        low = lower(low, next);
-        high = higher(high, next);
+        let v = area[p] - base;
+        let i = j as u64 + 1;
+        if !inside(low.slope, high.slope, i, v) {
+            low = lower_with(low, i, v);
+            high = higher_with(high, i, v);
+        }
         j += 1;
     }
     between(low, high)

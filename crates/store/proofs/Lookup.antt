@@ -21,7 +21,7 @@ use Rattle.group.specs.Facts.{Readable}
 use Rattle.group.proofs.Legal.{numbers-good}
 use Rattle.group.proofs.Reading.{GroupOk, group-ok, readable}
 use Rattle.store.specs.Store.{groupCount}
-use Rattle.store.specs.Read.{groupMeta, groupLen, storeBlock, metaBad, storeGet, StoreOk, Last}
+use Rattle.store.specs.Read.{groupMeta, groupLen, storeBlock, metaBad, blockOr, StoreOk, Last}
 use Rattle.store.specs.declared.Got.the-variants.{Block}
 use Rattle.store.proofs.Groups.{group-count-lt}
 
@@ -74,12 +74,11 @@ ordinals-rise block n k i (suc j) h l =
     (λ (g : i < j). let low = ordinals-rise block n k i j g (omega arith) in omega arith)
     (eq-or-lt-of-le (le-of-suc-le-suc h))
 
--- a lookup of a block in a store that keeps the rules
-pub get-block : (L : ℕ) (recs addr : List ℕ) (n i : ℕ) → 1 ≤ L → StoreOk L recs addr n → i < n
-    → storeGet L recs addr n i ≡ Block (storeBlock L recs addr i)
-unfolding storeGet
-get-block L recs addr n i some ok h =
-    rw (ok .groups (i / L) (block-there L n some i h), numbers-good (storeBlock L recs addr i) (ok .legal .numbers i h))
+-- a block that is read in a store that keeps the rules
+pub read-block : (L : ℕ) (recs addr : List ℕ) (n i : ℕ) → 1 ≤ L → StoreOk L recs addr n → i < n
+    → blockOr L recs addr n i ≡ storeBlock L recs addr i
+unfolding blockOr
+read-block L recs addr n i some ok h = rw (ok .groups (i / L) (block-there L n some i h))
 
 -- ---- a group that isn't refused
 

@@ -34,6 +34,10 @@ storeBlock L recs addr i =
 unfoldable pub metaBad : ℕ → List ℕ → List ℕ → ℕ → ℕ → Bool
 metaBad L recs addr n g = groupBad (groupMeta recs g) (groupLen L n g) (length addr) || firstBad (groupMeta recs g)
 
+-- block i as it is read; numbers that break row 3 stand for a group that can't be read
+unfoldable pub blockOr : ℕ → List ℕ → List ℕ → ℕ → ℕ → BlockAddr
+blockOr L recs addr n i = cond (metaBad L recs addr n (i / L)) (record { start = 1; end = 0; «first_ordinal» = 0 }) (storeBlock L recs addr i)
+
 -- what a lookup of block i finds: it, or that its group is broken or its numbers break row 3 (row 20)
 unfoldable pub storeGet : ℕ → List ℕ → List ℕ → ℕ → ℕ → Got
 storeGet L recs addr n i =

@@ -15,8 +15,8 @@ sub-left c = search needs
 deserialize-u64-requires : tie.Need-deserialize-u64-requires
 deserialize-u64-requires c κs = search needs
 
-deserialize-le-requires : tie.Need-deserialize-le-requires
-deserialize-le-requires c κs = search needs
+load-tail-requires : tie.Need-load-tail-requires
+load-tail-requires c κs = search needs
 
 returns : tie.Need-returns
 returns c = search needs
@@ -25,7 +25,7 @@ returns-2 : tie.Need-returns-2
 returns-2 c =
     let a = c .before .before .before .args in
     let rest = drop (a .at) (a .«data» .now) in
-    c .deserialize-le .ensures .0
+    c .load-tail .ensures
     ∙ ap leVal
     (take-all (length (a .«data» .now) - a .at) rest (simp length-drop (omega arith))
     ∙ sym (take-all 8 rest (simp length-drop (omega arith))))
@@ -33,4 +33,4 @@ returns-2 c =
 pub load-spec : {M : Type 1} → statement M
 load-spec =
     tie.close
-    (tie.spec sub-left deserialize-u64-requires deserialize-le-requires returns returns-2)
+    (tie.spec sub-left deserialize-u64-requires load-tail-requires returns returns-2)

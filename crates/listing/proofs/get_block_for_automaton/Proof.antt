@@ -86,7 +86,7 @@ mark-blocks-requires c κs =
     let k = c .before .before .before in
     let e = k .before .before in
     let o = e .before .before .before .before in
-    (fits o .few, rw (part o) (inside e), table-ok _ (taken k), search needs)
+    ((fits o .some, fits o .few), rw (part o) (inside e), table-ok _ (taken k), search needs)
 
 same-length : tie.Need-same-length
 same-length c = search needs

@@ -1,25 +1,39 @@
--- `listing::mark_blocks` meets its contract: after i blocks there is a listing of i blocks.
+-- `listing::mark_blocks` meets its contract: after i blocks there is a listing of i blocks, and the states along the key before are kept.
 use borrow.Author.Needs.{needs}
-use mathlib.Core.Path.{_≡_}
-use mathlib.Core.Logic.{⊎-elim}
-use Prim.Native.Nat.{_-_, _≤_, _<_}
+use mathlib.Core.Path.{_≡_, refl, ap, _∙_}
+use Prim.Native.Nat.{ℕ, _+_, _-_, _≤_, _<_}
+use native.Mathlib.Nat.{zero-add}
 use native.Mathlib.Omega.{arith}
+use lib.ListN.{length, length-set}
+use Rattle.keys.proofs.Order.{commonPrefixLen-left}
 use Rattle.automaton.specs.Bits.{Exactly}
-use Rattle.automaton.proofs.Exact.{when-true, when-false}
 use Rattle.directory.specs.Read.{keyOf}
 use Rattle.pruning.specs.Interval.{Marked}
+use Rattle.pruning.specs.Prepared.{Prepared}
 use Rattle.listing.specs.Marks.{startAt}
+use Rattle.listing.specs.Followed.{Followed}
 use Rattle.listing.specs.Listing.{Listing}
+use Rattle.listing.proofs.Following.{followed-none, followed-next}
 use Rattle.listing.proofs.Outside.{each-inside}
-use Rattle.listing.proofs.Turns.{start-at, listing-none, listing-one, listing-zero, listing-length, listing-count}
+use Rattle.listing.proofs.Turns.{start-behind, listing-none, listing-turn, listing-over, listing-under, listing-length, listing-count, one-at-most}
 use Rattle.listing.proofs.mark_blocks.Statement.{statement}
 use Rattle.listing.proofs.mark_blocks.Tie as tie
 
 abbrev Inv-loop : tie.InvT-loop
-Inv-loop directory n table marks₀ reach live count₀ i₀ marks count i = (i ≤ n) × Listing table (keyOf directory n) i marks₀ marks count
+Inv-loop directory n table marks₀ reach live firsts ends first count₀ states₀ known₀ i₀ marks count states known i =
+    (1 ≤ i) × (i ≤ n) × (known ≤ 1024) × Followed table (keyOf directory n (i - 1)) states known × Listing table (keyOf directory n) i marks₀ marks count
 
 abbrev μ-loop : tie.MeasureT-loop
-μ-loop directory n table marks₀ reach live count₀ i₀ marks count i = n - i
+μ-loop directory n table marks₀ reach live firsts ends first count₀ states₀ known₀ i₀ marks count states known i =
+    n - i
+
+-- what is worked out of the table
+prepared : (c : tie.After-ends Inv-loop μ-loop) → Prepared (c .before .before .before .before .before .before .before .before .before .args .table .now) (c .before .before .before .before .live .result) (c .before .before .firsts .result) (c .ends .result)
+prepared c = record { ok = c .before .before .before .before .before .before .before .before .before .pre .2; words = c .before .before .before .before .live .ensures; lowest = c .before .before .firsts .ensures; highest = c .ends .ensures }
+
+-- the common prefix is no longer than the key before
+within : (c : tie.After-common-prefix-len Inv-loop μ-loop) → c .common-prefix-len .result ≤ length (c .before .before .key2 .result .now)
+within c = omega (arith, c .common-prefix-len .ensures, commonPrefixLen-left (c .before .before .key2 .result .now) (c .before .key3 .result .now))
 
 reach-requires : tie.Need-reach-requires Inv-loop μ-loop
 reach-requires c κs = search needs
@@ -27,71 +41,102 @@ reach-requires c κs = search needs
 live-requires : tie.Need-live-requires Inv-loop μ-loop
 live-requires c κs = search needs
 
-loop-holds : tie.Need-loop-holds Inv-loop μ-loop
-loop-holds c = (omega arith, listing-none _ _ _)
+firsts-requires : tie.Need-firsts-requires Inv-loop μ-loop
+firsts-requires c κs = search needs
 
-sub-before : tie.Need-sub-before Inv-loop μ-loop
-sub-before c = search needs
-
--- the key before that of block i, and for block 0 its own
-earlier : (c : tie.Joined1 Inv-loop μ-loop) → let i = c .before .before .loop .i in (0 < i → c .if1 .before ≡ i - 1) × (c .if1 .before ≤ i)
-earlier c = ⊎-elim (λ w. (λ h. omega arith, omega arith)) (λ w. (λ h. omega arith, omega arith)) (c .if1 .came)
+ends-requires : tie.Need-ends-requires Inv-loop μ-loop
+ends-requires c κs = search needs
 
 key-requires : tie.Need-key-requires Inv-loop μ-loop
-key-requires c κs =
-    let s = c .before .before .before .before .before .before .before .before .before in
-    let h : c .before .if1 .before < s .args .n = omega (arith, earlier (c .before) .1) in
-    (search needs, h, each-inside _ _ _ (s .pre .1) (c .before .if1 .before) h)
-
-key-requires-2 : tie.Need-key-requires-2 Inv-loop μ-loop
-key-requires-2 c κs =
-    let l = c .before .before .before .before in
-    let s = l .before .before .before .before .before .before in
-    (search needs, search needs, each-inside _ _ _ (s .pre .1) (l .loop .i) (search needs))
+key-requires c κs = (c .before .before .before .before .before .before .before .before .before .pre .0 .1, c .before .before .before .before .before .before .before .before .before .pre .0 .0, each-inside _ _ _ (c .before .before .before .before .before .before .before .before .before .pre .1) 0 (c .before .before .before .before .before .before .before .before .before .pre .0 .0))
 
 can-block-match-requires : tie.Need-can-block-match-requires Inv-loop μ-loop
 can-block-match-requires c κs = search needs
 
-slice-write-marks : tie.Need-slice-write-marks Inv-loop μ-loop
-slice-write-marks c = omega (arith, listing-length (c .before .before .before .before .before .before .before .loop .inv .1))
+mark-requires : tie.Need-mark-requires Inv-loop μ-loop
+mark-requires c κs = search needs
+
+loop-holds : tie.Need-loop-holds Inv-loop μ-loop
+loop-holds c =
+    let p = c .before .before .before .before .before .before .before .before .before .before .before .before .before .before .before .before .before .before .pre in
+    let a = c .before .before .before .before .before .before .before .before .before .before .before .before .before .before .before .before .before .before .args in
+    let f = keyOf (a .directory .now) (a .n) in
+    let e : Exactly (c .before .before .before .before .can-block-match .result) (Marked (a .table .now) (startAt f 0) (f 0)) = rw (c .before .before .before .before .before .before .before .before .key .ensures) at (c .before .before .before .before .can-block-match .ensures) in
+    let m = c .before .before .mark .ensures in
+    let l = listing-turn (a .table .now) f 0 0 (a .marks .now) (a .marks .now) (listing-none (a .table .now) f (a .marks .now)) (c .before .before .before .before .can-block-match .result) (c .before .before .mark .result) _ e (m .0) (m .1) in
+    (omega arith, p .0 .0, omega arith, followed-none _ _ _ refl refl, listing-under (a .marks .now) _ _ (m .1) (omega arith) (rw (zero-add (c .before .before .mark .result)) at l))
+
+sub-key : tie.Need-sub-key Inv-loop μ-loop
+sub-key c = omega (arith, c .before .loop .inv .0)
+
+key-requires-2 : tie.Need-key-requires-2 Inv-loop μ-loop
+key-requires-2 c κs =
+    let s = c .before .before .before .before .before .before .before .before .before .before .before .before .before .before .before .before .before .before .before .before in
+    let l = c .before .loop in
+    let h : l .i - 1 < s .args .n = omega (arith, c .loop-test .taken, l .inv .0) in
+    (s .pre .0 .1, h, each-inside _ _ _ (s .pre .1) (l .i - 1) h)
+
+key-requires-3 : tie.Need-key-requires-3 Inv-loop μ-loop
+key-requires-3 c κs =
+    let s = c .before .before .before .before .before .before .before .before .before .before .before .before .before .before .before .before .before .before .before .before .before in
+    let l = c .before .before .loop in
+    (s .pre .0 .1, c .before .loop-test .taken, each-inside _ _ _ (s .pre .1) (l .i) (c .before .loop-test .taken))
+
+common-prefix-len-requires : tie.Need-common-prefix-len-requires Inv-loop μ-loop
+common-prefix-len-requires c κs = search needs
+
+follow-requires : tie.Need-follow-requires Inv-loop μ-loop
+follow-requires c κs = (c .before .before .before .before .before .before .before .before .before .before .before .before .before .before .before .before .before .before .before .before .before .before .before .before .pre .2, rw (c .before .before .before .key2 .ensures) (c .before .before .before .before .before .loop .inv .3), c .before .before .before .before .before .loop .inv .2, within (c .before))
+
+state-behind-requires : tie.Need-state-behind-requires Inv-loop μ-loop
+state-behind-requires c κs = (c .before .before .before .before .before .before .before .before .before .before .before .before .before .before .before .before .before .before .before .before .before .before .before .before .before .before .pre .2, c .before .follow .ensures .1, omega (arith, c .before .follow .ensures .0), within (c .before .before .before))
+
+can-block-match-from-requires : tie.Need-can-block-match-from-requires Inv-loop μ-loop
+can-block-match-from-requires c κs = (prepared (c .before .before .before .before .before .before .before .before .before .before .before .before .before .before .before .before .before .before .before .before .before), c .before .before .before .before .before .before .before .common-prefix-len .ensures, c .before .before .before .state-behind .ensures .0, c .before .before .before .state-behind .ensures .1)
+
+mark-requires-2 : tie.Need-mark-requires-2 Inv-loop μ-loop
+mark-requires-2 c κs =
+    let h : c .before .before .before .before .before .before .before .before .before .before .before .before .before .loop .i < c .before .before .before .before .before .before .before .before .before .before .before .before .before .before .before .before .before .before .before .before .before .before .before .before .before .before .before .before .before .before .before .before .args .n = c .before .before .before .before .before .before .before .before .before .before .before .before .loop-test .taken in
+    omega (arith, listing-length (c .before .before .before .before .before .before .before .before .before .before .before .before .before .loop .inv .4), c .before .before .before .before .before .before .before .before .before .before .before .before .before .before .before .before .before .before .before .before .before .before .before .before .before .before .before .before .before .before .before .before .pre .3)
 
 add-count : tie.Need-add-count Inv-loop μ-loop
-add-count c = omega (arith, listing-count (c .before .before .before .before .before .before .before .loop .inv .1))
-
-slice-write-marks-2 : tie.Need-slice-write-marks-2 Inv-loop μ-loop
-slice-write-marks-2 c = omega (arith, listing-length (c .before .before .before .before .before .before .before .loop .inv .1))
+add-count c =
+    let h : c .before .before .before .before .before .before .before .before .before .before .before .before .before .before .before .before .loop .i < c .before .before .before .before .before .before .before .before .before .before .before .before .before .before .before .before .before .before .before .before .before .before .before .before .before .before .before .before .before .before .before .before .before .before .before .args .n = c .before .before .before .before .before .before .before .before .before .before .before .before .before .before .before .loop-test .taken in
+    omega (arith, listing-count (c .before .before .before .before .before .before .before .before .before .before .before .before .before .before .before .before .loop .inv .4), one-at-most (c .before .before .before .before .can-block-match-from .result), c .before .before .mark2 .ensures .0, c .before .before .before .before .before .before .before .before .before .before .before .before .before .before .before .before .before .before .before .before .before .before .before .before .before .before .before .before .before .before .before .before .before .before .before .pre .0 .1)
 
 add-i : tie.Need-add-i Inv-loop μ-loop
-add-i c = search needs
+add-i c =
+    let h : c .before .before .before .before .before .before .before .before .before .before .before .before .before .before .before .before .loop .i < c .before .before .before .before .before .before .before .before .before .before .before .before .before .before .before .before .before .before .before .before .before .before .before .before .before .before .before .before .before .before .before .before .before .before .before .args .n = c .before .before .before .before .before .before .before .before .before .before .before .before .before .before .before .loop-test .taken in
+    omega (arith, c .before .before .before .before .before .before .before .before .before .before .before .before .before .before .before .before .before .before .before .before .before .before .before .before .before .before .before .before .before .before .before .before .before .before .before .pre .0 .1)
 
 loop-less : tie.Need-loop-less Inv-loop μ-loop
-loop-less c = search needs
+loop-less c =
+    let h : c .before .before .before .before .before .before .before .before .before .before .before .before .before .before .before .before .loop .i < c .before .before .before .before .before .before .before .before .before .before .before .before .before .before .before .before .before .before .before .before .before .before .before .before .before .before .before .before .before .before .before .before .before .before .before .args .n = c .before .before .before .before .before .before .before .before .before .before .before .before .before .before .before .loop-test .taken in
+    omega arith
 
 loop-again : tie.Need-loop-again Inv-loop μ-loop
 loop-again c =
-    let m = c .before in
-    let k = m .before in
-    let j = k .before .before .before in
-    let l = j .before .before in
-    let a = l .before .before .before .before .before .before .args in
+    let l = c .before .before .before .before .before .before .before .before .before .before .before .before .before .before .before .before .loop in
+    let a = c .before .before .before .before .before .before .before .before .before .before .before .before .before .before .before .before .before .before .before .before .before .before .before .before .before .before .before .before .before .before .before .before .before .before .before .args in
     let f = keyOf (a .directory .now) (a .n) in
-    let e : Exactly (m .can-block-match .result) (Marked (a .table .now) (startAt f (l .loop .i)) (f (l .loop .i))) =
-    rw (k .before .key .ensures, k .key2 .ensures, start-at f (l .loop .i) (j .if1 .before) (earlier j .0)) at (m .can-block-match .ensures) in (
-      omega arith,
-      ⊎-elim
-          (λ w. rw (w .1, w .2) (listing-one _ _ _ _ _ _ (l .loop .inv .1) (when-true e (w .0 .taken))))
-          (λ w. rw (w .1, w .2) (listing-zero _ _ _ _ _ _ (l .loop .inv .1) (when-false e (w .0 .left))))
-          (c .if2 .came),
-    )
+    let h : l .i < a .n = c .before .before .before .before .before .before .before .before .before .before .before .before .before .before .before .loop-test .taken in
+    let e : Exactly (c .before .before .before .before .can-block-match-from .result) (Marked (a .table .now) (startAt f (l .i)) (f (l .i))) =
+    rw (start-behind f (l .i) (l .inv .0), ← (c .before .before .before .before .before .before .before .before .before .before .before .before .before .before .key2 .ensures), ← (c .before .before .before .before .before .before .before .before .before .before .before .before .before .key3 .ensures)) (c .before .before .before .before .can-block-match-from .ensures) in
+    let m = c .before .before .mark2 .ensures in
+    let k = c .before .before .before .before .before .before .before .before .before .before .follow .ensures in
+    let q : l .i + 1 - 1 ≡ l .i = omega arith in
+    let w : Followed (a .table .now) (c .before .before .before .before .before .before .before .before .before .before .before .before .before .key3 .result .now) _ (c .before .before .before .before .before .before .before .before .before .before .follow .result) = followed-next (a .table .now) (c .before .before .before .before .before .before .before .before .before .before .before .before .before .before .key2 .result .now) (c .before .before .before .before .before .before .before .before .before .before .before .before .before .key3 .result .now) _ (c .before .before .before .before .before .before .before .before .before .before .follow .result) (k .1) (omega (arith, k .0, c .before .before .before .before .before .before .before .before .before .before .before .before .common-prefix-len .ensures)) in
+    (omega arith, omega arith, omega (arith, k .0), rw (q, ← (c .before .before .before .before .before .before .before .before .before .before .before .before .before .key3 .ensures)) w, listing-turn (a .table .now) f (l .i) (l .count) _ (l .marks) (l .inv .4) (c .before .before .before .before .can-block-match-from .result) (c .before .before .mark2 .result) _ e (m .0) (m .1))
 
 same-length : tie.Need-same-length Inv-loop μ-loop
-same-length c = listing-length (c .before .loop .inv .1)
+same-length c = listing-length (c .before .loop .inv .4) ∙ ap length (c .before .before .before .before .mark .ensures .1) ∙ simp length-set
 
 returns : tie.Need-returns Inv-loop μ-loop
 returns c =
-    let l = c .before in
-    let e : l .loop .i ≡ l .before .before .before .before .before .before .args .n = omega arith in
-    rw e at (l .loop .inv .1)
+    let l = c .before .loop in
+    let h : c .before .before .before .before .before .before .before .before .before .before .before .before .before .before .before .before .before .before .before .before .args .n ≤ l .i = c .loop-test .left in
+    let e : l .i ≡ c .before .before .before .before .before .before .before .before .before .before .before .before .before .before .before .before .before .before .before .before .args .n = omega (arith, l .inv .1) in
+    listing-over (c .before .before .before .before .before .before .before .before .before .before .before .before .before .before .before .before .before .before .before .before .args .marks .now) _ _ (c .before .before .before .before .mark .ensures .1) (c .before .before .before .before .before .before .before .before .before .before .before .before .before .before .before .before .before .before .before .before .pre .0 .0) (rw e at (l .inv .4))
 
 pub mark-blocks-spec : {M : Type 1} → statement M
 mark-blocks-spec =
@@ -101,14 +146,21 @@ mark-blocks-spec =
     μ-loop
     reach-requires
     live-requires
-    loop-holds
-    sub-before
+    firsts-requires
+    ends-requires
     key-requires
-    key-requires-2
     can-block-match-requires
-    slice-write-marks
+    mark-requires
+    loop-holds
+    sub-key
+    key-requires-2
+    key-requires-3
+    common-prefix-len-requires
+    follow-requires
+    state-behind-requires
+    can-block-match-from-requires
+    mark-requires-2
     add-count
-    slice-write-marks-2
     add-i
     loop-less
     loop-again

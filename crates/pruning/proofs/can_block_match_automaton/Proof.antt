@@ -1,4 +1,4 @@
--- A table that `check` takes is well-formed, and its words are worked out before the walk.
+-- A table that `check` takes is well-formed, and what the walk asks is worked out before it.
 use mathlib.Core.Path.{_≡_, sym, _∙_}
 use native.Mathlib.Omega.{arith}
 use borrow.Author.Needs.{needs}
@@ -24,8 +24,14 @@ reach-requires c κs = taken c
 live-requires : tie.Need-live-requires
 live-requires c κs = (taken (c .before), c .reach .ensures .0)
 
+firsts-requires : tie.Need-firsts-requires
+firsts-requires c κs = (taken (c .before .before .before), c .before .live .ensures)
+
+ends-requires : tie.Need-ends-requires
+ends-requires c κs = (taken (c .before .before .before .before .before), c .before .before .before .live .ensures)
+
 can-block-match-requires : tie.Need-can-block-match-requires
-can-block-match-requires c κs = (taken (c .before .before .before), c .before .before .reach .ensures .0, c .before .live .ensures)
+can-block-match-requires c κs = record { ok = taken (c .before .before .before .before .before .before .before .before .before); words = c .before .before .before .before .before .before .before .live .ensures; lowest = c .before .before .before .before .before .firsts .ensures; highest = c .before .before .before .ends .ensures }
 
 returns-2 : tie.Need-returns-2
 returns-2 c = search needs
@@ -38,5 +44,7 @@ can-block-match-automaton-spec =
     returns
     reach-requires
     live-requires
+    firsts-requires
+    ends-requires
     can-block-match-requires
     returns-2)

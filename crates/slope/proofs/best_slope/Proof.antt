@@ -1,11 +1,13 @@
 -- `slope::best_slope` meets its contract. The loop's invariant: the lowest and the highest so far and the points left give the slope of all.
 use borrow.Author.Needs.{needs}
+use borrow.Author.Tests.{not-false}
 use Prim.Native.Nat.{_+_, _-_, _*_}
-use mathlib.Core.Path.{_∙_}
+use mathlib.Core.Path.{_∙_, refl}
+use mathlib.Core.Logic.{⊎-elim}
 use native.Mathlib.Omega.{arith}
 use Rattle.slope.specs.Slope.{bestSlope}
 use Rattle.slope.specs.Column.{column, ValueOk}
-use Rattle.slope.proofs.Points.{Kept, first-value, kept-start, kept-step, kept-stop}
+use Rattle.slope.proofs.Points.{Kept, first-value, kept-start, kept-stays, kept-step, kept-stop}
 use Rattle.slope.proofs.best_slope.Statement.{statement}
 use Rattle.slope.proofs.best_slope.Tie as tie
 
@@ -52,26 +54,26 @@ mul-p c = omega (arith, value c)
 add-p : tie.Need-add-p Inv-loop μ-loop
 add-p c = omega (arith, value c)
 
-add-new : tie.Need-add-new Inv-loop μ-loop
-add-new c = search needs
+mul-v : tie.Need-mul-v Inv-loop μ-loop
+mul-v c = omega (arith, value c)
 
-mul-new-2 : tie.Need-mul-new-2 Inv-loop μ-loop
-mul-new-2 c = omega (arith, value c)
+shared-slice-read-v : tie.Need-shared-slice-read-v Inv-loop μ-loop
+shared-slice-read-v c = value (c .before) .inside
 
-shared-slice-read-new-2 : tie.Need-shared-slice-read-new-2 Inv-loop μ-loop
-shared-slice-read-new-2 c = value (c .before) .inside
+sub-v : tie.Need-sub-v Inv-loop μ-loop
+sub-v c = value (c .before) .above
 
-sub-new-2 : tie.Need-sub-new-2 Inv-loop μ-loop
-sub-new-2 c = value (c .before) .above
+add-i : tie.Need-add-i Inv-loop μ-loop
+add-i c = search needs
 
-new-requires-2 : tie.Need-new-requires-2 Inv-loop μ-loop
-new-requires-2 c κs = search needs
+inside-requires : tie.Need-inside-requires Inv-loop μ-loop
+inside-requires c κs = search needs
 
-lower-requires : tie.Need-lower-requires Inv-loop μ-loop
-lower-requires c κs = search needs
+lower-with-requires : tie.Need-lower-with-requires Inv-loop μ-loop
+lower-with-requires c κs = search needs
 
-higher-requires : tie.Need-higher-requires Inv-loop μ-loop
-higher-requires c κs = search needs
+higher-with-requires : tie.Need-higher-with-requires Inv-loop μ-loop
+higher-with-requires c κs = search needs
 
 add-j : tie.Need-add-j Inv-loop μ-loop
 add-j c = search needs
@@ -81,7 +83,14 @@ loop-less c = search needs
 
 loop-again : tie.Need-loop-again Inv-loop μ-loop
 loop-again c =
-    kept-step _ _ _ _ _ _ _ _ (c .before .lower .result) (c .higher .result) _ (c .before .before .before .before .loop-test .taken) (c .before .before .before .before .before .loop .inv) (value (c .before .before .before .before)) (c .before .before .new2 .ensures) (c .before .lower .ensures) (c .higher .ensures)
+    let before = c .before .before .before in
+    let kept = before .before .loop .inv in
+    let ok = value before in
+    ⊎-elim
+    (λ w. rw (w .3, w .4) (kept-step _ _ _ _ _ _ _ (w .1 .result) (w .2 .result) _ _ (before .loop-test .taken) kept ok refl (w .1 .ensures) (w .2 .ensures)))
+    (λ w. let h = c .before .inside .ensures (not-false _ (w .0 .left)) in
+    rw (w .1, w .2) (kept-stays _ _ _ _ _ _ _ _ _ (before .loop-test .taken) kept ok refl (h .0) (h .1)))
+    (c .if2 .came)
 
 between-requires : tie.Need-between-requires Inv-loop μ-loop
 between-requires c κs = search needs
@@ -103,13 +112,13 @@ best-slope-spec =
     loop-holds
     mul-p
     add-p
-    add-new
-    mul-new-2
-    shared-slice-read-new-2
-    sub-new-2
-    new-requires-2
-    lower-requires
-    higher-requires
+    mul-v
+    shared-slice-read-v
+    sub-v
+    add-i
+    inside-requires
+    lower-with-requires
+    higher-with-requires
     add-j
     loop-less
     loop-again

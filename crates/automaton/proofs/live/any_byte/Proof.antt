@@ -65,7 +65,7 @@ returns c =
       byte = l .b / 64 * 64 + k;
       low = omega arith;
       high = omega arith;
-      rest = look-up (p .1) (a .state) (l .b) (p .2) k (omega arith) (omega arith) set;
+      rest = look-up (p .1) (a .state) (l .b / 64) (p .2) k (omega arith) (omega arith) set;
     }
 
 add-b : tie.Need-add-b Inv-loop μ-loop
@@ -84,7 +84,7 @@ loop-again c =
       λ k h₁ h₂ h₃ m. ⊎-elim
           (λ g. l .inv .1 k g h₂ h₃ m)
           (λ g. when-false (c .before .any-set .ensures) (c .if2 .left)
-          (k - l .b / 64 * 64, omega arith, omega arith, look-down (p .1) (a .state) (l .b) (p .2) k (omega arith) (omega arith) (omega arith) m))
+          (k - l .b / 64 * 64, omega arith, omega arith, look-down (p .1) (a .state) (l .b / 64) (p .2) k (omega arith) (omega arith) (omega arith) m))
           (lt-or-le k (l .b)),
     )
 

@@ -1,11 +1,15 @@
 -- `index::lookup::get_block_with_key` meets its contract: the directory's answer first, then the store's, read through the table's numbers.
 use borrow.Author.Needs.{needs}
-use mathlib.Core.Path.{refl}
+use mathlib.Core.Path.{refl, sym, _∙_}
 use mathlib.Core.Logic.{inl, inr}
 use Prim.Native.Nat.{_<_}
 use native.Mathlib.Omega.{arith}
 use Rattle.directory.specs.Read.{FoundIn, FoundAs}
-use Rattle.index.proofs.Answered.{not-broken, same-block, key-refused, key-above}
+use Rattle.group.proofs.Legal.{numbers-ok}
+use Rattle.index.specs.Parts.{blockIn}
+use Rattle.index.proofs.OpenFacts.{opens-facts}
+use Rattle.index.proofs.LookupLaws.{opened-legal}
+use Rattle.index.proofs.Answered.{kept, key-refused, key-above}
 use Rattle.index.proofs.lookup.get_block_with_key.Statement.{statement}
 use Rattle.index.proofs.lookup.get_block_with_key.Tie as tie
 
@@ -36,23 +40,30 @@ get-requires c κs =
     let s = c .before .before .before .before .before .before in
     (s .pre .0, s .pre .1, omega (arith, known (c .before)))
 
-enum-known-block : tie.Need-enum-known-block
-enum-known-block c = search needs
-
-enum-told : tie.Need-enum-told
-enum-told c = search needs
+numbers-bad-requires : tie.Need-numbers-bad-requires
+numbers-bad-requires c κs = search needs
 
 returns-2 : tie.Need-returns-2
-returns-2 c = (inr (inr refl, refl, refl), λ o. absurd (not-broken _ _ (c .enum-told .given .1) (c .before .before .get .ensures .1 o)))
+returns-2 c =
+    let g = c .before .before in
+    let f = g .before .before in
+    let s = f .before .before .before .before .before in
+    let a = s .args in (
+      inr (inr refl, refl, refl),
+      λ o.
+          absurd
+          (kept (blockIn (a .group-len) (a .«data» .now)) (a .opened .n) _ _
+          (opened-legal _ _ _ (opens-facts (a .group-len) (a .«data» .now) (a .opened) (s .pre .0) o)) (known f)
+          (g .get .ensures o) (sym (c .before .numbers-bad .ensures) ∙ c .if1 .taken)),
+    )
 
 returns-3 : tie.Need-returns-3
 unfolding FoundAs
 returns-3 c =
-    let b = c .before .block .given in
-    let g = c .before .before .before in
+    let g = c .before .before in
     let f = g .before .before in (
-      inl (refl, known f, g .get .ensures .0 _ (b .1)),
-      λ o. inl (refl, rw (f .found .given .1) at (f .before .before .find .ensures .1 o), same-block _ _ _ (b .1) (g .get .ensures .1 o)),
+      inl (refl, known f, numbers-ok _ (sym (c .before .numbers-bad .ensures) ∙ c .if1 .left)),
+      λ o. inl (refl, rw (f .found .given .1) at (f .before .before .find .ensures .1 o), g .get .ensures o),
     )
 
 pub get-block-with-key-spec : {M : Type 1} → statement M
@@ -64,7 +75,6 @@ get-block-with-key-spec =
     refusal-requires
     returns
     get-requires
-    enum-known-block
-    enum-told
+    numbers-bad-requires
     returns-2
     returns-3)

@@ -6,7 +6,8 @@ use Rattle.pruning.proofs.Intervals.{past, marked-none}
 use Rattle.pruning.proofs.block_match_automaton.can_block_match.Statement.{statement}
 use Rattle.pruning.proofs.block_match_automaton.can_block_match.Tie as tie
 
-can-block-match-automaton-with-start-requires : tie.Need-can-block-match-automaton-with-start-requires
+can-block-match-automaton-with-start-requires :
+    tie.Need-can-block-match-automaton-with-start-requires
 can-block-match-automaton-with-start-requires c κs = search needs
 
 returns : tie.Need-returns
@@ -20,10 +21,12 @@ returns-2 c =
     let a = c .before .before .before .before .before .before .args in
     rw (c .before .before .if1 .left) (marked-none (a .table .now) (a .end-key .now) .1 (inl (when-true (c .before .is-match .ensures) (c .if2 .taken))))
 
-slice-aggregate-can-block-match-automaton-with-start : tie.Need-slice-aggregate-can-block-match-automaton-with-start
+slice-aggregate-can-block-match-automaton-with-start :
+    tie.Need-slice-aggregate-can-block-match-automaton-with-start
 slice-aggregate-can-block-match-automaton-with-start c = search needs
 
-can-block-match-automaton-with-start-requires-2 : tie.Need-can-block-match-automaton-with-start-requires-2
+can-block-match-automaton-with-start-requires-2 :
+    tie.Need-can-block-match-automaton-with-start-requires-2
 can-block-match-automaton-with-start-requires-2 c κs = search needs
 
 returns-3 : tie.Need-returns-3

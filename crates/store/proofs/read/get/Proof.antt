@@ -1,146 +1,43 @@
--- `store::read::get` meets its contract: each answer is the definition's by the tests passed.
+-- `store::read::get` meets its contract: a block whose numbers break row 3 is none.
 use borrow.Author.Needs.{needs}
-use mathlib.Core.Path.{_≡_, sym, _∙_}
-use mathlib.Core.Bool.{true, false}
+use mathlib.Core.Path.{_≡_, refl, sym, _∙_}
+use mathlib.Core.Bool.{Bool, true, false, true≢false}
 use mathlib.Core.List.{List}
-use Prim.Native.Nat.{ℕ, _-_, _/_, _<_}
-use native.Mathlib.Omega.{arith}
-use lib.ListN.{length, take, drop}
+use Prim.Native.Nat.{ℕ, _/_}
 use Rattle.group.specs.declared.BlockAddr.{BlockAddr}
 use Rattle.group.specs.Rows.{numbersBad}
-use Rattle.group.specs.Facts.{Readable}
-use Rattle.group.proofs.Reading.{GroupOk}
-use Rattle.store.specs.Store.{groupCount}
-use Rattle.store.specs.Read.{storeBlock, metaBad, storeGet}
+use Rattle.store.specs.Read.{storeBlock, metaBad, blockOr, storeGet}
+use Rattle.store.specs.declared.Got.{Got}
 use Rattle.store.specs.declared.Got.the-variants.{Block, Broken}
-use Rattle.store.proofs.Lookup.{block-begins, block-there, inner-there, group-kept, part-readable, bad-is, block-is}
 use Rattle.store.proofs.read.get.Statement.{statement}
 use Rattle.store.proofs.read.get.Tie as tie
 
-module _ (L : ℕ) (recs addr : List ℕ) (n i : ℕ) where
-  bad-group : metaBad L recs addr n (i / L) ≡ true → Broken ≡ storeGet L recs addr n i
-  unfolding storeGet
-  bad-group e = simp e
+module _ (L : ℕ) (recs addr : List ℕ) (n i : ℕ) (b : BlockAddr) (is : b ≡ blockOr L recs addr n i) where
+  broken : numbersBad b ≡ true → (m : Bool) → metaBad L recs addr n (i / L) ≡ m → Broken ≡ storeGet L recs addr n i
+  unfolding blockOr storeGet
+  broken e true m = simp m
+  broken e false m = simp (m, sym (rw m at is), e)
 
-  module _ (b : BlockAddr) (kept : metaBad L recs addr n (i / L) ≡ false) (block : b ≡ storeBlock L recs addr i) where
-    bad-numbers : numbersBad b ≡ true → Broken ≡ storeGet L recs addr n i
-    unfolding storeGet
-    bad-numbers e = simp (kept, sym block, e)
+  found : numbersBad b ≡ false → (m : Bool) → metaBad L recs addr n (i / L) ≡ m → Block b ≡ storeGet L recs addr n i
+  unfolding blockOr storeGet numbersBad
+  found e true m = let z : _≡_ {A = Bool} true false = rw (rw m at is) at e in absurd (true≢false z)
+  found e false m = simp (m, sym (rw m at is), e)
 
-    found : numbersBad b ≡ false → Block b ≡ storeGet L recs addr n i
-    unfolding storeGet
-    found e = simp (kept, sym block, e)
-
--- the block's group is there
-there : (c : tie.Start) → c .args .block-id / c .args .group-len < groupCount (c .args .group-len) (c .args .n)
-there c = block-there (c .args .group-len) (c .args .n) (c .pre .0 .some) (c .args .block-id) (c .pre .2)
-
-div-g : tie.Need-div-g
-div-g c = search needs
-
-mul-deserialize : tie.Need-mul-deserialize
-mul-deserialize c = omega (arith, there (c .before .before))
-
-deserialize-requires : tie.Need-deserialize-requires
-deserialize-requires c κs = omega (arith, there (c .before .before))
-
-blocks-in-requires : tie.Need-blocks-in-requires
-blocks-in-requires c κs =
-    let s = c .before .before .before in
-    omega (arith, block-begins (s .args .group-len) (s .args .n) (s .pre .0 .some) (s .args .block-id) (s .pre .2))
-
-meta-bad-requires : tie.Need-meta-bad-requires
-meta-bad-requires c κs = search needs
-
--- the test of the group is the definition's
-tested : (c : tie.After-meta-bad) → c .meta-bad .result
-    ≡ metaBad (c .before .before .before .before .before .args .group-len) (c .before .before .before .before .before .args .metas .now)
-    (c .before .before .before .before .before .args .addrs .now) (c .before .before .before .before .before .args .n)
-    (c .before .before .before .before .before .args .block-id / c .before .before .before .before .before .args .group-len)
-tested c =
-    let a = c .before .before .before .before .before .args in
-    bad-is (a .metas .now) (a .addrs .now) (a .block-id / a .group-len) _ (c .before .before .deserialize .ensures)
-    (a .group-len) (a .n) _ _ (c .before .blocks-in .ensures) (c .meta-bad .ensures)
-
-returns : tie.Need-returns
-returns c =
-    let a = c .before .before .before .before .before .before .args in
-    bad-group (a .group-len) (a .metas .now) (a .addrs .now) (a .n) (a .block-id) (sym (tested (c .before)) ∙ c .if1 .taken)
-
--- the group keeps its rule, and the bytes from its offset on can be read
-kept : (c : tie.Else1) → GroupOk (c .before .before .before .deserialize .result) (c .before .before .blocks-in .result) (length (c .before .before .before .before .before .before .args .addrs .now))
-kept c = group-kept _ _ (c .before .before .before .before .before .before .args .addrs .now) (sym (c .before .meta-bad .ensures) ∙ c .if1 .left)
-
-part-kept : (c : tie.Else1)
-    → Readable (c .before .before .before .deserialize .result)
-    (length (take (length (c .before .before .before .before .before .before .args .addrs .now) - c .before .before .before .deserialize .result .offset) (drop (c .before .before .before .deserialize .result .offset) (c .before .before .before .before .before .before .args .addrs .now))))
-part-kept c = part-readable _ _ (c .before .before .before .before .before .before .args .addrs .now) (sym (c .before .meta-bad .ensures) ∙ c .if1 .left)
-
-sub-deserialize-block-addr : tie.Need-sub-deserialize-block-addr
-sub-deserialize-block-addr c = omega (arith, kept c .inside)
-
-part-deserialize-block-addr-start : tie.Need-part-deserialize-block-addr-start
-part-deserialize-block-addr-start c = omega (arith, kept c .inside)
-
-part-deserialize-block-addr-end : tie.Need-part-deserialize-block-addr-end
-part-deserialize-block-addr-end c = search needs
-
-rem-deserialize-block-addr : tie.Need-rem-deserialize-block-addr
-rem-deserialize-block-addr c = search needs
-
-deserialize-block-addr-requires : tie.Need-deserialize-block-addr-requires
-deserialize-block-addr-requires c κs =
-    let s = c .before .before .before .before .before .before .before in
-    let e = c .before in (
-      part-kept e,
-      omega (arith, kept e .blocks, e .before .before .blocks-in .ensures, inner-there (s .args .group-len) (s .args .n) (s .pre .0 .some) (s .args .block-id) (s .pre .2)),
-    )
+block-requires : tie.Need-block-requires
+block-requires c κs = search needs
 
 numbers-bad-requires : tie.Need-numbers-bad-requires
 numbers-bad-requires c κs = search needs
 
--- the block read is the definition's
-read : (c : tie.After-deserialize-block-addr) → c .deserialize-block-addr .result
-    ≡ storeBlock (c .before .before .before .before .before .before .before .before .args .group-len)
-    (c .before .before .before .before .before .before .before .before .args .metas .now)
-    (c .before .before .before .before .before .before .before .before .args .addrs .now)
-    (c .before .before .before .before .before .before .before .before .args .block-id)
-unfolding storeBlock
-read c =
-    let a = c .before .before .before .before .before .before .before .before .args in
-    block-is (a .metas .now) (a .addrs .now) (a .block-id / a .group-len) _ (c .before .before .before .before .before .deserialize .ensures) _ _ (c .deserialize-block-addr .ensures)
+returns : tie.Need-returns
+returns c =
+    let a = c .before .before .before .before .before .args in
+    broken (a .group-len) (a .metas .now) (a .addrs .now) (a .n) (a .block-id) _ (c .before .before .block .ensures) (sym (c .before .numbers-bad .ensures) ∙ c .if1 .taken) _ refl
 
 returns-2 : tie.Need-returns-2
 returns-2 c =
-    let d = c .before .before in
-    let e = d .before .before in
-    let a = e .before .before .before .before .before .before .args in
-    bad-numbers (a .group-len) (a .metas .now) (a .addrs .now) (a .n) (a .block-id) _ (sym (tested (e .before)) ∙ e .if1 .left) (read d)
-    (sym (c .before .numbers-bad .ensures) ∙ c .if2 .taken)
-
-returns-3 : tie.Need-returns-3
-returns-3 c =
-    let d = c .before .before in
-    let e = d .before .before in
-    let a = e .before .before .before .before .before .before .args in
-    found (a .group-len) (a .metas .now) (a .addrs .now) (a .n) (a .block-id) _ (sym (tested (e .before)) ∙ e .if1 .left) (read d)
-    (sym (c .before .numbers-bad .ensures) ∙ c .if2 .left)
+    let a = c .before .before .before .before .before .args in
+    found (a .group-len) (a .metas .now) (a .addrs .now) (a .n) (a .block-id) _ (c .before .before .block .ensures) (sym (c .before .numbers-bad .ensures) ∙ c .if1 .left) _ refl
 
 pub get-spec : {M : Type 1} → statement M
-get-spec =
-    tie.close
-    (tie.spec
-    div-g
-    mul-deserialize
-    deserialize-requires
-    blocks-in-requires
-    meta-bad-requires
-    returns
-    sub-deserialize-block-addr
-    part-deserialize-block-addr-start
-    part-deserialize-block-addr-end
-    rem-deserialize-block-addr
-    deserialize-block-addr-requires
-    numbers-bad-requires
-    returns-2
-    returns-3)
+get-spec = tie.close (tie.spec block-requires numbers-bad-requires returns returns-2)

@@ -1,0 +1,45 @@
+-- The states along a key: one byte more, and what the next key keeps of them.
+use mathlib.Core.Path.{_≡_, refl, sym, ap, _∙_, subst}
+use mathlib.Core.List.{List}
+use mathlib.Core.Logic.{⊎-elim}
+use Prim.Native.Nat.{ℕ, _+_, _≤_, _<_, min}
+use native.Mathlib.Omega.{arith}
+use lib.ListN.{length, take, getD, set, length-set}
+use lib.Seq.{getD-set-same, getD-set-other, take-take}
+use Rattle.keys.specs.Order.{commonPrefixLen}
+use Rattle.keys.proofs.Order.{commonPrefixLen-take}
+use Rattle.automaton.specs.Table.{WellFormed, states, next}
+use Rattle.automaton.specs.Words.{Bytes, run}
+use Rattle.automaton.proofs.Exact.{same-or}
+use Rattle.automaton.proofs.Strings.{run-more, run-states, bytes-take}
+use Rattle.listing.specs.Followed.{Followed}
+
+module _ (t : List ℕ) where
+  pub followed-none : (key kept : List ℕ) → length kept ≡ 1025 → getD kept 0 0 ≡ 0 → Followed t key kept 0
+  unfolding run
+  followed-none key kept l e = record { long = l; each = λ j h. let z : j ≡ 0 = omega arith in rw (z, e) }
+
+  module _ (key kept : List ℕ) where
+    pub followed-less : (known fewer : ℕ) → Followed t key kept known → fewer ≤ known → Followed t key kept fewer
+    followed-less known fewer f h = record { long = f .long; each = λ j g. f .each j (omega arith) }
+
+    pub followed-more : (i v : ℕ) → Followed t key kept i → i < 1024 → v ≡ run t 0 (take (i + 1) key) → Followed t key (set kept (i + 1) v) (i + 1)
+    followed-more i v f h e = record {
+      long = simp length-set (f .long);
+      each = λ j l. ⊎-elim
+          (λ (q : j ≡ i + 1). rw (q, getD-set-same kept (i + 1) v 0 (omega (arith, f .long))) e)
+          (λ d. getD-set-other kept (i + 1) j v 0 d ∙ f .each j (omega arith))
+          (same-or j (i + 1));
+    }
+
+    pub followed-state : (known j : ℕ) → Followed t key kept known → WellFormed t → Bytes key → j ≤ known → getD kept j 0 < states t
+    followed-state known j f w b h = rw (f .each j h) (run-states w 0 (take j key) (omega (arith, w .some)) (bytes-take j key b))
+
+-- what two keys share
+same-front : (a b : List ℕ) (j : ℕ) → j ≤ commonPrefixLen a b → take j a ≡ take j b
+same-front a b j h =
+    let n = commonPrefixLen a b in
+    sym (take-take j n a h) ∙ ap (take j) (commonPrefixLen-take a b) ∙ take-take j n b h
+
+pub followed-next : (t a b kept : List ℕ) (known : ℕ) → Followed t a kept known → known ≤ commonPrefixLen a b → Followed t b kept known
+followed-next t a b kept known f h = record { long = f .long; each = λ j g. f .each j g ∙ ap (run t 0) (same-front a b j (omega arith)) }
