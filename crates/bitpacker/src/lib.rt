@@ -19,7 +19,7 @@ pub fn compute_num_bits(value: u64) -> u8
 // to be copied to every call of `load`.
 fn load_tail(data: &[u8], at: usize, left: usize) -> u64
     requires { ⌜ (left < 8) × (at + left ≤ length (now «data»)) ⌝ }
-    ensures { λ r. ⌜ r ≡ leVal (take left (drop at (now («data» .entry)))) ⌝ }
+    ensures { λ r. ⌜ r ≡ numberAt (now («data» .entry)) at left ⌝ }
 {
     if left >= 7 {
         return serialize::deserialize_le(data, at, 7);
