@@ -12,7 +12,7 @@ use Rattle.directory.specs.Read.{keysIn}
 use Rattle.directory.proofs.Opened.{directory-is, opened-good}
 use Rattle.index.specs.Parts.{directoryLen, directoryPart, storeLen, recordsLen, recordsPart, addrsPart}
 use Rattle.index.specs.Opening.{openNo}
-use Rattle.index.proofs.OpeningRows.{FooterOk, footer-ok, RecordsOk, records-ok, OpenOk, open-ok}
+use Rattle.index.proofs.OpeningRows.{FooterOk, footer-ok, RecordsExact, records-ok, OpenOk, open-ok}
 
 -- the first n bytes are those of a number, and so of the one that they spell
 module _ (n : ℕ) (l : List ℕ) (bytes : Below 8 l) (h : n ≤ length l) where
@@ -29,7 +29,7 @@ module _ (L : ℕ) (f : List ℕ) (bytes : Below 8 f) (ok : OpenOk L f) where
   footer : FooterOk f
   footer = footer-ok f (ok .footer)
 
-  records : RecordsOk L f
+  records : RecordsExact L f
   records = records-ok L f (ok .records)
 
   -- from the directory's length on

@@ -86,7 +86,7 @@ module _ (f : List ℕ) (footer : FooterOk f) where
 
 -- ---- row 14
 
-pub record RecordsOk (L : ℕ) (f : List ℕ) : Type 0 where
+pub record RecordsExact (L : ℕ) (f : List ℕ) : Type 0 where
   pub exact : recordsLen f ≡ 36 * groupCount L (countIn f)
   pub inside : 8 + recordsLen f ≤ storeLen f
 
@@ -113,10 +113,10 @@ module _ (L : ℕ) (f : List ℕ) where
     pub records-same : read ≡ 36 * groups → ltb (length f - 8 - d) (8 + 36 * groups) ≡ recordsBad L f
     records-same e = rw (← e, length-read, ed) (records-exact (sym length-read ∙ e ∙ needed))
 
-  pub records-good : RecordsOk L f → recordsBad L f ≡ false
+  pub records-good : RecordsExact L f → recordsBad L f ≡ false
   records-good ok = sym (records-exact (ok .exact)) ∙ le-ltb (storeLen f) (8 + recordsLen f) (ok .inside)
 
-  pub records-ok : recordsBad L f ≡ false → RecordsOk L f
+  pub records-ok : recordsBad L f ≡ false → RecordsExact L f
   unfolding recordsBad
   records-ok e =
       let both = neither (not (eqb (recordsLen f) (36 * groupCount L (countIn f)))) _ e in
@@ -127,7 +127,7 @@ module _ (L : ℕ) (f : List ℕ) where
 
 -- ---- the parts, by the directory's length d, the records' length m and n
 
-module _ (L : ℕ) (f : List ℕ) (d m : ℕ) (footer : FooterOk f) (ed : d ≡ directoryLen f) (records : RecordsOk L f) (em : m ≡ leVal (take 8 (drop d f))) where
+module _ (L : ℕ) (f : List ℕ) (d m : ℕ) (footer : FooterOk f) (ed : d ≡ directoryLen f) (records : RecordsExact L f) (em : m ≡ leVal (take 8 (drop d f))) where
   metas-read : m ≡ recordsLen f
   metas-read = rw (← ed) em
 

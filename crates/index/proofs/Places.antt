@@ -7,7 +7,8 @@ use native.Mathlib.Omega.{arith}
 use lib.Dec.{leb}
 use borrow.Author.Tests.{le-leb, lt-leb}
 use lib.ListN.{length, drop, length-take}
-use Rattle.directory.specs.Read.{number, keyOffset, keyLength, keyOutside}
+use Rattle.serialize.specs.Digits.{numberAt}
+use Rattle.directory.specs.Read.{keyOffset, keyLength, keyOutside}
 use Rattle.directory.proofs.Rules.{is-inside, length-place}
 use Rattle.index.specs.declared.SSTableIndexV3.{SSTableIndexV3}
 use Rattle.index.specs.declared.Place.{Place}
@@ -51,7 +52,7 @@ module _ (L : ℕ) (opened : SSTableIndexV3) (f : List ℕ) (id : ℕ) where
 
   -- with d the directory's bytes, and its pair read as the code reads it
   pub place-read : OpenedFits L opened (length f) → id < opened .n → (d : List ℕ) → d ≡ directoryAt opened f → keyOutside d (opened .n) id ≡ false
-      → (offset len : ℕ) → offset ≡ number d (4 + 8 * id) → len ≡ number d (4 + 8 * id + 4)
+      → (offset len : ℕ) → offset ≡ numberAt d (4 + 8 * id) 4 → len ≡ numberAt d (4 + 8 * id + 4) 4
       → Part (opened .directory + 4 + 8 * opened .n + offset) len ≡ placeDef L opened f id
   unfolding placeDef
   place-read fits h d same e offset len o l =
