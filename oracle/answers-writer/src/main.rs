@@ -1,16 +1,11 @@
 //! Writes the lists of answers into the folder that it is given.
 
 mod addresses;
-mod automaton;
 mod calls;
-mod files;
-mod foreign;
 mod indexes;
 mod intervals;
 mod leaves;
 mod listings;
-mod numbers;
-mod opening;
 mod patterns;
 mod refused;
 mod refused_tables;
