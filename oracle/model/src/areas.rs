@@ -87,6 +87,7 @@ pub fn first(rows: &[u64]) -> u64 {
 }
 
 /// The plain machine: entries, and the areas' lengths.
+#[derive(Clone)]
 pub struct Machine {
     pub entries: Vec<Entry>,
     pub room: usize,
@@ -99,7 +100,7 @@ impl Machine {
             n: self.entries.len() as u128,
             room: self.room as u128,
             key_room: self.key_room as u128,
-            taken: self.joined().len() as u128,
+            taken: self.entries.iter().map(|entry| entry.1.len() as u128).sum(),
             last: self.entries.last().cloned(),
         }
     }
@@ -211,4 +212,20 @@ pub fn index(entries: &[Entry]) -> (Vec<u8>, u64) {
         return (Vec::new(), 0);
     }
     (bytes, directory)
+}
+
+/// The rows of a store from a slice of blocks, all that hold but the output's.
+pub fn slice_rows(blocks: &[Block]) -> Vec<u64> {
+    let pairs = || blocks.windows(2);
+    hits(&[
+        (
+            3,
+            blocks
+                .iter()
+                .any(|b| b.end < b.start || b.end >= LIMIT || b.ord >= LIMIT),
+        ),
+        (4, pairs().any(|pair| pair[1].start != pair[0].end)),
+        (5, pairs().any(|pair| pair[1].ord <= pair[0].ord)),
+        (7, blocks.len() as u128 > MOST),
+    ])
 }

@@ -1,0 +1,4 @@
+//! The cases, by topic.
+
+pub mod keys;
+pub mod lists;
