@@ -48,10 +48,6 @@ impl<T: Junk> Lent<T> {
         &self.all[GUARD..self.all.len() - GUARD]
     }
 
-    pub fn part_mut(&mut self) -> &mut [T] {
-        let end = self.all.len() - GUARD;
-        &mut self.all[GUARD..end]
-    }
 
     pub fn ptr(&self) -> *const T {
         // SAFETY: the guard is inside.

@@ -1,6 +1,7 @@
 //! Counts of cases, for each call.
 
-use std::panic::{AssertUnwindSafe, catch_unwind};
+use std::cell::Cell;
+use std::panic::{self, AssertUnwindSafe, catch_unwind};
 use std::time::Instant;
 
 #[derive(Clone, Copy, Debug, PartialEq, Eq)]
@@ -208,7 +209,29 @@ impl Tally {
     }
 }
 
+thread_local! {
+    static ASKING: Cell<bool> = const { Cell::new(false) };
+}
+
 /// The Rust's answer; None where it panics.
 pub fn rust<T>(ask: impl FnOnce() -> T) -> Option<T> {
-    catch_unwind(AssertUnwindSafe(ask)).ok()
+    quietly(ask)
+}
+
+/// What a function returns; None where it panics.
+pub fn quietly<T>(ask: impl FnOnce() -> T) -> Option<T> {
+    ASKING.set(true);
+    let answer = catch_unwind(AssertUnwindSafe(ask)).ok();
+    ASKING.set(false);
+    answer
+}
+
+/// The Rust's panics are counted, not printed.
+pub fn keep_quiet() {
+    let print = panic::take_hook();
+    panic::set_hook(Box::new(move |info| {
+        if !ASKING.get() {
+            print(info);
+        }
+    }));
 }
