@@ -92,6 +92,14 @@ impl Builder {
         due
     }
 
+    /// An add that must be taken. It is no case: what it writes is compared with the next call.
+    pub fn add_unseen(&mut self, block: Block, key: &[u8]) {
+        let mut n = Out::of([self.areas.n]);
+        self.areas.add(block, key);
+        let no = library::add(&mut n, &mut self.blocks, &mut self.keys, &Lent::new(key), block);
+        assert!(no == 0 && n.is([self.areas.n]), "an add that must be taken");
+    }
+
     /// Returns the number.
     pub fn shorten(&mut self, tally: &mut Tally, next: &[u8]) -> u64 {
         let n = self.areas.n;
@@ -160,7 +168,16 @@ impl Builder {
         bytes
     }
 
-    fn finish_into(&mut self, tally: &mut Tally, room: usize, row: u64, index: (&[u8], u64)) {
+    /// A finish into a buffer of `room` bytes. Returns the number, the index and its directory's length.
+    pub fn finish_room(&mut self, tally: &mut Tally, room: usize) -> (u64, Vec<u8>, u64) {
+        let (row, bytes, directory) = self.index();
+        match self.finish_into(tally, room, row, (&bytes, directory)) {
+            0 => (0, bytes, directory),
+            no => (no, Vec::new(), 0),
+        }
+    }
+
+    fn finish_into(&mut self, tally: &mut Tally, room: usize, row: u64, index: (&[u8], u64)) -> u64 {
         let (bytes, directory) = index;
         let due = match row {
             0 if room < bytes.len() => 9,
@@ -180,6 +197,7 @@ impl Builder {
             let got = (no, total.value(), len.value());
             format!("into {room} bytes gives {got:?}, not {due} {lengths:?}; {}", self.lent())
         });
+        due
     }
 
     fn finish_len(&mut self, tally: &mut Tally, row: u64, due: u64) {

@@ -48,7 +48,6 @@ impl<T: Junk> Lent<T> {
         &self.all[GUARD..self.all.len() - GUARD]
     }
 
-
     pub fn ptr(&self) -> *const T {
         // SAFETY: the guard is inside.
         unsafe { self.all.as_ptr().add(GUARD) }

@@ -7,20 +7,25 @@ mod lent;
 mod library;
 mod opened;
 mod patterns;
+mod stored;
 mod stores;
 mod tally;
 
+use std::env;
+use std::path::Path;
 use std::process::ExitCode;
 
 use tally::Tally;
 
 fn main() -> ExitCode {
     tally::keep_quiet();
+    let root = env::args_os().nth(1).expect("the repository's folder");
     let mut tally = Tally::new();
     let tally = &mut tally;
     building(tally);
     reading(tally);
     patterns(tally);
+    stored::run(tally, Path::new(&root));
     let (passed, failed) = tally.print();
     println!("{passed} passed, {failed} failed");
     if failed == 0 { ExitCode::SUCCESS } else { ExitCode::FAILURE }

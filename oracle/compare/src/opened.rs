@@ -117,8 +117,8 @@ impl File {
         id.is_none_or(|id| id < self.n()) && range.is_none_or(|(start, end)| start <= end && end < LIMIT)
     }
 
-    /// By id.
-    pub fn id(&self, tally: &mut Tally, id: u64) {
+    /// By id. Returns the number, start, end and first ordinal.
+    pub fn id(&self, tally: &mut Tally, id: u64) -> (u64, [u64; 3]) {
         let record = Out::of(self.record);
         let mut block = [Out::new(), Out::new(), Out::new()];
         let no = library::get_block(&self.lent, &record, id, &mut block);
@@ -134,10 +134,11 @@ impl File {
         tally.case(Call::GetBlock, self.judge(), no, right && kept, || {
             format!("id {id} gives {no} {got:?}; {}", self.about())
         });
+        (no, got)
     }
 
-    /// By ordinal.
-    pub fn ord(&self, tally: &mut Tally, ord: u64) {
+    /// By ordinal. Returns the number, the id and the address.
+    pub fn ord(&self, tally: &mut Tally, ord: u64) -> (u64, [u64; 4]) {
         let record = Out::of(self.record);
         let mut found = [Out::new(), Out::new(), Out::new(), Out::new()];
         let no = library::locate_with_ord(&self.lent, &record, ord, &mut found);
@@ -163,10 +164,11 @@ impl File {
         tally.case(Call::LocateWithOrd, by, no, right && kept, || {
             format!("ordinal {ord} gives {no} {got:?}; {}", self.about())
         });
+        (no, got)
     }
 
     /// By key, the id alone.
-    pub fn key(&self, tally: &mut Tally, key: &[u8]) {
+    pub fn key(&self, tally: &mut Tally, key: &[u8]) -> (u64, [u64; 1]) {
         let record = Out::of(self.record);
         let lent = Lent::new(key);
         let mut id = Out::new();
@@ -183,10 +185,11 @@ impl File {
         tally.case(Call::LocateWithKey, self.judge(), no, right && kept, || {
             format!("key {key:x?} gives {no} {got:?}; {}", self.about())
         });
+        (no, got)
     }
 
     /// By key, with the address.
-    pub fn address(&self, tally: &mut Tally, key: &[u8]) {
+    pub fn address(&self, tally: &mut Tally, key: &[u8]) -> (u64, [u64; 4]) {
         let record = Out::of(self.record);
         let lent = Lent::new(key);
         let mut found = [Out::new(), Out::new(), Out::new(), Out::new()];
@@ -208,10 +211,11 @@ impl File {
         tally.case(Call::GetBlockWithKey, self.judge(), no, right && kept, || {
             format!("address of key {key:x?} gives {no} {got:?}; {}", self.about())
         });
+        (no, got)
     }
 
     /// A separator's place. The Rust can't be asked for one, but finds its id by it.
-    pub fn separator(&self, tally: &mut Tally, id: u64) {
+    pub fn separator(&self, tally: &mut Tally, id: u64) -> [u64; 2] {
         let record = Out::of(self.record);
         let mut place = [Out::new(), Out::new()];
         library::separator(&self.lent, &record, id, &mut place);
@@ -229,6 +233,7 @@ impl File {
         tally.case(Call::Separator, self.judge(), 0, right && kept, || {
             format!("separator {id} gives {got:?}; {}", self.about())
         });
+        got
     }
 
     fn part(&self, [offset, len]: [u64; 2]) -> Option<&[u8]> {
@@ -236,8 +241,8 @@ impl File {
         self.bytes.get(from..from.checked_add(usize::try_from(len).ok()?)?)
     }
 
-    /// A listing into a buffer of `room` bytes, for an automaton that breaks row `row` or none.
-    pub fn list(&self, tally: &mut Tally, automaton: (&[u8], &Lent<u8>), table: Result<&Table, u64>, room: usize) {
+    /// A listing into a buffer of `room` bytes. Returns the number, the count and the buffer.
+    pub fn list(&self, tally: &mut Tally, automaton: (&[u8], &Lent<u8>), table: Result<&Table, u64>, room: usize) -> (u64, u64, Vec<u8>) {
         let record = Out::of(self.record);
         let (bytes, lent) = automaton;
         let mut marks = Lent::buffer(room);
@@ -260,6 +265,7 @@ impl File {
             let shown = &marks.part()[..room.min(300)];
             format!("listing gives {no}, count {count}, {shown:?}; {bytes:x?}; {}", self.about())
         });
+        (no, count, marks.part().to_vec())
     }
 
     /// The number, and the marks of the Rust.

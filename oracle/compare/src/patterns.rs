@@ -50,8 +50,8 @@ impl Pattern {
         Some(mark.expect("the Rust marks an interval"))
     }
 
-    /// The mark of an interval. `absent` stands where there is no start.
-    pub fn block(&self, tally: &mut Tally, start: Option<&[u8]>, absent: &[u8], end: &[u8]) {
+    /// The mark of an interval. `absent` stands where there is no start. Returns the number and the mark.
+    pub fn block(&self, tally: &mut Tally, start: Option<&[u8]>, absent: &[u8], end: &[u8]) -> (u64, u64) {
         let mark = self.mark(start, end);
         let due = (self.taken().err().unwrap_or(0), [u64::from(mark == Some(true))]);
         let from = start.unwrap_or(absent);
@@ -64,6 +64,7 @@ impl Pattern {
             let got = matches.value();
             format!("{start:x?} {end:x?} gives {no} {got:?}, not {due:?}; {}", self.about())
         });
+        (no, matches.value()[0])
     }
 
     fn by(&self) -> By {
@@ -74,8 +75,8 @@ impl Pattern {
         format!("automaton {:x?}", &self.bytes[..self.bytes.len().min(1600)])
     }
 
-    /// An example in a buffer of `room` bytes.
-    pub fn example(&self, tally: &mut Tally, start: Option<&[u8]>, absent: &[u8], end: &[u8], room: usize) {
+    /// An example in a buffer of `room` bytes. Returns the number.
+    pub fn example(&self, tally: &mut Tally, start: Option<&[u8]>, absent: &[u8], end: &[u8], room: usize) -> u64 {
         let longer = start.unwrap_or_default().len().max(end.len());
         let due = match (self.taken(), self.mark(start, end)) {
             (Err(row), _) => row,
@@ -100,6 +101,7 @@ impl Pattern {
         tally.case(Call::Example, self.by(), no, right && kept, || {
             format!("{start:x?} {end:x?} into {room} gives {no} {found:x?}, not {due}; {}", self.about())
         });
+        no
     }
 
     /// Whether the string leads from state 0 to a flag of 1.

@@ -7,8 +7,8 @@ use crate::lent::{Lent, Out};
 use crate::library;
 use crate::tally::{By, Call, Tally, rust};
 
-/// Writes the store into buffers of these lengths beside its own.
-pub fn store(tally: &mut Tally, blocks: &[Block], rooms: &[isize]) {
+/// Writes the store into buffers of these lengths beside its own. Returns the store.
+pub fn store(tally: &mut Tally, blocks: &[Block], rooms: &[isize]) -> Vec<u8> {
     let row = first(&slice_rows(blocks));
     let written = rust(|| access::write_store(blocks));
     if row != 0 {
@@ -39,4 +39,5 @@ pub fn store(tally: &mut Tally, blocks: &[Block], rooms: &[isize]) {
             format!("{} blocks {shown:?} into {room} gives {no} {got:?}, not {due}", blocks.len())
         });
     }
+    bytes
 }

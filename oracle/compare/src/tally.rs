@@ -51,7 +51,7 @@ pub enum By {
     Model,
     /// what document 01 leaves free
     Free,
-    /// an answer of the stored lists
+    /// an answer of the stored lists, and what else there is
     Stored,
 }
 
@@ -77,6 +77,8 @@ pub struct Tally {
     counts: Vec<Count>,
     differences: (u64, u64),
     shown: u64,
+    /// cases are counted as those of the stored lists
+    replaying: bool,
     section: Option<(String, Instant, u64)>,
 }
 
@@ -89,12 +91,14 @@ impl Tally {
             counts: vec![Count::default(); CALLS.len()],
             differences: (0, 0),
             shown: 0,
+            replaying: false,
             section: None,
         }
     }
 
     /// One call whose whole result was compared. `no` is the number that the library gave.
     pub fn case(&mut self, call: Call, by: By, no: u64, right: bool, what: impl FnOnce() -> String) {
+        let by = if self.replaying { By::Stored } else { by };
         let count = &mut self.counts[call as usize];
         count.by[by as usize] += 1;
         if let Some(seen) = count.numbers.get_mut(no as usize) {
@@ -113,6 +117,17 @@ impl Tally {
             let short: String = text.chars().take(2000).collect();
             println!("FAILED {name}: {short}");
         }
+    }
+
+    /// The cases that follow are those of the stored lists, or no more.
+    pub fn replay(&mut self, replaying: bool) {
+        self.replaying = replaying;
+    }
+
+    /// The last case isn't what the stored list says.
+    pub fn unlike(&mut self, call: Call, line: &str) {
+        self.counts[call as usize].failed += 1;
+        self.failure(CALLS[call as usize].1, || format!("not the stored answer: {line}"));
     }
 
     /// The Rust was asked where document 01 refuses; None is a panic.

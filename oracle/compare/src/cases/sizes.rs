@@ -1,12 +1,13 @@
 //! Builders of the named sizes: added one by one, finished, opened and looked up.
 
-use model::areas::by_rule;
+use model::areas::{Areas, by_rule};
 use model::blocks::{LIMIT, block, random, touching};
 use model::numbers::Numbers;
 use tantivy_sstable::access::Block;
 
 use super::lookups;
 use crate::builder::Builder;
+use crate::lent::junk;
 use crate::opened;
 use crate::tally::Tally;
 
@@ -107,26 +108,24 @@ pub fn too_long(tally: &mut Tally) {
     }
 }
 
-/// 65,536 blocks, and one more. Adds are made in full; those at the groups' ends are compared with the whole areas.
+/// 65,536 blocks, and one more. Those at the groups' ends are compared with the whole areas.
 pub fn most(tally: &mut Tally) {
     tally.section("builders: 65,536 blocks");
     let mut rng = Numbers::from_seed(108);
-    let mut areas = model::areas::Areas {
+    let mut builder = Builder::raw(Areas {
         n: 0,
-        blocks: vec![0; 5 * 65_537],
-        keys: vec![0; 4 * 65_537],
-    };
+        blocks: junk(5 * 65_537),
+        keys: junk(4 * 65_537),
+    });
     for i in 0..65_536u32 {
         let (block, key) = by_rule(i);
-        let near = i % 128 == 127 || [0, 1, 128, 65_408, 65_534].contains(&i);
-        if near {
-            let mut builder = Builder::raw(areas.clone());
-            builder.add(tally, block, &key);
+        if i % 128 == 127 || [0, 1, 128, 65_408, 65_534].contains(&i) {
+            assert_eq!(builder.add(tally, block, &key), 0);
             builder.shorten(tally, &(i + 1).to_be_bytes());
+        } else {
+            builder.add_unseen(block, &key);
         }
-        areas.add(block, &key);
     }
-    let mut builder = Builder::raw(areas);
     let (after, key) = by_rule(65_536);
     assert_eq!(builder.add(tally, after, &key), 7);
     builder.add(tally, block(after.start, after.end, 0), &key);
