@@ -6,19 +6,10 @@ use std::fmt::Write;
 use model::areas::{Areas, Entry, MARK, MOST, Machine, View, by_rule, first, hits, index};
 use model::blocks::{LIMIT, WORKED, block};
 use model::numbers::Numbers;
+use model::sums::remainder;
 use tantivy_sstable::access::{self, Block};
 
 use crate::text::{hex, numbers};
-
-/// A prime.
-const MODULUS: u64 = (1 << 56) - 5;
-
-/// The remainder of the number that the bytes spell, the first one highest.
-fn remainder(bytes: &[u8]) -> u64 {
-    bytes
-        .iter()
-        .fold(0, |h, &byte| (256 * h + u64::from(byte)) % MODULUS)
-}
 
 /// The calls so far. A fresh builder is followed by the plain machine and by the areas, and both must agree.
 struct Calls {

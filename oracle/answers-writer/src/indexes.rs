@@ -3,9 +3,10 @@
 use std::collections::BTreeSet;
 use std::fmt::Write;
 
+use model::around;
 use model::blocks::{self, LIMIT, touching};
 use model::faults::others;
-use model::files::{Fault, File, rising, smallest, two_group_file, worked_file};
+use model::files::{self, Fault, File, rising, smallest, two_group_file, worked_file};
 use model::foreign::{self, Group};
 use model::numbers::Numbers;
 use model::opening::{self, Hit, Opened, Opening};
@@ -145,16 +146,16 @@ impl Indexes {
     pub fn look_up(&mut self, rng: &mut Numbers, some: usize) {
         assert_eq!(self.opening.no(), 0);
         let n = self.opening.record.n;
-        let chosen = chosen(rng, n, some);
+        let chosen = around::ids(rng, n, some);
         let mut ids = chosen.clone();
         ids.extend([n, n.next_multiple_of(128), u64::MAX]);
         for id in ids {
             self.id(id);
         }
-        for ord in ords(&self.opening.blocks, &chosen) {
+        for ord in around::ords(&self.opening.blocks, &chosen) {
             self.ord(ord);
         }
-        for (i, key) in keys(&self.opening.keys, &chosen).iter().enumerate() {
+        for (i, key) in around::keys(&self.opening.keys, &chosen).iter().enumerate() {
             if i % 2 == 0 {
                 self.key(key);
             } else {
@@ -188,46 +189,6 @@ fn rust(bytes: &[u8], opening: &Opening) -> Option<Index> {
         assert_eq!(&bytes[at as usize..(at + length) as usize], key);
     }
     Some(index)
-}
-
-/// Ids of a file: all of a short one.
-fn chosen(rng: &mut Numbers, n: u64, some: usize) -> BTreeSet<u64> {
-    if n <= 8 {
-        return (0..n).collect();
-    }
-    let ends = [0, 1, 126, 127, 128, 129, 255, 256, n - 2, n - 1];
-    let mut ids: BTreeSet<u64> = ends.into_iter().filter(|&id| id < n).collect();
-    ids.extend((0..some).map(|_| rng.below(n)));
-    ids
-}
-
-/// Each first ordinal, the one below and the one above, and some far away.
-fn ords(blocks: &[Block], ids: &BTreeSet<u64>) -> BTreeSet<u64> {
-    let mut ords = BTreeSet::from([0, u64::MAX]);
-    for &id in ids {
-        let ord = blocks[id as usize].ord;
-        ords.extend([ord.saturating_sub(1), ord, ord + 1]);
-    }
-    ords
-}
-
-/// Each separator, keys just above and below it, the empty key, and keys above all.
-fn keys(separators: &[Vec<u8>], ids: &BTreeSet<u64>) -> BTreeSet<Vec<u8>> {
-    let mut keys = BTreeSet::from([vec![], vec![0]]);
-    for &id in ids {
-        let separator = &separators[id as usize];
-        keys.insert(separator.clone());
-        keys.insert([&separator[..], &[0]].concat());
-        if let Some((&last, front)) = separator.split_last() {
-            keys.insert(match last {
-                0 => front.to_vec(),
-                _ => [front, &[last - 1, 0xff]].concat(),
-            });
-        }
-    }
-    let last = separators.last().unwrap();
-    keys.insert([&last[..], &[0xff; 3]].concat());
-    keys
 }
 
 pub fn list() -> String {
@@ -512,21 +473,7 @@ fn open_foreign(indexes: &mut Indexes, keys: &[Vec<u8>], groups: &[Group], junk:
 fn by_rule(indexes: &mut Indexes) {
     indexes.comment("the most blocks, and one more");
     for (count, no) in [(129u64, 0), (65_535, 0), (65_537, 12), (65_536, 0)] {
-        let lengths = vec![1; count as usize];
-        let blocks = touching(0, &lengths, 0, &lengths[1..]);
-        let keys: Vec<Vec<u8>> = (0..count).map(|i| i.to_be_bytes()[5..].to_vec()).collect();
-        let groups: Vec<Group> = blocks
-            .chunks(128)
-            .map(|blocks| Group {
-                blocks,
-                offset: 0,
-                range_slope: 1,
-                ord_slope: 1,
-                range_width: 1,
-                ord_width: 1,
-            })
-            .collect();
-        let file = File::new(&keys, &foreign::store(&groups, vec![0xff; 32]));
+        let file = files::by_rule(count);
         assert_eq!(indexes.open_as(&file.bytes(), format!("g {count}")), no);
     }
     for id in [

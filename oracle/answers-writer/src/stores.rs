@@ -2,6 +2,7 @@
 
 use model::blocks::{LIMIT, WORKED, by_rule, random, store, touching};
 use model::numbers::Numbers;
+use model::sums::fnv;
 use tantivy_sstable::access::Block;
 
 use crate::text::{List, hex, numbers};
@@ -113,12 +114,4 @@ fn flat(blocks: &[Block]) -> Vec<u64> {
         .iter()
         .flat_map(|b| [b.start, b.end, b.ord])
         .collect()
-}
-
-fn fnv(bytes: &[u8]) -> u64 {
-    bytes
-        .iter()
-        .fold(14_695_981_039_346_656_037, |h: u64, &byte| {
-            (h ^ u64::from(byte)).wrapping_mul(1_099_511_628_211)
-        })
 }

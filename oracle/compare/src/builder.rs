@@ -87,7 +87,10 @@ impl Builder {
         let right = no == due && n.is([self.areas.n]) && lent.holds(key);
         let right = self.settle() && right;
         tally.case(Call::Add, By::Model, no, right, || {
-            format!("{block:?} {key:x?} gives {no}, not {due}; now {}", self.lent())
+            format!(
+                "{block:?} {key:x?} gives {no}, not {due}; now {}",
+                self.lent()
+            )
         });
         due
     }
@@ -96,7 +99,13 @@ impl Builder {
     pub fn add_unseen(&mut self, block: Block, key: &[u8]) {
         let mut n = Out::of([self.areas.n]);
         self.areas.add(block, key);
-        let no = library::add(&mut n, &mut self.blocks, &mut self.keys, &Lent::new(key), block);
+        let no = library::add(
+            &mut n,
+            &mut self.blocks,
+            &mut self.keys,
+            &Lent::new(key),
+            block,
+        );
         assert!(no == 0 && n.is([self.areas.n]), "an add that must be taken");
     }
 
@@ -114,7 +123,7 @@ impl Builder {
                 self.areas.replace_last_key(&short);
                 self.machine_key(short);
             } else if due == 6 {
-                tally.outside(Call::Shorten, &short);
+                tally.outside(Call::Shorten, short.map(Some));
             }
         }
         let lent = Lent::new(next);
@@ -177,7 +186,13 @@ impl Builder {
         }
     }
 
-    fn finish_into(&mut self, tally: &mut Tally, room: usize, row: u64, index: (&[u8], u64)) -> u64 {
+    fn finish_into(
+        &mut self,
+        tally: &mut Tally,
+        room: usize,
+        row: u64,
+        index: (&[u8], u64),
+    ) -> u64 {
         let (bytes, directory) = index;
         let due = match row {
             0 if room < bytes.len() => 9,
@@ -195,7 +210,10 @@ impl Builder {
         let right = out.holds_front(front) && right && self.settle();
         tally.case(Call::Finish, by(due, self.areas.n), no, right, || {
             let got = (no, total.value(), len.value());
-            format!("into {room} bytes gives {got:?}, not {due} {lengths:?}; {}", self.lent())
+            format!(
+                "into {room} bytes gives {got:?}, not {due} {lengths:?}; {}",
+                self.lent()
+            )
         });
         due
     }
@@ -212,5 +230,9 @@ impl Builder {
 }
 
 fn by(no: u64, n: u64) -> By {
-    if no == 0 && n > 1 { By::Rust } else { By::Model }
+    if no == 0 && n > 1 {
+        By::Rust
+    } else {
+        By::Model
+    }
 }

@@ -52,11 +52,31 @@ type One = Out<1>;
 
 // SAFETY of all calls: pointers and lengths of parts that are lent and don't overlap, out-parameters of their own.
 
-pub fn add(n: &mut One, blocks: &mut Lent<u64>, keys: &mut Bytes, key: &Bytes, block: Block) -> u64 {
+pub fn add(
+    n: &mut One,
+    blocks: &mut Lent<u64>,
+    keys: &mut Bytes,
+    key: &Bytes,
+    block: Block,
+) -> u64 {
     let Block { start, end, ord } = block;
     let (places, room) = (blocks.ptr_mut(), blocks.len());
     let (bytes, key_room) = (keys.ptr_mut(), keys.len());
-    unsafe { rosmarel_add(n.ptr(), places, room, bytes, key_room, key.ptr(), key.len(), start, end, ord) }.into()
+    unsafe {
+        rosmarel_add(
+            n.ptr(),
+            places,
+            room,
+            bytes,
+            key_room,
+            key.ptr(),
+            key.len(),
+            start,
+            end,
+            ord,
+        )
+    }
+    .into()
 }
 
 pub fn shorten(n: u64, blocks: &mut Lent<u64>, keys: &mut Bytes, next: &Bytes) -> u64 {
@@ -66,16 +86,45 @@ pub fn shorten(n: u64, blocks: &mut Lent<u64>, keys: &mut Bytes, next: &Bytes) -
 }
 
 /// The two out-parameters are total and directory length.
-pub fn finish(n: u64, blocks: &Lent<u64>, keys: &Bytes, out: &mut Bytes, lengths: [&mut One; 2]) -> u64 {
+pub fn finish(
+    n: u64,
+    blocks: &Lent<u64>,
+    keys: &Bytes,
+    out: &mut Bytes,
+    lengths: [&mut One; 2],
+) -> u64 {
     let [total, directory] = lengths;
     let (places, room) = (blocks.ptr(), blocks.len());
     let (written, out_room) = (out.ptr_mut(), out.len());
     let (total, directory) = (total.ptr(), directory.ptr());
-    unsafe { rosmarel_finish(n, places, room, keys.ptr(), keys.len(), written, out_room, total, directory) }.into()
+    unsafe {
+        rosmarel_finish(
+            n,
+            places,
+            room,
+            keys.ptr(),
+            keys.len(),
+            written,
+            out_room,
+            total,
+            directory,
+        )
+    }
+    .into()
 }
 
 pub fn finish_len(n: u64, blocks: &Lent<u64>, keys: &Bytes, total: &mut One) -> u64 {
-    unsafe { rosmarel_finish_len(n, blocks.ptr(), blocks.len(), keys.ptr(), keys.len(), total.ptr()) }.into()
+    unsafe {
+        rosmarel_finish_len(
+            n,
+            blocks.ptr(),
+            blocks.len(),
+            keys.ptr(),
+            keys.len(),
+            total.ptr(),
+        )
+    }
+    .into()
 }
 
 /// The blocks are three numbers each.
@@ -104,20 +153,51 @@ pub fn get_block(index: &Bytes, opened: &Out<7>, id: u64, block: &mut [One; 3]) 
 pub fn locate_with_ord(index: &Bytes, opened: &Out<7>, ord: u64, found: &mut [One; 4]) -> u64 {
     let [id, start, end, first] = found.each_mut().map(One::ptr);
     let record = opened.record();
-    unsafe { rosmarel_locate_with_ord(index.ptr(), index.len(), record, ord, id, start, end, first) }.into()
+    unsafe {
+        rosmarel_locate_with_ord(index.ptr(), index.len(), record, ord, id, start, end, first)
+    }
+    .into()
 }
 
 pub fn locate_with_key(index: &Bytes, opened: &Out<7>, key: &Bytes, id: &mut One) -> u64 {
     let record = opened.record();
-    unsafe { rosmarel_locate_with_key(index.ptr(), index.len(), record, key.ptr(), key.len(), id.ptr()) }.into()
+    unsafe {
+        rosmarel_locate_with_key(
+            index.ptr(),
+            index.len(),
+            record,
+            key.ptr(),
+            key.len(),
+            id.ptr(),
+        )
+    }
+    .into()
 }
 
 /// The out-parameters are id, start, end and first ordinal.
-pub fn get_block_with_key(index: &Bytes, opened: &Out<7>, key: &Bytes, found: &mut [One; 4]) -> u64 {
+pub fn get_block_with_key(
+    index: &Bytes,
+    opened: &Out<7>,
+    key: &Bytes,
+    found: &mut [One; 4],
+) -> u64 {
     let [id, start, end, ord] = found.each_mut().map(One::ptr);
     let record = opened.record();
     let (bytes, len) = (index.ptr(), index.len());
-    unsafe { rosmarel_get_block_with_key(bytes, len, record, key.ptr(), key.len(), id, start, end, ord) }.into()
+    unsafe {
+        rosmarel_get_block_with_key(
+            bytes,
+            len,
+            record,
+            key.ptr(),
+            key.len(),
+            id,
+            start,
+            end,
+            ord,
+        )
+    }
+    .into()
 }
 
 /// The out-parameters are offset and length.
@@ -127,7 +207,13 @@ pub fn separator(index: &Bytes, opened: &Out<7>, id: u64, place: &mut [One; 2]) 
     unsafe { rosmarel_separator(index.ptr(), index.len(), record, id, offset, length) }
 }
 
-pub fn list(index: &Bytes, opened: &Out<7>, automaton: &Bytes, marks: &mut Bytes, count: &mut One) -> u64 {
+pub fn list(
+    index: &Bytes,
+    opened: &Out<7>,
+    automaton: &Bytes,
+    marks: &mut Bytes,
+    count: &mut One,
+) -> u64 {
     let record = opened.record();
     let (bytes, len) = (index.ptr(), index.len());
     let (table, size) = (automaton.ptr(), automaton.len());
@@ -136,16 +222,54 @@ pub fn list(index: &Bytes, opened: &Out<7>, automaton: &Bytes, marks: &mut Bytes
 }
 
 /// A start that is absent is lent too.
-pub fn can_block_match(has: bool, start: &Bytes, end: &Bytes, automaton: &Bytes, matches: &mut One) -> u64 {
+pub fn can_block_match(
+    has: bool,
+    start: &Bytes,
+    end: &Bytes,
+    automaton: &Bytes,
+    matches: &mut One,
+) -> u64 {
     let (table, size) = (automaton.ptr(), automaton.len());
     let (from, upto) = (start.ptr(), end.ptr());
-    unsafe { rosmarel_can_block_match(has, from, start.len(), upto, end.len(), table, size, matches.ptr()) }.into()
+    unsafe {
+        rosmarel_can_block_match(
+            has,
+            from,
+            start.len(),
+            upto,
+            end.len(),
+            table,
+            size,
+            matches.ptr(),
+        )
+    }
+    .into()
 }
 
-pub fn example(has: bool, keys: [&Bytes; 2], automaton: &Bytes, out: &mut Bytes, len: &mut One) -> u64 {
+pub fn example(
+    has: bool,
+    keys: [&Bytes; 2],
+    automaton: &Bytes,
+    out: &mut Bytes,
+    len: &mut One,
+) -> u64 {
     let [start, end] = keys;
     let (table, size) = (automaton.ptr(), automaton.len());
     let (written, room) = (out.ptr_mut(), out.len());
     let (from, upto) = (start.ptr(), end.ptr());
-    unsafe { rosmarel_example(has, from, start.len(), upto, end.len(), table, size, written, room, len.ptr()) }.into()
+    unsafe {
+        rosmarel_example(
+            has,
+            from,
+            start.len(),
+            upto,
+            end.len(),
+            table,
+            size,
+            written,
+            room,
+            len.ptr(),
+        )
+    }
+    .into()
 }

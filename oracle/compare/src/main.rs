@@ -2,6 +2,7 @@
 
 mod builder;
 mod cases;
+mod differences;
 mod keys;
 mod lent;
 mod library;
@@ -26,9 +27,14 @@ fn main() -> ExitCode {
     reading(tally);
     patterns(tally);
     stored::run(tally, Path::new(&root));
+    differences::run(tally, Path::new(&root));
     let (passed, failed) = tally.print();
     println!("{passed} passed, {failed} failed");
-    if failed == 0 { ExitCode::SUCCESS } else { ExitCode::FAILURE }
+    if failed == 0 {
+        ExitCode::SUCCESS
+    } else {
+        ExitCode::FAILURE
+    }
 }
 
 fn building(tally: &mut Tally) {

@@ -26,10 +26,11 @@ pub fn open(tally: &mut Tally, bytes: &[u8]) -> File {
     let opening = opening::open(bytes);
     let due = opening.no();
     let record = opening.answer().numbers();
-    let index = rust(|| Index::open(bytes));
+    let index = rust(|| Index::try_open(bytes).ok());
     if due != 0 {
-        tally.outside(Call::Open, &index);
+        tally.outside(Call::Open, index.as_ref().map(Option::as_ref));
     }
+    let index = index.flatten();
     let lent = Lent::new(bytes);
     let mut opened = Out::new();
     let no = library::open(&lent, &mut opened);
@@ -99,7 +100,12 @@ impl File {
     }
 
     /// What a lookup must answer: a refusal by this row, or numbers.
-    fn due<const N: usize>(&self, row: u64, rust: Option<Option<[u64; N]>>, model: Option<[u64; N]>) -> Option<(u64, [u64; N])> {
+    fn due<const N: usize>(
+        &self,
+        row: u64,
+        rust: Option<Option<[u64; N]>>,
+        model: Option<[u64; N]>,
+    ) -> Option<(u64, [u64; N])> {
         let due = Due { rust, model };
         // where the model refuses, the Rust may panic
         let agree = due.agree() || model.is_none() && due.rust.is_none();
@@ -110,11 +116,19 @@ impl File {
     }
 
     /// Whether an answer is among those that document 01 leaves free: the id, then start and end.
-    fn free(&self, no: u64, row: u64, numbers: &[u64], id: Option<u64>, range: Option<(u64, u64)>) -> bool {
+    fn free(
+        &self,
+        no: u64,
+        row: u64,
+        numbers: &[u64],
+        id: Option<u64>,
+        range: Option<(u64, u64)>,
+    ) -> bool {
         if no != 0 {
             return (no == row || no == 20) && numbers.iter().all(|&number| number == 0);
         }
-        id.is_none_or(|id| id < self.n()) && range.is_none_or(|(start, end)| start <= end && end < LIMIT)
+        id.is_none_or(|id| id < self.n())
+            && range.is_none_or(|(start, end)| start <= end && end < LIMIT)
     }
 
     /// By id. Returns the number, start, end and first ordinal.
@@ -149,10 +163,14 @@ impl File {
                 let model = self.opening.by_ord(ord).map(located);
                 let answer = rust(|| located(index.get_and_locate_with_ord(ord)));
                 if model.is_none() {
-                    tally.outside(Call::LocateWithOrd, &answer);
+                    tally.outside(Call::LocateWithOrd, answer.map(Some));
                 }
                 // below the first there is nothing to hold the Rust to
-                let answer = if model.is_none() { None } else { answer.map(Some) };
+                let answer = if model.is_none() {
+                    None
+                } else {
+                    answer.map(Some)
+                };
                 self.due(18, answer, model) == Some((no, got))
             }
             _ => self.free(no, 18, &got, Some(got[0]), Some((got[1], got[2]))),
@@ -208,9 +226,18 @@ impl File {
             }
             _ => self.free(no, 19, &got, Some(got[0]), Some((got[1], got[2]))),
         };
-        tally.case(Call::GetBlockWithKey, self.judge(), no, right && kept, || {
-            format!("address of key {key:x?} gives {no} {got:?}; {}", self.about())
-        });
+        tally.case(
+            Call::GetBlockWithKey,
+            self.judge(),
+            no,
+            right && kept,
+            || {
+                format!(
+                    "address of key {key:x?} gives {no} {got:?}; {}",
+                    self.about()
+                )
+            },
+        );
         (no, got)
     }
 
@@ -225,7 +252,9 @@ impl File {
         let right = match &self.rust {
             Some(index) if self.exact => {
                 let due = self.opening.place(id);
-                let found = part.and_then(|key| rust(|| index.locate_with_key(key))).flatten();
+                let found = part
+                    .and_then(|key| rust(|| index.locate_with_key(key)))
+                    .flatten();
                 got == due.map_or([0, 0], <[u64; 2]>::from) && (due.is_none() || found == Some(id))
             }
             _ => part.is_some(),
@@ -238,11 +267,18 @@ impl File {
 
     fn part(&self, [offset, len]: [u64; 2]) -> Option<&[u8]> {
         let from = usize::try_from(offset).ok()?;
-        self.bytes.get(from..from.checked_add(usize::try_from(len).ok()?)?)
+        self.bytes
+            .get(from..from.checked_add(usize::try_from(len).ok()?)?)
     }
 
     /// A listing into a buffer of `room` bytes. Returns the number, the count and the buffer.
-    pub fn list(&self, tally: &mut Tally, automaton: (&[u8], &Lent<u8>), table: Result<&Table, u64>, room: usize) -> (u64, u64, Vec<u8>) {
+    pub fn list(
+        &self,
+        tally: &mut Tally,
+        automaton: (&[u8], &Lent<u8>),
+        table: Result<&Table, u64>,
+        room: usize,
+    ) -> (u64, u64, Vec<u8>) {
         let record = Out::of(self.record);
         let (bytes, lent) = automaton;
         let mut marks = Lent::buffer(room);
@@ -263,7 +299,10 @@ impl File {
         };
         tally.case(Call::List, by, no, right && kept, || {
             let shown = &marks.part()[..room.min(300)];
-            format!("listing gives {no}, count {count}, {shown:?}; {bytes:x?}; {}", self.about())
+            format!(
+                "listing gives {no}, count {count}, {shown:?}; {bytes:x?}; {}",
+                self.about()
+            )
         });
         (no, count, marks.part().to_vec())
     }
@@ -290,7 +329,9 @@ impl File {
         if no != 0 {
             return (20..=24).contains(&no) && count == 0 && marks.holds_front(&[]);
         }
-        let written = usize::try_from(self.n()).ok().and_then(|n| marks.part().get(..n));
+        let written = usize::try_from(self.n())
+            .ok()
+            .and_then(|n| marks.part().get(..n));
         written.is_some_and(|written| {
             let ones = written.iter().filter(|&&mark| mark == 1).count() as u64;
             written.iter().all(|&mark| mark <= 1) && ones == count && marks.holds_front(written)

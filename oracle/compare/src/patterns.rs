@@ -51,9 +51,18 @@ impl Pattern {
     }
 
     /// The mark of an interval. `absent` stands where there is no start. Returns the number and the mark.
-    pub fn block(&self, tally: &mut Tally, start: Option<&[u8]>, absent: &[u8], end: &[u8]) -> (u64, u64) {
+    pub fn block(
+        &self,
+        tally: &mut Tally,
+        start: Option<&[u8]>,
+        absent: &[u8],
+        end: &[u8],
+    ) -> (u64, u64) {
         let mark = self.mark(start, end);
-        let due = (self.taken().err().unwrap_or(0), [u64::from(mark == Some(true))]);
+        let due = (
+            self.taken().err().unwrap_or(0),
+            [u64::from(mark == Some(true))],
+        );
         let from = start.unwrap_or(absent);
         let (one, other) = (Lent::new(from), Lent::new(end));
         let mut matches = Out::new();
@@ -62,13 +71,20 @@ impl Pattern {
         let right = no == due.0 && matches.is(due.1) && kept;
         tally.case(Call::CanBlockMatch, self.by(), no, right, || {
             let got = matches.value();
-            format!("{start:x?} {end:x?} gives {no} {got:?}, not {due:?}; {}", self.about())
+            format!(
+                "{start:x?} {end:x?} gives {no} {got:?}, not {due:?}; {}",
+                self.about()
+            )
         });
         (no, matches.value()[0])
     }
 
     fn by(&self) -> By {
-        if self.table.is_ok() { By::Rust } else { By::Model }
+        if self.table.is_ok() {
+            By::Rust
+        } else {
+            By::Model
+        }
     }
 
     fn about(&self) -> String {
@@ -76,7 +92,14 @@ impl Pattern {
     }
 
     /// An example in a buffer of `room` bytes. Returns the number.
-    pub fn example(&self, tally: &mut Tally, start: Option<&[u8]>, absent: &[u8], end: &[u8], room: usize) -> u64 {
+    pub fn example(
+        &self,
+        tally: &mut Tally,
+        start: Option<&[u8]>,
+        absent: &[u8],
+        end: &[u8],
+        room: usize,
+    ) -> u64 {
         let longer = start.unwrap_or_default().len().max(end.len());
         let due = match (self.taken(), self.mark(start, end)) {
             (Err(row), _) => row,
@@ -88,10 +111,18 @@ impl Pattern {
         let (one, other) = (Lent::new(from), Lent::new(end));
         let mut out = Lent::buffer(room);
         let mut len = Out::new();
-        let no = library::example(start.is_some(), [&one, &other], &self.lent, &mut out, &mut len);
+        let no = library::example(
+            start.is_some(),
+            [&one, &other],
+            &self.lent,
+            &mut out,
+            &mut len,
+        );
         let kept = one.holds(from) && other.holds(end) && self.lent.holds(&self.bytes);
         let length = len.value()[0];
-        let found = usize::try_from(length).ok().and_then(|length| out.part().get(..length));
+        let found = usize::try_from(length)
+            .ok()
+            .and_then(|length| out.part().get(..length));
         let fits = match (due, found) {
             (0, Some(string)) => self.accepts(string) && inside(start, end, string),
             (0, None) => false,
@@ -99,7 +130,10 @@ impl Pattern {
         };
         let right = no == due && fits && len.guarded() && found.is_some_and(|f| out.holds_front(f));
         tally.case(Call::Example, self.by(), no, right && kept, || {
-            format!("{start:x?} {end:x?} into {room} gives {no} {found:x?}, not {due}; {}", self.about())
+            format!(
+                "{start:x?} {end:x?} into {room} gives {no} {found:x?}, not {due}; {}",
+                self.about()
+            )
         });
         no
     }

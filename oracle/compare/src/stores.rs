@@ -12,13 +12,16 @@ pub fn store(tally: &mut Tally, blocks: &[Block], rooms: &[isize]) -> Vec<u8> {
     let row = first(&slice_rows(blocks));
     let written = rust(|| access::write_store(blocks));
     if row != 0 {
-        tally.outside(Call::Store, &written);
+        tally.outside(Call::Store, written.as_ref().map(Some));
     }
     let bytes = match row {
         0 => written.expect("the Rust writes a store"),
         _ => Vec::new(),
     };
-    let flat: Vec<u64> = blocks.iter().flat_map(|b| [b.start, b.end, b.ord]).collect();
+    let flat: Vec<u64> = blocks
+        .iter()
+        .flat_map(|b| [b.start, b.end, b.ord])
+        .collect();
     let lent = Lent::new(&flat);
     for &room in rooms {
         let room = bytes.len().saturating_add_signed(room);
@@ -36,7 +39,10 @@ pub fn store(tally: &mut Tally, blocks: &[Block], rooms: &[isize]) -> Vec<u8> {
         tally.case(Call::Store, by, no, right, || {
             let got = len.value();
             let shown = &blocks[..blocks.len().min(20)];
-            format!("{} blocks {shown:?} into {room} gives {no} {got:?}, not {due}", blocks.len())
+            format!(
+                "{} blocks {shown:?} into {room} gives {no} {got:?}, not {due}",
+                blocks.len()
+            )
         });
     }
     bytes

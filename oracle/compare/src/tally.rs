@@ -61,9 +61,8 @@ struct Count {
     failed: u64,
     /// by number
     numbers: [u64; 26],
-    /// the Rust, asked where document 01 refuses
-    panicked: u64,
-    answered: u64,
+    /// the Rust, asked where document 01 refuses: it panicked, refused too, or answered
+    outside: [u64; 3],
 }
 
 impl Count {
@@ -97,7 +96,14 @@ impl Tally {
     }
 
     /// One call whose whole result was compared. `no` is the number that the library gave.
-    pub fn case(&mut self, call: Call, by: By, no: u64, right: bool, what: impl FnOnce() -> String) {
+    pub fn case(
+        &mut self,
+        call: Call,
+        by: By,
+        no: u64,
+        right: bool,
+        what: impl FnOnce() -> String,
+    ) {
         let by = if self.replaying { By::Stored } else { by };
         let count = &mut self.counts[call as usize];
         count.by[by as usize] += 1;
@@ -127,16 +133,19 @@ impl Tally {
     /// The last case isn't what the stored list says.
     pub fn unlike(&mut self, call: Call, line: &str) {
         self.counts[call as usize].failed += 1;
-        self.failure(CALLS[call as usize].1, || format!("not the stored answer: {line}"));
+        self.failure(CALLS[call as usize].1, || {
+            format!("not the stored answer: {line}")
+        });
     }
 
     /// The Rust was asked where document 01 refuses; None is a panic.
-    pub fn outside<T>(&mut self, call: Call, answer: &Option<T>) {
-        let count = &mut self.counts[call as usize];
-        match answer {
-            None => count.panicked += 1,
-            Some(_) => count.answered += 1,
-        }
+    pub fn outside<T>(&mut self, call: Call, answer: Option<Option<T>>) {
+        let kind = match answer {
+            None => 0,
+            Some(None) => 1,
+            Some(Some(_)) => 2,
+        };
+        self.counts[call as usize].outside[kind] += 1;
     }
 
     /// A listed difference that was shown, or not.
@@ -162,7 +171,10 @@ impl Tally {
     pub fn end_section(&mut self) {
         if let Some((name, began, before)) = self.section.take() {
             let cases = self.cases() - before;
-            println!("{name}: {cases} cases, {:.1} s", began.elapsed().as_secs_f64());
+            println!(
+                "{name}: {cases} cases, {:.1} s",
+                began.elapsed().as_secs_f64()
+            );
         }
     }
 
@@ -194,9 +206,11 @@ impl Tally {
         for (call, name, _) in CALLS {
             let count = &self.counts[call as usize];
             let [rust, model, free, stored] = count.by;
-            let outside = match (count.panicked, count.answered) {
-                (0, 0) => String::new(),
-                (panicked, answered) => format!("   {panicked} panics, {answered} answers"),
+            let outside = match count.outside {
+                [0, 0, 0] => String::new(),
+                [panics, refusals, answers] => {
+                    format!("   {panics} panics, {refusals} refusals, {answers} answers")
+                }
             };
             println!(
                 "{name:<19}{:>10}{rust:>10}{model:>10}{free:>9}{stored:>8}{:>8}{outside}",
@@ -208,7 +222,10 @@ impl Tally {
         println!("differences shown: {shown}, not shown: {missed}");
         self.print_numbers();
         let failed = self.counts.iter().map(|count| count.failed).sum::<u64>() + missed;
-        ((self.cases() + shown + missed).saturating_sub(failed), failed)
+        (
+            (self.cases() + shown + missed).saturating_sub(failed),
+            failed,
+        )
     }
 
     fn print_numbers(&self) {

@@ -5,6 +5,7 @@ use std::collections::BTreeSet;
 use tantivy_sstable::access::{self, Block};
 
 use crate::blocks::{self, touching};
+use crate::foreign::{self, Group};
 use crate::numbers::Numbers;
 
 /// The parts of a file.
@@ -148,4 +149,23 @@ pub fn rising(rng: &mut Numbers, count: u64, longest: u64) -> Vec<Vec<u8>> {
         keys.insert(key);
     }
     keys.into_iter().collect()
+}
+
+/// The file of the rule that the stored list of indexes has in its comment.
+pub fn by_rule(count: u64) -> File {
+    let lengths = vec![1; count as usize];
+    let blocks = touching(0, &lengths, 0, &lengths[1..]);
+    let keys: Vec<Vec<u8>> = (0..count).map(|i| i.to_be_bytes()[5..].to_vec()).collect();
+    let groups: Vec<Group> = blocks
+        .chunks(128)
+        .map(|blocks| Group {
+            blocks,
+            offset: 0,
+            range_slope: 1,
+            ord_slope: 1,
+            range_width: 1,
+            ord_width: 1,
+        })
+        .collect();
+    File::new(&keys, &foreign::store(&groups, vec![0xff; 32]))
 }

@@ -106,7 +106,10 @@ pub fn changed(tally: &mut Tally) {
 /// Every key area of four bytes over two letters and FF, behind lengths of every kind.
 pub fn keys(tally: &mut Tally) {
     tally.section("areas: every key area of four bytes over three letters");
-    for keys in super::keys::all(b"ab\xff", 4).iter().filter(|keys| keys.len() == 4) {
+    for keys in super::keys::all(b"ab\xff", 4)
+        .iter()
+        .filter(|keys| keys.len() == 4)
+    {
         for one in 0..4 {
             for two in 0..4 {
                 let blocks = vec![0, 1, 0, 0, one, 1, 2, 1, one, two, 0, 0, 0, 0, 0];
@@ -135,7 +138,11 @@ pub fn random(tally: &mut Tally, count: u64) {
                 let at = rng.below(areas.blocks.len() as u64) as usize;
                 let old = areas.blocks[at];
                 let near = rng.pick(&[old.wrapping_sub(1), old.wrapping_add(1), old ^ 3]);
-                areas.blocks[at] = if rng.one_in(2) { near } else { rng.pick(&EDGES) };
+                areas.blocks[at] = if rng.one_in(2) {
+                    near
+                } else {
+                    rng.pick(&EDGES)
+                };
             }
         }
         if rng.one_in(8) {
@@ -147,7 +154,13 @@ pub fn random(tally: &mut Tally, count: u64) {
         let start = end.wrapping_add(u64::from(rng.one_in(6)));
         let key = rng.pick(&[&b""[..], b"z", b"zz\x00", b"m", b"\xff\xff"]);
         let room = rng.pick(&[0, 0, -1, 9]);
-        calls(tally, &areas, block(start, start.saturating_add(2), ord), key, room);
+        calls(
+            tally,
+            &areas,
+            block(start, start.saturating_add(2), ord),
+            key,
+            room,
+        );
     }
 }
 

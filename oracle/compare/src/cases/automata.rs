@@ -25,9 +25,8 @@ fn every_table(m: usize, bounds: &[u8]) -> impl Iterator<Item = Table> {
     let count = (1 << m) * m.pow((m * classes) as u32);
     (0..count).map(move |code| {
         let flags: Vec<u8> = (0..m).map(|state| (code >> state & 1) as u8).collect();
-        let next = |state: usize, class: usize| {
-            (code >> m) / m.pow((state * classes + class) as u32) % m
-        };
+        let next =
+            |state: usize, class: usize| (code >> m) / m.pow((state * classes + class) as u32) % m;
         let class = |byte: usize| bounds.iter().filter(|&&bound| byte >= bound.into()).count();
         Table::rule(flags, |state, byte| next(state, class(byte)))
     })
@@ -79,10 +78,15 @@ fn table(rng: &mut Numbers, round: u64) -> (Table, Vec<u8>) {
             chain(rng, &order)
         }
         4 => (ring(rng, m, round as usize / 8), vec![]),
-        5 => (Table::rule(flags(rng, m), |s, b| (s + 1 + b / 128) % m), vec![]),
+        5 => (
+            Table::rule(flags(rng, m), |s, b| (s + 1 + b / 128) % m),
+            vec![],
+        ),
         6 => {
             let length = rng.below(6);
-            let word: Vec<u8> = (0..length).map(|_| rng.pick(&[0x00, 0x61, 0xfe, 0xff])).collect();
+            let word: Vec<u8> = (0..length)
+                .map(|_| rng.pick(&[0x00, 0x61, 0xfe, 0xff]))
+                .collect();
             (Table::beginning(&word), word)
         }
         _ => {
@@ -106,7 +110,11 @@ pub fn random(tally: &mut Tally, count: u64) {
                 interval(&mut rng, &table, longest)
             } else {
                 let cut = rng.below(word.len() as u64 + 1) as usize;
-                let one = if rng.one_in(2) { &word[..] } else { &word[..cut] };
+                let one = if rng.one_in(2) {
+                    &word[..]
+                } else {
+                    &word[..cut]
+                };
                 beside(&mut rng, one, &word)
             };
             with_rooms(tally, &mut rng, &pattern, &keys);

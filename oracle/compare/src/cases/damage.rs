@@ -42,7 +42,12 @@ impl Whole {
     fn new(bytes: Vec<u8>) -> Whole {
         let opening = opening::open(&bytes);
         assert_eq!(opening.no(), 0);
-        let words: Vec<&[u8]> = opening.keys.iter().take(4).map(|key| &key[..key.len().min(8)]).collect();
+        let words: Vec<&[u8]> = opening
+            .keys
+            .iter()
+            .take(4)
+            .map(|key| &key[..key.len().min(8)])
+            .collect();
         Whole {
             bytes,
             record: opening.record,
@@ -151,7 +156,10 @@ pub fn cut(tally: &mut Tally) {
             whole.with(tally, &bytes[..at]);
             whole.with(tally, &bytes[at..]);
             whole.with(tally, &[&bytes[..at], &bytes[at + 1..]].concat());
-            whole.with(tally, &[&bytes[..at], &[rng.next() as u8], &bytes[at..]].concat());
+            whole.with(
+                tally,
+                &[&bytes[..at], &[rng.next() as u8], &bytes[at..]].concat(),
+            );
         }
     }
 }
@@ -178,7 +186,12 @@ pub fn pairs(tally: &mut Tally) {
     let whole = Whole::new(smallest().bytes());
     for one in 0..whole.bytes.len() {
         for other in one + 1..whole.bytes.len() {
-            for first in [0, whole.bytes[one] ^ 1, whole.bytes[one].wrapping_add(1), 0xff] {
+            for first in [
+                0,
+                whole.bytes[one] ^ 1,
+                whole.bytes[one].wrapping_add(1),
+                0xff,
+            ] {
                 for second in [0, whole.bytes[other] ^ 1, 0xff] {
                     let mut bytes = whole.bytes.clone();
                     bytes[one] = first;

@@ -12,7 +12,10 @@ use crate::tally::Tally;
 
 /// Opens the file of these groups, which must hold their blocks, and looks everything up.
 fn open(tally: &mut Tally, rng: &mut Numbers, groups: &[Group], addresses: Vec<u8>) {
-    let blocks: Vec<Block> = groups.iter().flat_map(|group| group.blocks.to_vec()).collect();
+    let blocks: Vec<Block> = groups
+        .iter()
+        .flat_map(|group| group.blocks.to_vec())
+        .collect();
     let keys = rising(rng, blocks.len() as u64, 4);
     let bytes = Parts::new(&keys, &foreign::store(groups, addresses)).bytes();
     let file = opened::open(tally, &bytes);
@@ -24,8 +27,12 @@ fn open(tally: &mut Tally, rng: &mut Numbers, groups: &[Group], addresses: Vec<u
 /// Blocks whose distances from these slopes fit these widths: up to 2^(width - 4) more in each step.
 fn near_slopes(rng: &mut Numbers, count: usize, slopes: [u32; 2], widths: [u8; 2]) -> Vec<Block> {
     let [range, ord] = widths.map(|width| u64::from(width).saturating_sub(11).min(38));
-    let lengths: Vec<u64> = (0..count).map(|_| u64::from(slopes[0]) + rng.bits(range)).collect();
-    let steps: Vec<u64> = (1..count).map(|_| u64::from(slopes[1]).max(1) + rng.bits(ord)).collect();
+    let lengths: Vec<u64> = (0..count)
+        .map(|_| u64::from(slopes[0]) + rng.bits(range))
+        .collect();
+    let steps: Vec<u64> = (1..count)
+        .map(|_| u64::from(slopes[1]).max(1) + rng.bits(ord))
+        .collect();
     touching(rng.bits(20), &lengths, rng.bits(20), &steps)
 }
 
@@ -60,7 +67,10 @@ pub fn wide(tally: &mut Tally) {
     for range_width in 50..=56 {
         for ord_width in 50..=56 {
             let count = rng.within(126, 260) as usize;
-            let slopes = [rng.pick(&[0, 9, 1 << 31, u32::MAX]), rng.pick(&[0, 1, 1 << 30])];
+            let slopes = [
+                rng.pick(&[0, 9, 1 << 31, u32::MAX]),
+                rng.pick(&[0, 1, 1 << 30]),
+            ];
             let blocks = near_slopes(&mut rng, count, slopes, [range_width, ord_width]);
             let (mut groups, mut offset) = (Vec::new(), rng.below(3) as usize);
             for blocks in blocks.chunks(128) {
@@ -165,7 +175,18 @@ pub fn overlaps(tally: &mut Tally) {
             if inside && offset * 8 % usize::from(width) == 0 {
                 open(tally, &mut rng, &[first, second], vec![0; room]);
             } else {
-                at_any_offset(tally, &mut rng, [first, Group { offset: 0, ..second }], offset);
+                at_any_offset(
+                    tally,
+                    &mut rng,
+                    [
+                        first,
+                        Group {
+                            offset: 0,
+                            ..second
+                        },
+                    ],
+                    offset,
+                );
             }
         }
     }
@@ -173,7 +194,11 @@ pub fn overlaps(tally: &mut Tally) {
 
 /// The second group's offset is replaced in its record: its fields are what lies there, or nothing.
 fn at_any_offset(tally: &mut Tally, rng: &mut Numbers, groups: [Group; 2], offset: usize) {
-    let keys = rising(rng, groups.iter().map(|group| group.blocks.len() as u64).sum(), 4);
+    let keys = rising(
+        rng,
+        groups.iter().map(|group| group.blocks.len() as u64).sum(),
+        4,
+    );
     let store = foreign::store(&groups, vec![0; groups[0].length()]);
     let mut parts = Parts::new(&keys, &store);
     parts.offset(1, offset as u64);

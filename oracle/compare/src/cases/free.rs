@@ -41,7 +41,14 @@ fn files() -> Vec<Vec<u8>> {
     let long = Parts::written(&blocks, &rising(&mut rng, 260, 4));
     let refused = smallest().with(|file| file.widths(0, 57, 0));
     let late = two_group_file(2).with(|file| file.widths(1, 57, 0));
-    let files = [worked_file(), smallest(), two_group_file(2), long, refused, late];
+    let files = [
+        worked_file(),
+        smallest(),
+        two_group_file(2),
+        long,
+        refused,
+        late,
+    ];
     let mut files: Vec<Vec<u8>> = files.iter().map(Parts::bytes).collect();
     files.push(vec![]);
     files
@@ -72,14 +79,27 @@ pub fn changed(tally: &mut Tally) {
         let len = bytes.len() as u64;
         for at in 0..7 {
             let old = own[at];
-            let beside = [0, 1, old.wrapping_sub(1), old.wrapping_add(1), len, u64::MAX, 1 << 63];
+            let beside = [
+                0,
+                1,
+                old.wrapping_sub(1),
+                old.wrapping_add(1),
+                len,
+                u64::MAX,
+                1 << 63,
+            ];
             for value in beside {
                 let mut numbers = own;
                 numbers[at] = value;
                 file.set_record(Opened::of(numbers));
                 all(tally, &file, &patterns[..1]);
                 for other in at + 1..7 {
-                    for change in [0, 2, numbers[other].wrapping_add(1), u64::MAX - numbers[other]] {
+                    for change in [
+                        0,
+                        2,
+                        numbers[other].wrapping_add(1),
+                        u64::MAX - numbers[other],
+                    ] {
                         let mut numbers = numbers;
                         numbers[other] = change;
                         file.set_record(Opened::of(numbers));
@@ -119,7 +139,14 @@ fn record(rng: &mut Numbers, len: u64, own: Opened) -> Opened {
         }
         let from = rng.below(len + 2);
         let length = rng.below(len + 2 - from.min(len));
-        (from, if rng.one_in(2) { length / unit * unit } else { length })
+        (
+            from,
+            if rng.one_in(2) {
+                length / unit * unit
+            } else {
+                length
+            },
+        )
     };
     let (directory, records) = (place(own.directory, 4), place(own.records, 36));
     let addresses = place(own.addresses, 1);

@@ -42,7 +42,10 @@ fn pair(tally: &mut Tally, left: &[u8], right: &[u8]) {
 /// Every pair of keys of up to four bytes, and of up to three over more bytes.
 pub fn pairs(tally: &mut Tally) {
     tally.section("keys: every pair of short ones");
-    for (bytes, longest) in [(&[0x00, 0x01, 0xfe, 0xff][..], 4), (b"\x00a\x7f\x80b\xff", 3)] {
+    for (bytes, longest) in [
+        (&[0x00, 0x01, 0xfe, 0xff][..], 4),
+        (b"\x00a\x7f\x80b\xff", 3),
+    ] {
         let keys = all(bytes, longest);
         for left in &keys {
             for right in &keys {
@@ -56,7 +59,9 @@ pub fn pairs(tally: &mut Tally) {
 pub fn long(tally: &mut Tally) {
     tally.section("keys: up to 1,025 bytes, long common fronts");
     let mut rng = Numbers::from_seed(101);
-    for length in (0..70).chain([127, 128, 129, 255, 256, 257, 511, 512, 1022, 1023, 1024, 1025]) {
+    for length in (0..70).chain([
+        127, 128, 129, 255, 256, 257, 511, 512, 1022, 1023, 1024, 1025,
+    ]) {
         let same = vec![0xff; length];
         pair(tally, &same, &same);
         for at in (0..length).filter(|&at| length < 70 || at % 61 == 0 || at + 4 > length) {
@@ -90,6 +95,10 @@ pub fn random(tally: &mut Tally, count: u64) {
             bytes.collect()
         };
         let (left, right) = (end(8), end(8));
-        pair(tally, &[&front[..], &left].concat(), &[&front[..], &right].concat());
+        pair(
+            tally,
+            &[&front[..], &left].concat(),
+            &[&front[..], &right].concat(),
+        );
     }
 }

@@ -73,12 +73,21 @@ pub fn random_ones(tally: &mut Tally, count: u64) {
     let mut rng = Numbers::from_seed(121);
     for round in 0..count {
         let n = rng.pick(&[2, 3, 5, 9, 30, 127, 128, 129, 257, 300]);
-        let names = if round % 2 == 0 { rising(&mut rng, n, 5) } else { separators(&mut rng, n) };
+        let names = if round % 2 == 0 {
+            rising(&mut rng, n, 5)
+        } else {
+            separators(&mut rng, n)
+        };
         let blocks = random(&mut rng, n, 8, 4, 10, 10);
         let file = opened::open(tally, &Parts::written(&blocks, &names).bytes());
         for _ in 0..20 {
             let pattern = pattern(&mut rng, &names);
-            list(tally, &file, &pattern, rng.pick(&[0, 0, 0, 1, 50, -1, -1000]));
+            list(
+                tally,
+                &file,
+                &pattern,
+                rng.pick(&[0, 0, 0, 1, 50, -1, -1000]),
+            );
         }
     }
 }
@@ -87,7 +96,9 @@ pub fn random_ones(tally: &mut Tally, count: u64) {
 pub fn large(tally: &mut Tally) {
     tally.section("listings: 65,536 blocks, separators of 1,024 bytes");
     let mut rng = Numbers::from_seed(122);
-    let names: Vec<Vec<u8>> = (0..65_536u32).map(|i| i.to_be_bytes()[1..].to_vec()).collect();
+    let names: Vec<Vec<u8>> = (0..65_536u32)
+        .map(|i| i.to_be_bytes()[1..].to_vec())
+        .collect();
     let blocks = touching(0, &vec![1; 65_536], 0, &vec![1; 65_535]);
     let file = opened::open(tally, &Parts::written(&blocks, &names).bytes());
     for _ in 0..12 {
@@ -95,7 +106,9 @@ pub fn large(tally: &mut Tally) {
         list(tally, &file, &pattern, rng.pick(&[0, 7]));
         list(tally, &file, &pattern, -1);
     }
-    let names: Vec<Vec<u8>> = (0..130).map(|i| [vec![0xff; 1023], vec![i]].concat()).collect();
+    let names: Vec<Vec<u8>> = (0..130)
+        .map(|i| [vec![0xff; 1023], vec![i]].concat())
+        .collect();
     let blocks = random(&mut rng, 130, 8, 4, 10, 10);
     let file = opened::open(tally, &Parts::written(&blocks, &names).bytes());
     for _ in 0..60 {

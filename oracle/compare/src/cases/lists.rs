@@ -73,13 +73,19 @@ fn add(rng: &mut Numbers, builder: &Builder) -> Step {
     let last = builder.areas.view(builder.areas.n).last;
     let (before, separator) = last.unwrap_or((block(0, rng.bits(30), 0), vec![]));
     let bits = rng.pick(&[0, 3, 10, 30, 47, 48]);
-    let start = before.end.wrapping_add(if rng.one_in(16) { rng.pick(&[1, u64::MAX]) } else { 0 });
+    let start = before.end.wrapping_add(if rng.one_in(16) {
+        rng.pick(&[1, u64::MAX])
+    } else {
+        0
+    });
     let mut end = start.saturating_add(rng.bits(bits));
     if rng.one_in(16) {
         end = rng.pick(&[start.wrapping_sub(1), LIMIT - 1, LIMIT, u64::MAX]);
     }
     let bits = rng.pick(&[0, 1, 4, 20, 47]);
-    let mut ord = before.ord.saturating_add(u64::from(!rng.one_in(16)) + rng.bits(bits));
+    let mut ord = before
+        .ord
+        .saturating_add(u64::from(!rng.one_in(16)) + rng.bits(bits));
     if rng.one_in(24) {
         ord = rng.pick(&[0, LIMIT - 1, LIMIT, u64::MAX]);
     }

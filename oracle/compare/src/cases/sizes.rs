@@ -35,7 +35,9 @@ fn keys(rng: &mut Numbers, count: u64, front: u64, behind: u64) -> Vec<Vec<u8>> 
     let front = rng.bytes(front);
     let key = |i: u64, rng: &mut Numbers| {
         let length = rng.below(behind + 1);
-        let tail: Vec<u8> = (0..length).map(|_| rng.pick(&[0x00, 0x61, 0xff, 0xff])).collect();
+        let tail: Vec<u8> = (0..length)
+            .map(|_| rng.pick(&[0x00, 0x61, 0xff, 0xff]))
+            .collect();
         [&front[..], &(i as u32).to_be_bytes()[2..], &tail].concat()
     };
     (0..count).map(|i| key(i, rng)).collect()

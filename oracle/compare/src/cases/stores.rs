@@ -40,7 +40,11 @@ pub fn powers(tally: &mut Tally) {
         for &step in values.iter().filter(|&&step| step > 0) {
             let rest = (top - length).min(step);
             store(tally, &touching(0, &[length, rest], 0, &[step]), &[0]);
-            store(tally, &touching(top - length, &[length], top - step, &[]), &[0]);
+            store(
+                tally,
+                &touching(top - length, &[length], top - step, &[]),
+                &[0],
+            );
             let half = [length / 2, length - length / 2, rest / 2];
             let steps = [step.div_ceil(2), (step / 2).max(1)];
             if steps[0] + steps[1] <= top {
@@ -82,19 +86,31 @@ fn spoil(rng: &mut Numbers, blocks: &mut [Block]) {
         1 => &mut chosen.end,
         _ => &mut chosen.ord,
     };
-    *number = rng.pick(&[0, number.wrapping_sub(1), *number + 1, LIMIT - 1, LIMIT, u64::MAX]);
+    *number = rng.pick(&[
+        0,
+        number.wrapping_sub(1),
+        *number + 1,
+        LIMIT - 1,
+        LIMIT,
+        u64::MAX,
+    ]);
 }
 
 /// The sizes around one and two groups.
 pub fn sizes(tally: &mut Tally) {
     tally.section("stores: 2, 127 to 129, 255 to 257 and more blocks");
     let mut rng = Numbers::from_seed(106);
-    for n in [1, 2, 126, 127, 128, 129, 130, 255, 256, 257, 384, 385, 1023, 1024, 1025, 1026] {
+    for n in [
+        1, 2, 126, 127, 128, 129, 130, 255, 256, 257, 384, 385, 1023, 1024, 1025, 1026,
+    ] {
         for round in 0..60 {
             let bits = 46 - u64::from(u64::ilog2(n));
             let (length_bits, step_bits) = (rng.within(0, bits), rng.within(0, bits));
             let blocks = match round % 3 {
-                0 => by_rule(rng.below(4_000_000) * 529 + rng.below(23) * 23 + rng.below(23), n),
+                0 => by_rule(
+                    rng.below(4_000_000) * 529 + rng.below(23) * 23 + rng.below(23),
+                    n,
+                ),
                 _ => random(&mut rng, n, length_bits, step_bits, 40, 40),
             };
             store(tally, &blocks, &[0, -1, 1]);

@@ -2,13 +2,11 @@
 
 use model::areas::{Areas, MARK, by_rule};
 use model::blocks::block;
+use model::sums::remainder;
 
 use super::Words;
 use crate::builder::Builder;
 use crate::tally::{Call, Tally};
-
-/// A prime.
-const MODULUS: u64 = (1 << 56) - 5;
 
 pub fn run(tally: &mut Tally, lines: &[&str]) {
     let mut builder = Builder::fresh(0, 0);
@@ -36,7 +34,10 @@ fn call(tally: &mut Tally, builder: &mut Builder, letter: &str, words: &mut Word
         "a" => {
             let [start, end, ord] = words.numbers();
             let key = words.bytes();
-            let (got, due) = (builder.add(tally, block(start, end, ord), &key), words.number());
+            let (got, due) = (
+                builder.add(tally, block(start, end, ord), &key),
+                words.number(),
+            );
             words.hold(tally, Call::Add, got, due);
         }
         "k" => {
@@ -49,7 +50,12 @@ fn call(tally: &mut Tally, builder: &mut Builder, letter: &str, words: &mut Word
             let (n, keys) = (words.number(), words.bytes());
             let entries = builder.areas.entries();
             let joined: Vec<u8> = entries.iter().flat_map(|entry| entry.1.clone()).collect();
-            words.hold(tally, Call::Shorten, (entries.len() as u64, joined), (n, keys));
+            words.hold(
+                tally,
+                Call::Shorten,
+                (entries.len() as u64, joined),
+                (n, keys),
+            );
         }
         "f" => {
             let [room, no, total, directory] = words.numbers();
@@ -76,12 +82,14 @@ fn large(tally: &mut Tally, letter: &str, words: &mut Words) {
     if letter == "m" {
         let [start, end, ord] = words.numbers();
         let key = words.bytes();
-        let (got, due) = (builder.add(tally, block(start, end, ord), &key), words.number());
+        let (got, due) = (
+            builder.add(tally, block(start, end, ord), &key),
+            words.number(),
+        );
         return words.hold(tally, Call::Add, got, due);
     }
     let [room, no, total, directory, rest] = words.numbers();
     let (got, bytes, len) = builder.finish_room(tally, room as usize);
-    let remainder = |rest: u64, &byte: &u8| (256 * rest + u64::from(byte)) % MODULUS;
-    let got = [got, bytes.len() as u64, len, bytes.iter().fold(0, remainder)];
+    let got = [got, bytes.len() as u64, len, remainder(&bytes)];
     words.hold(tally, Call::Finish, got, [no, total, directory, rest]);
 }

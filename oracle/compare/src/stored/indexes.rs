@@ -1,8 +1,6 @@
 //! Files that are opened, and lookups in them.
 
-use model::blocks::touching;
-use model::files::File as Parts;
-use model::foreign::{self, Group};
+use model::files::by_rule;
 use model::opening::Opened;
 
 use super::Words;
@@ -19,7 +17,7 @@ pub fn run(tally: &mut Tally, lines: &[&str]) {
                 file = open(tally, &mut words, &bytes);
             }
             "g" => {
-                let bytes = by_rule(words.number());
+                let bytes = by_rule(words.number()).bytes();
                 file = open(tally, &mut words, &bytes);
             }
             "c" => {
@@ -40,23 +38,6 @@ fn open(tally: &mut Tally, words: &mut Words, bytes: &[u8]) -> File {
     let due = (words.number(), words.numbers());
     words.hold(tally, Call::Open, got, due);
     file
-}
-
-/// The file of the rule in the list's comment.
-fn by_rule(count: u64) -> Vec<u8> {
-    let lengths = vec![1; count as usize];
-    let blocks = touching(0, &lengths, 0, &lengths[1..]);
-    let keys: Vec<Vec<u8>> = (0..count).map(|i| i.to_be_bytes()[5..].to_vec()).collect();
-    let group = |blocks| Group {
-        blocks,
-        offset: 0,
-        range_slope: 1,
-        ord_slope: 1,
-        range_width: 1,
-        ord_width: 1,
-    };
-    let groups: Vec<Group> = blocks.chunks(128).map(group).collect();
-    Parts::new(&keys, &foreign::store(&groups, vec![0xff; 32])).bytes()
 }
 
 /// Small letters have an answer, capitals are left free.

@@ -25,4 +25,3 @@ pub fn run(tally: &mut Tally, lines: &[&str]) {
         }
     }
 }
-

@@ -49,11 +49,15 @@ impl<'a> Words<'a> {
     }
 
     fn word(&mut self) -> &'a str {
-        self.words.next().unwrap_or_else(|| panic!("{} is too short", self.line))
+        self.words
+            .next()
+            .unwrap_or_else(|| panic!("{} is too short", self.line))
     }
 
     fn number(&mut self) -> u64 {
-        self.word().parse().unwrap_or_else(|_| panic!("no number in {}", self.line))
+        self.word()
+            .parse()
+            .unwrap_or_else(|_| panic!("no number in {}", self.line))
     }
 
     fn numbers<const N: usize>(&mut self) -> [u64; N] {

@@ -64,7 +64,11 @@ fn next_states(letter: &str, words: &mut Words, m: usize) -> Vec<u8> {
     for state in &mut next[..256 * (m - 1)] {
         x = (x * 1_103_515_245 + 12_345) % (1 << 31);
         let v = x / 65_536;
-        *state = if v % 256 < k { m as u8 - 1 } else { (v / 256 % m as u64) as u8 };
+        *state = if v % 256 < k {
+            m as u8 - 1
+        } else {
+            (v / 256 % m as u64) as u8
+        };
     }
     next
 }

@@ -2,6 +2,7 @@
 
 use model::blocks::{block, by_rule};
 use model::files::File as Parts;
+use model::sums::fnv;
 
 use super::Words;
 use crate::opened::{self, File};
@@ -24,18 +25,16 @@ pub fn run(tally: &mut Tally, lines: &[&str]) {
             "h" => {
                 let [seed, count, length, hash] = words.numbers();
                 let got = store(tally, &by_rule(seed, count), &[0]);
-                words.hold(tally, Call::Store, (got.len() as u64, fnv(&got)), (length, hash));
+                words.hold(
+                    tally,
+                    Call::Store,
+                    (got.len() as u64, fnv(&got)),
+                    (length, hash),
+                );
             }
             _ => look_up(tally, letter, &mut words),
         }
     }
-}
-
-/// The 64-bit FNV-1a hash.
-fn fnv(bytes: &[u8]) -> u64 {
-    bytes.iter().fold(14_695_981_039_346_656_037, |hash: u64, &byte| {
-        (hash ^ u64::from(byte)).wrapping_mul(1_099_511_628_211)
-    })
 }
 
 /// No index has fewer than two blocks, so lookups in such stores are left out.
