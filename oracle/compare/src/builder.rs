@@ -95,18 +95,17 @@ impl Builder {
         due
     }
 
-    /// An add that must be taken. It is no case: what it writes is compared with the next call.
-    pub fn add_unseen(&mut self, block: Block, key: &[u8]) {
+    /// An add that must be taken. It is a case only if it isn't: what it writes is compared with the next call.
+    pub fn add_unseen(&mut self, tally: &mut Tally, block: Block, key: &[u8]) {
         let mut n = Out::of([self.areas.n]);
         self.areas.add(block, key);
-        let no = library::add(
-            &mut n,
-            &mut self.blocks,
-            &mut self.keys,
-            &Lent::new(key),
-            block,
-        );
-        assert!(no == 0 && n.is([self.areas.n]), "an add that must be taken");
+        let lent = Lent::new(key);
+        let no = library::add(&mut n, &mut self.blocks, &mut self.keys, &lent, block);
+        if no != 0 || !n.is([self.areas.n]) {
+            tally.case(Call::Add, By::Model, no, false, || {
+                format!("{block:?} {key:x?} gives {no}; now {}", self.lent())
+            });
+        }
     }
 
     /// Returns the number.

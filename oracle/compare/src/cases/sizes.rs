@@ -125,7 +125,7 @@ pub fn most(tally: &mut Tally) {
             assert_eq!(builder.add(tally, block, &key), 0);
             builder.shorten(tally, &(i + 1).to_be_bytes());
         } else {
-            builder.add_unseen(block, &key);
+            builder.add_unseen(tally, block, &key);
         }
     }
     let (after, key) = by_rule(65_536);

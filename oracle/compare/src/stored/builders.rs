@@ -77,7 +77,7 @@ fn large(tally: &mut Tally, letter: &str, words: &mut Words) {
         keys: vec![MARK; 4 * 65_537],
     });
     for (block, key) in (0..count as u32).map(by_rule) {
-        builder.add_unseen(block, &key);
+        builder.add_unseen(tally, block, &key);
     }
     if letter == "m" {
         let [start, end, ord] = words.numbers();
