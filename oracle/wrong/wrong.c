@@ -71,9 +71,8 @@ uint32_t rosmarel_finish(uint64_t n, const uint64_t *blocks, size_t blocks_len, 
     case 2: if (no == 0 && *total < out_len) out[*total] = 0; break;   /* a byte behind the index */
     case 3: if (no == 0 && n > 1) ++*directory_len; break;             /* the directory's length */
     case 4: if (no == 8) no = 1; break;                                /* another row's number */
-    case 5: if (no == 9) *total = 1; break;                            /* a refusal returns more */
+    case 5: if (no == 8 && n == 1) no = 0; break;                      /* row 8 isn't tried with one block */
     case 6: if (no == 9 && out_len > 0) out[0] = 7; break;             /* a refusal writes */
-    case 7: if (no == 8 && n == 1) no = 0; break;                      /* row 8 isn't tried with one block */
     }
     return no;
 }

@@ -77,7 +77,7 @@ fn reading(tally: &mut Tally) {
 
 fn patterns(tally: &mut Tally) {
     cases::automata::every_small_one(tally);
-    cases::automata::random(tally, 12_000);
+    cases::automata::random(tally, 5_000);
     cases::automata::long(tally);
     cases::automata::refused(tally);
     cases::listings::words(tally);

@@ -91,6 +91,16 @@ impl Pattern {
         format!("automaton {:x?}", &self.bytes[..self.bytes.len().min(1600)])
     }
 
+    /// The number of an example: rows 21 to 23, then 24, then 25.
+    fn example_number(&self, start: Option<&[u8]>, end: &[u8], room: usize) -> u64 {
+        match (self.taken(), self.mark(start, end)) {
+            (Err(row), _) => row,
+            _ if room < longer(start, end) + 64 => 24,
+            (Ok(_), Some(true)) => 0,
+            _ => 25,
+        }
+    }
+
     /// An example in a buffer of `room` bytes. Returns the number.
     pub fn example(
         &self,
@@ -100,24 +110,13 @@ impl Pattern {
         end: &[u8],
         room: usize,
     ) -> u64 {
-        let longer = start.unwrap_or_default().len().max(end.len());
-        let due = match (self.taken(), self.mark(start, end)) {
-            (Err(row), _) => row,
-            _ if room < longer + 64 => 24,
-            (Ok(_), Some(true)) => 0,
-            _ => 25,
-        };
+        let due = self.example_number(start, end, room);
         let from = start.unwrap_or(absent);
         let (one, other) = (Lent::new(from), Lent::new(end));
         let mut out = Lent::buffer(room);
         let mut len = Out::new();
-        let no = library::example(
-            start.is_some(),
-            [&one, &other],
-            &self.lent,
-            &mut out,
-            &mut len,
-        );
+        let (has, keys) = (start.is_some(), [&one, &other]);
+        let no = library::example(has, keys, &self.lent, &mut out, &mut len);
         let kept = one.holds(from) && other.holds(end) && self.lent.holds(&self.bytes);
         let length = len.value()[0];
         let found = usize::try_from(length)
@@ -145,12 +144,16 @@ impl Pattern {
         flags[usize::from(string.iter().fold(0, step))] == 1
     }
 
-    /// The mark, and examples with room enough and no more, and with one byte less.
+    /// The mark, and an example with room enough and no more.
     pub fn all(&self, tally: &mut Tally, start: Option<&[u8]>, end: &[u8]) {
-        let longer = start.unwrap_or_default().len().max(end.len());
         self.block(tally, start, ABSENT, end);
-        self.example(tally, start, ABSENT, end, longer + 64);
+        self.example(tally, start, ABSENT, end, longer(start, end) + 64);
     }
+}
+
+/// The longer key's length.
+fn longer(start: Option<&[u8]>, end: &[u8]) -> usize {
+    start.unwrap_or_default().len().max(end.len())
 }
 
 fn inside(start: Option<&[u8]>, end: &[u8], string: &[u8]) -> bool {

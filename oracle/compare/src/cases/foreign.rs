@@ -163,32 +163,36 @@ pub fn overlaps(tally: &mut Tally) {
             range_width: width,
             ord_width: width,
         };
-        let room = first.length();
-        for offset in 0..=room {
-            // equal fields: a second group fits wherever a field begins
+        for offset in 0..=first.length() {
             let second = Group {
                 blocks: &blocks[128..],
                 offset,
                 ..first
             };
-            let inside = offset + second.length() <= room;
-            if inside && offset * 8 % usize::from(width) == 0 {
-                open(tally, &mut rng, &[first, second], vec![0; room]);
-            } else {
-                at_any_offset(
-                    tally,
-                    &mut rng,
-                    [
-                        first,
-                        Group {
-                            offset: 0,
-                            ..second
-                        },
-                    ],
-                    offset,
-                );
-            }
+            overlapping(tally, &mut rng, first, second);
         }
+    }
+}
+
+/// All fields of both groups are equal, so the second one fits wherever a field begins.
+fn overlapping(tally: &mut Tally, rng: &mut Numbers, first: Group, second: Group) {
+    let (room, offset) = (first.length(), second.offset);
+    let inside = offset + second.length() <= room;
+    if inside && offset * 8 % usize::from(first.range_width) == 0 {
+        open(tally, rng, &[first, second], vec![0; room]);
+    } else {
+        at_any_offset(
+            tally,
+            rng,
+            [
+                first,
+                Group {
+                    offset: 0,
+                    ..second
+                },
+            ],
+            offset,
+        );
     }
 }
 

@@ -72,55 +72,62 @@ fn adds(blocks: &[(Block, &[u8])], room: usize, key_room: usize, out: usize) -> 
 }
 
 pub fn all() -> Vec<Difference> {
-    let mut all = slices();
-    all.extend(builders());
+    let mut all = numbers();
+    all.extend(slices());
+    all.extend(added());
+    all.extend(finished());
     all.push(shorten());
     all.push(states());
     all
 }
 
-fn slices() -> Vec<Difference> {
+const BACK: &str = "writes a store that gives them back";
+
+fn numbers() -> Vec<Difference> {
     let falls = [block(1, 0, 0)];
     let top = [block(0, LIMIT, 0)];
     let ord = [block(0, 0, LIMIT)];
-    let gap = [block(0, 0, 0), block(1, 1, 1)];
-    let same = [block(0, 0, 0), block(0, 0, 0)];
-    let lower = [block(0, 0, 1), block(0, 0, 0)];
-    let many = touching(0, &vec![0; 65_537], 0, &vec![1; 65_536]);
-    let back = "writes a store that gives them back";
-    let wraps = if checked() { "panics" } else { back };
+    let wraps = if checked() { "panics" } else { BACK };
     vec![
         difference(
             "D22",
-            "a slice of one block 1..0",
+            "the slice 1..0",
             (writes(&falls), wraps),
             (store(&falls), "gets 3"),
         ),
         difference(
             "D23",
-            "a slice of one block 0..2^48",
-            (writes(&top), back),
+            "the slice 0..2^48",
+            (writes(&top), BACK),
             (store(&top), "gets 3"),
         ),
         difference(
             "D24",
-            "a slice of one block from ordinal 2^48 on",
-            (writes(&ord), back),
+            "a slice from ordinal 2^48 on",
+            (writes(&ord), BACK),
             (store(&ord), "gets 3"),
         ),
+    ]
+}
+
+fn slices() -> Vec<Difference> {
+    let gap = [block(0, 0, 0), block(1, 1, 1)];
+    let same = [block(0, 0, 0), block(0, 0, 0)];
+    let lower = [block(0, 0, 1), block(0, 0, 0)];
+    let many = touching(0, &vec![0; 65_537], 0, &vec![1; 65_536]);
+    let wraps = if checked() { "panics" } else { BACK };
+    let other = "writes a store that gives id 0 as Some(Block { start: 0, end: 1, ord: 0 })";
+    vec![
         difference(
             "D25",
-            "a slice 0..0, 1..1",
-            (
-                writes(&gap),
-                "writes a store that gives id 0 as Some(Block { start: 0, end: 1, ord: 0 })",
-            ),
+            "the slice 0..0, 1..1",
+            (writes(&gap), other),
             (store(&gap), "gets 4"),
         ),
         difference(
             "D26",
             "a slice with ordinals 0, 0",
-            (writes(&same), back),
+            (writes(&same), BACK),
             (store(&same), "gets 5"),
         ),
         difference(
@@ -132,57 +139,75 @@ fn slices() -> Vec<Difference> {
         difference(
             "D28",
             "a slice of 65,537 blocks",
-            (writes(&many), back),
+            (writes(&many), BACK),
             (store(&many), "gets 7"),
         ),
     ]
 }
 
-fn builders() -> Vec<Difference> {
-    let long = vec![0; 1025];
-    let two = |key: &'static [u8]| vec![(block(0, 0, 0), &b"\x00"[..]), (block(0, 0, 1), key)];
-    let with_long = [(block(0, 0, 0), &long[..])];
-    let none: [(Block, &[u8]); 0] = [];
-    let one = [(block(0, 0, 0), &b""[..])];
+/// An empty block from ordinal 0 on and, with a second key, one from 1 on.
+fn with_keys<'a>(keys: &[&'a [u8]]) -> Vec<(Block, &'a [u8])> {
+    let ords = 0..keys.len() as u64;
+    ords.zip(keys)
+        .map(|(ord, &key)| (block(0, 0, ord), key))
+        .collect()
+}
+
+fn added() -> Vec<Difference> {
+    let key = vec![0; 1025];
+    let long = with_keys(&[&key]);
+    let same = with_keys(&[b"\x00", b"\x00"]);
+    let one = with_keys(&[b""]);
+    let footer = "takes them and writes 8 bytes";
+    let fails = "takes them, and fails when it writes";
     vec![
         difference(
             "D29",
-            "a key of 1,025 bytes, added",
-            (builds(&with_long), "takes them and writes 8 bytes"),
-            (adds(&with_long, 5, 1025, 0), "gets 2"),
+            "an add of a key of 1,025 bytes",
+            (builds(&long), footer),
+            (adds(&long, 5, 1025, 0), "gets 2"),
         ),
         difference(
             "D30",
-            "a key that isn't above the last, added",
-            (
-                builds(&two(b"\x00")),
-                "takes them, and fails when it writes",
-            ),
-            (adds(&two(b"\x00"), 10, 9, 500), "gets 6"),
+            "an add of key 00 behind 00",
+            (builds(&same), fails),
+            (adds(&same, 10, 2, 500), "gets 6"),
         ),
         difference(
             "D31",
             "an add in an area of no numbers",
-            (builds(&one), "takes them and writes 8 bytes"),
+            (builds(&one), footer),
             (adds(&one, 0, 0, 0), "gets 7"),
         ),
+    ]
+}
+
+fn finished() -> Vec<Difference> {
+    let (none, one) = (with_keys(&[]), with_keys(&[b""]));
+    let two = with_keys(&[b"", b"\x00"]);
+    let (footer, whole) = (
+        "takes them and writes 8 bytes",
+        "takes them and writes 74 bytes",
+    );
+    let nothing = "writes 0 bytes";
+    vec![
         difference(
             "D32",
             "a finish of two blocks into no bytes",
-            (builds(&two(b"\x01")), "takes them and writes 75 bytes"),
-            (adds(&two(b"\x01"), 10, 2, 0), "gets 9"),
+            (builds(&two), whole),
+            (adds(&two, 10, 1, 0), "gets 9"),
         ),
         difference(
             "D33",
             "a finish of no blocks",
-            (builds(&none), "takes them and writes 8 bytes"),
-            (adds(&none, 0, 0, 100), "writes 0 bytes"),
+            (builds(&none), footer),
+            (adds(&none, 0, 0, 100), nothing),
         ),
         difference(
             "D34",
             "a finish of one block",
-            (builds(&one), "takes them and writes 8 bytes"),
-            (adds(&one, 5, 0, 100), "writes 0 bytes"),
+            (builds(&one), footer),
+            (adds(&one, 5, 0, 100), nothing),
         ),
     ]
 }

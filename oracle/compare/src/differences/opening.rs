@@ -56,8 +56,11 @@ fn smallest() -> Parts {
 pub fn all() -> Vec<Difference> {
     let mut all = footers();
     all.extend(directories());
-    all.extend(groups());
-    all.extend(values());
+    all.extend(records());
+    all.extend(widths());
+    all.extend(fields());
+    all.extend(firsts());
+    all.extend(orders());
     all.push(below());
     all
 }
@@ -135,121 +138,140 @@ fn directories() -> Vec<Difference> {
     ]
 }
 
-fn groups() -> Vec<Difference> {
-    let file = smallest();
-    let short = file.with(|file| file.records_len = 35).bytes();
-    let beyond = file.with(|file| file.records_len = 38).bytes();
-    let width_0 = file.with(|file| file.widths(0, 1, 0)).bytes();
-    let width_57 = file.with(|file| file.widths(0, 1, 57)).bytes();
-    let count = file.with(|file| file.record(0, 34, &[0, 0])).bytes();
-    let fields = file.with(|file| file.addresses.clear()).bytes();
-    let offset = file.with(|file| file.offset(0, 2)).bytes();
-    let width_0_read = if checked() {
-        "opens it and panics at id 0"
+fn records() -> Vec<Difference> {
+    let short = smallest().with(|file| file.records_len = 35).bytes();
+    let beyond = smallest().with(|file| file.records_len = 38).bytes();
+    let unfound = "opens it and finds no id 0";
+    vec![
+        difference(
+            "D9",
+            "records' length 35",
+            (gives(&short, 0), unfound),
+            (number(&short), "gets 14"),
+        ),
+        difference(
+            "D10",
+            "records' length 38",
+            (opens(&beyond), "panics"),
+            (number(&beyond), "gets 14"),
+        ),
+    ]
+}
+
+fn widths() -> Vec<Difference> {
+    let none = smallest().with(|file| file.widths(0, 1, 0)).bytes();
+    let wide = smallest().with(|file| file.widths(0, 1, 57)).bytes();
+    let panics = "opens it and panics at id 0";
+    let read = if checked() {
+        panics
     } else {
         "opens it and gives id 0 as 0..9223372036854775809 from 0"
     };
     vec![
         difference(
-            "D9",
-            "records' length 35",
-            (gives(&short, 0), "opens it and finds no id 0"),
-            (number(&short), "gets 14"),
-        ),
-        difference(
-            "D10",
-            "records' length beyond the store",
-            (opens(&beyond), "panics"),
-            (number(&beyond), "gets 14"),
-        ),
-        difference(
             "D11",
             "a width of 0",
-            (gives(&width_0, 0), width_0_read),
-            (number(&width_0), "gets 15"),
+            (gives(&none, 0), read),
+            (number(&none), "gets 15"),
         ),
         difference(
             "D12",
             "a width of 57",
-            (gives(&width_57, 0), "opens it and panics at id 0"),
-            (number(&width_57), "gets 15"),
+            (gives(&wide, 0), panics),
+            (number(&wide), "gets 15"),
         ),
+    ]
+}
+
+fn fields() -> Vec<Difference> {
+    let count = smallest().with(|file| file.record(0, 34, &[0, 0])).bytes();
+    let none = smallest().with(|file| file.addresses.clear()).bytes();
+    let offset = smallest().with(|file| file.offset(0, 2)).bytes();
+    let (unfound, panics) = ("opens it and finds no id 1", "opens it and panics at id 0");
+    let zeros = "opens it and gives id 0 as 0..0 from 0";
+    vec![
         difference(
             "D13",
-            "a block count that is wrong",
-            (gives(&count, 1), "opens it and finds no id 1"),
+            "a block count of 1 for 2",
+            (gives(&count, 1), unfound),
             (number(&count), "gets 15"),
         ),
         difference(
             "D14",
-            "fields beyond the address bytes",
-            (gives(&fields, 0), "opens it and gives id 0 as 0..0 from 0"),
-            (number(&fields), "gets 15"),
+            "no address bytes",
+            (gives(&none, 0), zeros),
+            (number(&none), "gets 15"),
         ),
         difference(
             "D15",
-            "an offset beyond the address bytes",
-            (gives(&offset, 0), "opens it and panics at id 0"),
+            "an offset of 2",
+            (gives(&offset, 0), panics),
             (number(&offset), "gets 15"),
         ),
     ]
 }
 
-fn values() -> Vec<Difference> {
-    let file = smallest();
-    let top = file.with(|file| file.first_start(0, LIMIT)).bytes();
-    let ord = file.with(|file| file.first_ord(0, LIMIT)).bytes();
-    // 0..3, 3..0
-    let falls = file
-        .with(|file| {
-            file.slopes(0, 0, 1);
-            file.widths(0, 1, 3);
-            file.addresses = vec![0x4f];
-        })
-        .bytes();
-    let same = file.with(|file| file.slopes(0, 1, 0)).bytes();
-    let count = 129;
-    let blocks = touching(0, &vec![0; count], 0, &vec![1; count - 1]);
-    let gap = Parts::new(&keys_of_one_byte(count), &access::write_store(&blocks));
-    let gap = gap.with(|file| file.first_start(1, 1)).bytes();
+fn firsts() -> Vec<Difference> {
+    let top = smallest().with(|file| file.first_start(0, LIMIT)).bytes();
+    let ord = smallest().with(|file| file.first_ord(0, LIMIT)).bytes();
+    let start = "opens it and gives id 0 as 281474976710656..281474976710657 from 0";
+    let from = "opens it and gives id 0 as 0..1 from 281474976710656";
     vec![
         difference(
             "D16",
             "a first start of 2^48",
-            (
-                gives(&top, 0),
-                "opens it and gives id 0 as 281474976710656..281474976710657 from 0",
-            ),
+            (gives(&top, 0), start),
             (number(&top), "gets 16"),
         ),
         difference(
             "D17",
             "a first ordinal of 2^48",
-            (
-                gives(&ord, 0),
-                "opens it and gives id 0 as 0..1 from 281474976710656",
-            ),
+            (gives(&ord, 0), from),
             (number(&ord), "gets 16"),
         ),
+    ]
+}
+
+/// Blocks 0..3 and 3..0.
+fn falling() -> Vec<u8> {
+    let fall = |file: &mut Parts| {
+        file.slopes(0, 0, 1);
+        file.widths(0, 1, 3);
+        file.addresses = vec![0x4f];
+    };
+    smallest().with(fall).bytes()
+}
+
+/// 129 empty blocks at 0, the last one at 1.
+fn gap() -> Vec<u8> {
+    let blocks = touching(0, &[0; 129], 0, &[1; 128]);
+    let parts = Parts::new(&keys_of_one_byte(129), &access::write_store(&blocks));
+    parts.with(|file| file.first_start(1, 1)).bytes()
+}
+
+fn orders() -> Vec<Difference> {
+    let (falls, gap) = (falling(), gap());
+    let same = smallest().with(|file| file.slopes(0, 1, 0)).bytes();
+    let fall = "opens it and gives id 1 as 3..0 from 1";
+    let away = "opens it and gives id 128 as 1..1 from 128";
+    let again = "opens it and gives id 1 as 1..2 from 0";
+    vec![
         difference(
             "D18",
             "an end below its start",
-            (gives(&falls, 1), "opens it and gives id 1 as 3..0 from 1"),
+            (gives(&falls, 1), fall),
             (number(&falls), "gets 16"),
         ),
         difference(
             "D19",
-            "a start that isn't the end before",
-            (
-                gives(&gap, 128),
-                "opens it and gives id 128 as 1..1 from 128",
-            ),
+            "a start away from the end before",
+            (gives(&gap, 128), away),
             (number(&gap), "gets 16"),
         ),
         difference(
             "D20",
-            "ordinals that don't rise",
-            (gives(&same, 1), "opens it and gives id 1 as 1..2 from 0"),
+            "ordinals 0, 0",
+            (gives(&same, 1), again),
             (number(&same), "gets 16"),
         ),
     ]
