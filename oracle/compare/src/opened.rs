@@ -61,16 +61,18 @@ fn located((id, block): (u64, Block)) -> [u64; 4] {
     [id, block.start, block.end, block.ord]
 }
 
-/// The Rust's answer and the model's, which must be the same.
-struct Due<T> {
-    rust: Option<T>,
-    model: T,
-}
-
-impl<T: PartialEq + Copy> Due<T> {
-    fn agree(&self) -> bool {
-        self.rust == Some(self.model)
-    }
+/// What a lookup must answer, a refusal by this row or numbers, if the Rust and the model agree. Where the model refuses, the Rust
+/// may panic.
+fn due<const N: usize>(
+    row: u64,
+    rust: Option<Option<[u64; N]>>,
+    model: Option<[u64; N]>,
+) -> Option<(u64, [u64; N])> {
+    let agree = rust == Some(model) || model.is_none() && rust.is_none();
+    agree.then(|| match model {
+        Some(numbers) => (0, numbers),
+        None => (row, [0; N]),
+    })
 }
 
 impl File {
@@ -99,22 +101,6 @@ impl File {
         if self.exact { By::Rust } else { By::Free }
     }
 
-    /// What a lookup must answer: a refusal by this row, or numbers.
-    fn due<const N: usize>(
-        &self,
-        row: u64,
-        rust: Option<Option<[u64; N]>>,
-        model: Option<[u64; N]>,
-    ) -> Option<(u64, [u64; N])> {
-        let due = Due { rust, model };
-        // where the model refuses, the Rust may panic
-        let agree = due.agree() || model.is_none() && due.rust.is_none();
-        agree.then(|| match model {
-            Some(numbers) => (0, numbers),
-            None => (row, [0; N]),
-        })
-    }
-
     /// Whether an answer is among those that document 01 leaves free: the id, then start and end.
     fn free(
         &self,
@@ -141,7 +127,7 @@ impl File {
         let right = match &self.rust {
             Some(index) if self.exact => {
                 let found = rust(|| index.get_block(id).map(numbers));
-                self.due(17, found, self.opening.by_id(id).map(numbers)) == Some((no, got))
+                due(17, found, self.opening.by_id(id).map(numbers)) == Some((no, got))
             }
             _ => self.free(no, 17, &got, Some(id), Some((got[0], got[1]))),
         };
@@ -171,7 +157,7 @@ impl File {
                 } else {
                     answer.map(Some)
                 };
-                self.due(18, answer, model) == Some((no, got))
+                due(18, answer, model) == Some((no, got))
             }
             _ => self.free(no, 18, &got, Some(got[0]), Some((got[1], got[2]))),
         };
@@ -196,7 +182,7 @@ impl File {
         let right = match &self.rust {
             Some(index) if self.exact => {
                 let found = rust(|| index.locate_with_key(key).map(|id| [id]));
-                self.due(19, found, self.opening.by_key(key).map(|id| [id])) == Some((no, got))
+                due(19, found, self.opening.by_key(key).map(|id| [id])) == Some((no, got))
             }
             _ => self.free(no, 19, &got, Some(got[0]), None),
         };
@@ -222,7 +208,7 @@ impl File {
                 });
                 let model = self.opening.by_key(key);
                 let model = model.and_then(|id| Some(located((id, self.opening.by_id(id)?))));
-                self.due(19, found, model) == Some((no, got))
+                due(19, found, model) == Some((no, got))
             }
             _ => self.free(no, 19, &got, Some(got[0]), Some((got[1], got[2]))),
         };
