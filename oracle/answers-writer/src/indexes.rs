@@ -173,7 +173,7 @@ fn address(block: Block) -> String {
 }
 
 /// The Rust's index of a file that opens; it must hold the model's blocks and keys.
-fn rust(bytes: &[u8], opening: &Opening) -> Option<Index> {
+pub fn rust(bytes: &[u8], opening: &Opening) -> Option<Index> {
     if opening.no() != 0 {
         return None;
     }
@@ -191,7 +191,7 @@ fn rust(bytes: &[u8], opening: &Opening) -> Option<Index> {
 }
 
 /// Ids of a file: all of a short one.
-fn chosen(rng: &mut Numbers, n: u64, some: usize) -> BTreeSet<u64> {
+pub fn chosen(rng: &mut Numbers, n: u64, some: usize) -> BTreeSet<u64> {
     if n <= 8 {
         return (0..n).collect();
     }
@@ -202,7 +202,7 @@ fn chosen(rng: &mut Numbers, n: u64, some: usize) -> BTreeSet<u64> {
 }
 
 /// Each first ordinal, the one below and the one above, and some far away.
-fn ords(blocks: &[Block], ids: &BTreeSet<u64>) -> BTreeSet<u64> {
+pub fn ords(blocks: &[Block], ids: &BTreeSet<u64>) -> BTreeSet<u64> {
     let mut ords = BTreeSet::from([0, u64::MAX]);
     for &id in ids {
         let ord = blocks[id as usize].ord;
@@ -212,7 +212,7 @@ fn ords(blocks: &[Block], ids: &BTreeSet<u64>) -> BTreeSet<u64> {
 }
 
 /// Each separator, keys just above and below it, the empty key, and keys above all.
-fn keys(separators: &[Vec<u8>], ids: &BTreeSet<u64>) -> BTreeSet<Vec<u8>> {
+pub fn keys(separators: &[Vec<u8>], ids: &BTreeSet<u64>) -> BTreeSet<Vec<u8>> {
     let mut keys = BTreeSet::from([vec![], vec![0]]);
     for &id in ids {
         let separator = &separators[id as usize];

@@ -1,9 +1,10 @@
-//! Writes the lists of answers into the folder that it is given.
+//! Writes the lists of answers, and the folder of files, into the folder that it is given.
 
 mod addresses;
 mod automaton;
 mod calls;
 mod files;
+mod folder;
 mod foreign;
 mod indexes;
 mod intervals;
@@ -36,4 +37,5 @@ fn main() {
         fs::write(Path::new(&folder).join(name), &list).expect("the folder can be written to");
         assert!(list.len() <= most, "{name} has {} bytes", list.len());
     }
+    folder::write(Path::new(&folder));
 }

@@ -32,7 +32,7 @@ pub struct Patterns {
 }
 
 /// The rows that an automaton's bytes break, in their order.
-fn table_hits(bytes: &[u8]) -> Vec<Hit> {
+pub fn table_hits(bytes: &[u8]) -> Vec<Hit> {
     let Some((&m, rest)) = bytes.split_first() else {
         return vec![(21, "empty")];
     };
