@@ -124,12 +124,15 @@ fn counted_answers(data: &[u8], text: &[u8], tallies: [Tally; ROWS], row: usize)
     }
 }
 
-// The tallies with one case for each line of NAME.questions, asked of NAME.index.
+// The tallies with one case for each line of NAME.questions, asked of NAME.index. No line at all differs.
 pub fn counted(name: &[u8], tallies: [Tally; ROWS], row: usize) -> [Tally; ROWS] {
     let mut file = io::large_buffer();
     let mut text = io::large_buffer();
     let text_len = files::read(name, &mut text);
     if text_len == text.len() {
+        return tally::counted(tallies, row, false);
+    }
+    if text_len == 0 {
         return tally::counted(tallies, row, false);
     }
     let len = files::read_beside(name, b".index", &mut file);

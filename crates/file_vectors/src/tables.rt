@@ -7,11 +7,20 @@ use listing::Listed;
 
 const MOST_MARKS: usize = 8;
 
+// A mark's digit; no digit where it is neither 0 nor 1.
+fn digit(mark: u8) -> u8 {
+    match mark {
+        0 => b'0',
+        1 => b'1',
+        _ => b'?',
+    }
+}
+
 // Marks as digits.
 fn to_digits(marks: &mut [u8]) {
     let mut i: usize = 0;
     while i < marks.len() {
-        marks[i] = if marks[i] == 0 { b'0' } else { b'1' };
+        marks[i] = digit(marks[i]);
         i += 1;
     }
 }

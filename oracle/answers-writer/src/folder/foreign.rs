@@ -9,7 +9,10 @@ use crate::worked;
 
 /// The file of the groups; the address bytes behind and between their fields are as given.
 fn put(folder: &mut Folder, name: &str, what: &str, groups: &[Group], addresses: Vec<u8>) {
-    let blocks: Vec<_> = groups.iter().flat_map(|group| group.blocks.to_vec()).collect();
+    let blocks: Vec<_> = groups
+        .iter()
+        .flat_map(|group| group.blocks.to_vec())
+        .collect();
     let keys: Vec<Vec<u8>> = (0..blocks.len())
         .map(|i| vec![b'b' + (i / 64) as u8, (2 * (i % 64)) as u8])
         .collect();
@@ -72,9 +75,24 @@ fn one_group(folder: &mut Folder) {
     );
     for (name, what, range_width, ord_width) in [
         ("foreign-width-56", "both widths 56", 56, 56),
-        ("foreign-width-55-53", "range width 55, ordinal width 53: fields begin at any bit", 55, 53),
-        ("foreign-width-50-51", "range width 50, ordinal width 51", 50, 51),
-        ("foreign-width-54-52", "range width 54, ordinal width 52", 54, 52),
+        (
+            "foreign-width-55-53",
+            "range width 55, ordinal width 53: fields begin at any bit",
+            55,
+            53,
+        ),
+        (
+            "foreign-width-50-51",
+            "range width 50, ordinal width 51",
+            50,
+            51,
+        ),
+        (
+            "foreign-width-54-52",
+            "range width 54, ordinal width 52",
+            54,
+            52,
+        ),
     ] {
         let wide = Group {
             range_width,
@@ -106,14 +124,26 @@ fn two_groups(folder: &mut Folder) {
         folder,
         "foreign-gap",
         "two groups, two bytes between them",
-        &[first, Group { offset: length + 2, ..second }],
+        &[
+            first,
+            Group {
+                offset: length + 2,
+                ..second
+            },
+        ],
         vec![0xaa; length + 2 + second.length()],
     );
     put(
         folder,
         "foreign-order",
         "two groups, the second one's fields first",
-        &[Group { offset: second.length(), ..first }, second],
+        &[
+            Group {
+                offset: second.length(),
+                ..first
+            },
+            second,
+        ],
         vec![0; second.length() + length],
     );
     put(
@@ -136,7 +166,14 @@ fn two_groups(folder: &mut Folder) {
         folder,
         "foreign-overlap",
         "two groups, the second one's fields are the first one's from byte 60 on",
-        &[whole, Group { blocks: &even[128..], offset: 60, ..whole }],
+        &[
+            whole,
+            Group {
+                blocks: &even[128..],
+                offset: 60,
+                ..whole
+            },
+        ],
         vec![0; whole.length()],
     );
     let alone = Group {

@@ -12,7 +12,9 @@ fn keys(keys: &[&[u8]]) -> Vec<Vec<u8>> {
 
 /// Keys of two bytes.
 fn many(count: usize) -> Vec<Vec<u8>> {
-    (0..count).map(|i| vec![(i / 16) as u8, (i % 16) as u8]).collect()
+    (0..count)
+        .map(|i| vec![(i / 16) as u8, (i % 16) as u8])
+        .collect()
 }
 
 /// Blocks of different lengths.
@@ -45,7 +47,14 @@ pub fn files(folder: &mut Folder) {
             "high-bytes",
             "separators that a signed comparison would take for falling; fronts of each other; runs of ff",
             touching(0, &[9; 6], 10, &[10; 5]),
-            keys(&[b"\x7f", b"\x80", b"\x80\x00", b"\xff", b"\xff\xfe", b"\xff\xff"]),
+            keys(&[
+                b"\x7f",
+                b"\x80",
+                b"\x80\x00",
+                b"\xff",
+                b"\xff\xfe",
+                b"\xff\xff",
+            ]),
         ),
         (
             "long-keys",
@@ -61,7 +70,7 @@ pub fn files(folder: &mut Folder) {
         ),
         (
             "far",
-            "one block from 0 to 2^48 - 1, an ordinal step as far: a slope cut to 32 bits, the widest fields of the writer",
+            "one block from 0 to 2^48 - 1, an ordinal step as far: slopes cut to 32 bits, widths of 49, the widest that the writer needs",
             touching(0, &[top, 0], 0, &[top]),
             keys(&[b"a", b"b"]),
         ),

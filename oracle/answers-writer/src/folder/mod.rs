@@ -92,7 +92,14 @@ impl Folder {
 
     fn readme(&self) -> String {
         let mut text = include_str!("readme.md").to_string();
-        for table in ["smallest", "more", "good", "foreign", "refused tables", "tables"] {
+        for table in [
+            "smallest",
+            "more",
+            "good",
+            "foreign",
+            "refused tables",
+            "tables",
+        ] {
             let rows = self.rows.iter().filter(|row| row.0 == table);
             let rows: Vec<&str> = rows.map(|row| row.1.as_str()).collect();
             let place = format!("{{{table}}}");
@@ -171,7 +178,11 @@ pub fn write(place: &Path) {
     for (name, bytes) in &folder.files {
         fs::write(vectors.join(name), bytes).expect("the folder can be written to");
     }
-    let names: String = folder.names.iter().map(|name| format!("{name}\n")).collect();
+    let names: String = folder
+        .names
+        .iter()
+        .map(|name| format!("{name}\n"))
+        .collect();
     fs::write(place.join("vectors.args"), names).expect("the folder can be written to");
     fs::write(place.join("vectors.stdout"), folder.printed())
         .expect("the folder can be written to");

@@ -95,7 +95,13 @@ fn refused(folder: &mut Folder) {
         assert_eq!(table_hits(&bytes), hits, "{name}");
         let answer = format!("refused {}", hits[0].0);
         let file = format!("{name}.automaton");
-        folder.case("refused tables", &file, &bytes, what, &format!("`{answer}`"));
+        folder.case(
+            "refused tables",
+            &file,
+            &bytes,
+            what,
+            &format!("`{answer}`"),
+        );
         folder.put(format!("{name}.expected"), format!("{answer}\n").into());
     }
 }
@@ -117,19 +123,51 @@ fn good() -> Vec<(&'static str, &'static str, Table)> {
     let mut last = vec![0; 64];
     last[63] = 1;
     vec![
-        ("all", "one state: every byte string", Table::new(vec![1], vec![0; 256])),
-        ("nothing", "one state: none", Table::new(vec![0], vec![0; 256])),
-        ("only-empty", "the empty byte string alone, which block 0 lets in", Table::words(&[b""])),
-        ("only-b", "`b` alone: a separator belongs to its own block", Table::words(&[b"b"])),
-        ("only-c", "`c` alone, as in docs/FORMAT.md", Table::words(&[b"c"])),
-        ("only-g", "`g` alone, above the last separator", Table::words(&[b"g"])),
-        ("begins-with-d", "all that begins with `d`", Table::beginning(b"d")),
+        (
+            "all",
+            "one state: every byte string",
+            Table::new(vec![1], vec![0; 256]),
+        ),
+        (
+            "nothing",
+            "one state: none",
+            Table::new(vec![0], vec![0; 256]),
+        ),
+        (
+            "only-empty",
+            "the empty byte string alone, which block 0 lets in",
+            Table::words(&[b""]),
+        ),
+        (
+            "only-b",
+            "`b` alone: a separator belongs to its own block",
+            Table::words(&[b"b"]),
+        ),
+        (
+            "only-c",
+            "`c` alone, as in docs/FORMAT.md",
+            Table::words(&[b"c"]),
+        ),
+        (
+            "only-g",
+            "`g` alone, above the last separator",
+            Table::words(&[b"g"]),
+        ),
+        (
+            "begins-with-d",
+            "all that begins with `d`",
+            Table::beginning(b"d"),
+        ),
         (
             "unreached",
             "two states; the accepting one can't be reached",
             Table::rule(vec![0, 1], |state, _| state),
         ),
-        ("64-states", "64 states met in no order: 62 times `c` alone", chain()),
+        (
+            "64-states",
+            "64 states met in no order: 62 times `c` alone",
+            chain(),
+        ),
         (
             "64-ring",
             "64 states in a ring: all byte strings whose length is 63 more than a multiple of 64",

@@ -15,8 +15,11 @@ abbrev μ-loop : tie.MeasureT-loop
 loop-holds : tie.Need-loop-holds Inv-loop μ-loop
 loop-holds c = search needs
 
-slice-read-if1 : tie.Need-slice-read-if1 Inv-loop μ-loop
-slice-read-if1 c = search needs
+slice-read-digit : tie.Need-slice-read-digit Inv-loop μ-loop
+slice-read-digit c = search needs
+
+digit-requires : tie.Need-digit-requires Inv-loop μ-loop
+digit-requires c κs = search needs
 
 slice-write-marks : tie.Need-slice-write-marks Inv-loop μ-loop
 slice-write-marks c = search needs
@@ -43,7 +46,8 @@ to-digits-spec =
     Inv-loop
     μ-loop
     loop-holds
-    slice-read-if1
+    slice-read-digit
+    digit-requires
     slice-write-marks
     add-i
     loop-less
