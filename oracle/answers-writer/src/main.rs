@@ -1,17 +1,12 @@
 //! Writes the lists of answers, and the folder of files, into the folder that it is given.
 
 mod addresses;
-mod automaton;
 mod calls;
-mod files;
 mod folder;
-mod foreign;
 mod indexes;
 mod intervals;
 mod leaves;
 mod listings;
-mod numbers;
-mod opening;
 mod patterns;
 mod refused;
 mod refused_tables;

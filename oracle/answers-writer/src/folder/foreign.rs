@@ -1,11 +1,10 @@
 //! Index files that keep the rules, but that the Rust's builder wouldn't write.
 
-use crate::files::File;
 use crate::folder::Folder;
-use crate::foreign::{self, Group, least_width, ord_points, range_points};
-use crate::opening;
-use crate::stores::touching;
-use crate::worked;
+use model::blocks::{WORKED, touching};
+use model::files::File;
+use model::foreign::{self, Group, least_width, ord_points, range_points};
+use model::opening;
 
 /// The file of the groups; the address bytes behind and between their fields are as given.
 fn put(folder: &mut Folder, name: &str, what: &str, groups: &[Group], addresses: Vec<u8>) {
@@ -29,7 +28,7 @@ pub fn files(folder: &mut Folder) {
 }
 
 fn one_group(folder: &mut Folder) {
-    let blocks = worked::BLOCKS;
+    let blocks = WORKED;
     let own = Group {
         blocks: &blocks,
         offset: 0,

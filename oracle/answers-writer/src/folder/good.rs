@@ -2,9 +2,9 @@
 
 use tantivy_sstable::access::Block;
 
-use crate::files::{File, worked_file};
 use crate::folder::Folder;
-use crate::stores::{LIMIT, touching};
+use model::blocks::{LIMIT, touching};
+use model::files::{File, worked_file};
 
 fn keys(keys: &[&[u8]]) -> Vec<Vec<u8>> {
     keys.iter().map(|key| key.to_vec()).collect()

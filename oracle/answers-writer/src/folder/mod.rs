@@ -12,9 +12,9 @@ use std::path::Path;
 use tantivy_sstable::access::{Block, Index};
 
 use crate::indexes;
-use crate::numbers::Numbers;
-use crate::opening::{self, Opening};
 use crate::text::hex;
+use model::numbers::Numbers;
+use model::opening::{self, Opening};
 
 /// A file that has no byte of room in the program's area isn't read.
 const MOST: usize = 65_535;

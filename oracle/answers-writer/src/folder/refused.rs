@@ -1,10 +1,10 @@
 //! Index files that are refused: the smallest of each row and of each part of a row, and others.
 
-use crate::files::{Fault, File, keys_of_one_byte};
 use crate::folder::Folder;
-use crate::foreign::{self, Group};
-use crate::opening;
-use crate::stores::{LIMIT, touching};
+use model::blocks::{LIMIT, touching};
+use model::files::{Fault, File, keys_of_one_byte};
+use model::foreign::{self, Group};
+use model::opening;
 
 /// A file's name, which begins with its row; the row's parts that it breaks; what it is; its bytes.
 type Case = (&'static str, &'static [&'static str], &'static str, Vec<u8>);

@@ -2,11 +2,10 @@
 
 use tantivy_sstable::access::Index;
 
-use crate::automaton::Table;
-use crate::files::worked_file;
 use crate::folder::Folder;
-use crate::opening;
-use crate::patterns::{mark, table_hits};
+use model::automaton::{Table, mark, table_hits};
+use model::files::worked_file;
+use model::opening;
 
 pub fn tables(folder: &mut Folder) {
     refused(folder);

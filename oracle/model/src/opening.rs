@@ -16,6 +16,16 @@ pub struct Opened {
 }
 
 impl Opened {
+    pub fn of(numbers: [u64; 7]) -> Opened {
+        let [n, d, dl, r, rl, a, al] = numbers;
+        Opened {
+            n,
+            directory: (d, dl),
+            records: (r, rl),
+            addresses: (a, al),
+        }
+    }
+
     pub fn numbers(&self) -> [u64; 7] {
         let (d, r, a) = (self.directory, self.records, self.addresses);
         [self.n, d.0, d.1, r.0, r.1, a.0, a.1]

@@ -2,6 +2,8 @@
 
 use tantivy_sstable::access::Block;
 
+use crate::numbers::Numbers;
+
 /// A group of at most 128 blocks.
 #[derive(Clone, Copy)]
 pub struct Group<'a> {
@@ -109,4 +111,53 @@ pub fn store(groups: &[Group], mut addresses: Vec<u8>) -> Vec<u8> {
         &addresses,
     ]
     .concat()
+}
+
+/// A group with any slopes and widths that hold its points.
+pub fn group<'a>(rng: &mut Numbers, blocks: &'a [Block], offset: usize, widest: bool) -> Group<'a> {
+    let mut slope_and_width = |points: &[(u64, u64)]| {
+        let mean = points.last().map_or(0, |&(i, value)| value / i);
+        let slope = match rng.below(5) {
+            0 => 0,
+            1 => u32::MAX,
+            2 => rng.next() as u32,
+            _ => (mean + rng.below(4)) as u32,
+        };
+        let least = least_width(points, slope);
+        let width = if widest {
+            56 - rng.below(3)
+        } else {
+            u64::from(least) + rng.pick(&[0, 0, 1, 2, 7])
+        };
+        (slope, (width.min(56) as u8).max(least))
+    };
+    let (range_slope, range_width) = slope_and_width(&range_points(blocks));
+    let (ord_slope, ord_width) = slope_and_width(&ord_points(blocks));
+    Group {
+        blocks,
+        offset,
+        range_slope,
+        ord_slope,
+        range_width,
+        ord_width,
+    }
+}
+
+/// A group with slopes near the mean, in few bits.
+pub fn near<'a>(rng: &mut Numbers, blocks: &'a [Block], offset: usize) -> Group<'a> {
+    let mut slope_and_width = |points: &[(u64, u64)]| {
+        let mean = points.last().map_or(0, |&(i, value)| value / i);
+        let slope = (mean + rng.below(2)) as u32;
+        (slope, least_width(points, slope) + rng.below(2) as u8)
+    };
+    let (range_slope, range_width) = slope_and_width(&range_points(blocks));
+    let (ord_slope, ord_width) = slope_and_width(&ord_points(blocks));
+    Group {
+        blocks,
+        offset,
+        range_slope,
+        ord_slope,
+        range_width,
+        ord_width,
+    }
 }

@@ -1,6 +1,9 @@
-//! Automata given as tables.
+//! Automata given as tables, and what a plain model says of them.
 
 use tantivy_fst::Automaton;
+use tantivy_sstable::access;
+
+use crate::opening::Hit;
 
 /// The table of document 01: a flag for each state, and 256 next states for each. State 0 starts.
 #[derive(Clone)]
@@ -136,4 +139,50 @@ impl Automaton for Table {
     fn accept(&self, state: &u8, byte: u8) -> u8 {
         self.next[256 * usize::from(*state) + usize::from(byte)]
     }
+}
+
+/// An interval: above the first key, where there is one, and not above the second.
+pub type Interval = (Option<Vec<u8>>, Vec<u8>);
+
+/// The rows that an automaton's bytes break, in their order.
+pub fn table_hits(bytes: &[u8]) -> Vec<Hit> {
+    let Some((&m, rest)) = bytes.split_first() else {
+        return vec![(21, "empty")];
+    };
+    let m = usize::from(m);
+    let mut hits = Vec::new();
+    if m == 0 {
+        hits.push((21, "no states"));
+    }
+    if m > 64 {
+        hits.push((21, "over 64 states"));
+    }
+    if bytes.len() != 1 + 257 * m {
+        hits.push((21, "length"));
+    }
+    let (flags, next) = rest.split_at(m.min(rest.len()));
+    if flags.iter().any(|&flag| flag > 1) {
+        hits.push((22, "flag"));
+    }
+    if next.iter().any(|&state| usize::from(state) >= m) {
+        hits.push((23, "next state"));
+    }
+    hits
+}
+
+/// The first row that is hit, or 0.
+pub fn number(hits: &[Hit]) -> u64 {
+    hits.first().map_or(0, |hit| hit.0)
+}
+
+/// The room that every example of the interval fits in.
+pub fn room((start, end): &Interval) -> usize {
+    start.as_ref().map_or(0, Vec::len).max(end.len()) + 64
+}
+
+/// The Rust's answer, held against a plain search.
+pub fn mark(table: &Table, (start, end): &Interval) -> bool {
+    let answer = access::can_block_match_automaton(start.as_deref(), end, table);
+    assert_eq!(answer, table.accepts_in(start.as_deref(), end));
+    answer
 }
