@@ -12,21 +12,18 @@ use vectors::tally;
 use vectors::tally::ROWS;
 use vectors::tally::Tally;
 
-// Whether number k and those behind it are the four.
-fn are(given: &[u64], k: usize, four: [u64; 4]) -> bool {
-    if k > usize::MAX - 3 {
+// Whether the numbers are the four; zeros where they end before.
+fn are(given: &[u64], four: [u64; 4]) -> bool {
+    if vectors::number(given, 0) != four[0] {
         return false;
     }
-    if vectors::number(given, k) != four[0] {
+    if vectors::number(given, 1) != four[1] {
         return false;
     }
-    if vectors::number(given, k + 1) != four[1] {
+    if vectors::number(given, 2) != four[2] {
         return false;
     }
-    if vectors::number(given, k + 2) != four[2] {
-        return false;
-    }
-    vectors::number(given, k + 3) == four[3]
+    vectors::number(given, 3) == four[3]
 }
 
 // ID NO START END ORDINAL
@@ -35,8 +32,11 @@ fn by_id(opened: SSTableIndexV3, data: &[u8], given: &[u64]) -> bool {
         return false;
     }
     match opened.get_block(data, given[0]) {
-        BlockById::Block(block) => are(given, 1, [0, block.start, block.end, block.first_ordinal]),
-        BlockById::Refused(no) => are(given, 1, [no as u64, 0, 0, 0]),
+        BlockById::Block(block) => are(
+            &given[1..],
+            [0, block.start, block.end, block.first_ordinal],
+        ),
+        BlockById::Refused(no) => are(&given[1..], [no as u64, 0, 0, 0]),
     }
 }
 
@@ -46,8 +46,8 @@ fn by_ordinal(opened: SSTableIndexV3, data: &[u8], given: &[u64]) -> bool {
         return false;
     }
     match opened.locate_with_ord(data, given[0]) {
-        Located::At(id, _) => are(given, 1, [0, id as u64, 0, 0]),
-        Located::Refused(no) => are(given, 1, [no as u64, 0, 0, 0]),
+        Located::At(id, _) => are(&given[1..], [0, id as u64, 0, 0]),
+        Located::Refused(no) => are(&given[1..], [no as u64, 0, 0, 0]),
     }
 }
 
@@ -57,9 +57,14 @@ fn by_key(opened: SSTableIndexV3, data: &[u8], key: &[u8], given: &[u64]) -> boo
         return false;
     }
     match opened.locate_with_key(data, key) {
-        LocatedId::Id(id) => are(given, 0, [0, id as u64, 0, 0]),
-        LocatedId::Refused(no) => are(given, 0, [no as u64, 0, 0, 0]),
+        LocatedId::Id(id) => are(given, [0, id as u64, 0, 0]),
+        LocatedId::Refused(no) => are(given, [no as u64, 0, 0, 0]),
     }
+}
+
+// How many byte strings a line of a kind has.
+fn strings_of(kind: u8) -> usize {
+    if kind == b'k' { 1 } else { 0 }
 }
 
 // Whether the answer to a line's question is the line's own. A bad line has none.
@@ -71,6 +76,9 @@ fn is_answered(line: Line, numbers: &[u64], key: &[u8], opened: SSTableIndexV3, 
     }
     let kind = line.kind;
     let count = line.numbers;
+    if line.strings != strings_of(kind) {
+        return false;
+    }
     let given = &numbers[0..count];
     match kind {
         b'i' => by_id(opened, data, given),
