@@ -174,7 +174,7 @@ fn address(block: Block) -> String {
 }
 
 /// The Rust's index of a file that opens; it must hold the model's blocks and keys.
-fn rust(bytes: &[u8], opening: &Opening) -> Option<Index> {
+pub fn rust(bytes: &[u8], opening: &Opening) -> Option<Index> {
     if opening.no() != 0 {
         return None;
     }

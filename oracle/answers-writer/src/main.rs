@@ -1,7 +1,8 @@
-//! Writes the lists of answers into the folder that it is given.
+//! Writes the lists of answers, and the folder of files, into the folder that it is given.
 
 mod addresses;
 mod calls;
+mod folder;
 mod indexes;
 mod intervals;
 mod leaves;
@@ -31,4 +32,5 @@ fn main() {
         fs::write(Path::new(&folder).join(name), &list).expect("the folder can be written to");
         assert!(list.len() <= most, "{name} has {} bytes", list.len());
     }
+    folder::write(Path::new(&folder));
 }
