@@ -32,7 +32,7 @@ pub struct Patterns {
 }
 
 /// The rows that an automaton's bytes break, in their order.
-fn table_hits(bytes: &[u8]) -> Vec<Hit> {
+pub fn table_hits(bytes: &[u8]) -> Vec<Hit> {
     let Some((&m, rest)) = bytes.split_first() else {
         return vec![(21, "empty")];
     };
@@ -58,7 +58,7 @@ fn table_hits(bytes: &[u8]) -> Vec<Hit> {
 }
 
 /// The first row that is hit, or 0.
-fn number(hits: &[Hit]) -> u64 {
+pub fn number(hits: &[Hit]) -> u64 {
     hits.first().map_or(0, |hit| hit.0)
 }
 
