@@ -14,18 +14,6 @@ const TEXT_LEN: usize = 327680;
 
 const LIST_LEN: usize = 32768;
 
-// Replays the list in front of the place `list[len..]`, in areas of the lengths given.
-fn replay_list(list: &[u8], given: &[u64]) {
-    if given.len() != 4 {
-        return prints::bad_line();
-    }
-    let blocks = given[0];
-    let keys = given[1];
-    let out = given[2];
-    let answers = given[3];
-    areas::replay(list, blocks, keys, out, answers);
-}
-
 // Replays the list of a line. Its first four numbers are the areas' lengths, the others say how often each part stands there.
 fn take_list(line: Line, numbers: &[u64], bytes: &[u8], spans: &[usize], list: &mut [u8])
     requires { ⌜ line .numbers ≤ length (now numbers) ⌝ }
@@ -47,7 +35,13 @@ fn take_list(line: Line, numbers: &[u64], bytes: &[u8], spans: &[usize], list: &
     if len == list.len() {
         return prints::bad_line();
     }
-    replay_list(&list[0..len], &numbers[0..4]);
+    areas::replay(
+        &list[0..len],
+        numbers[0],
+        numbers[1],
+        numbers[2],
+        numbers[3],
+    );
 }
 
 // Replays all lists of the text.

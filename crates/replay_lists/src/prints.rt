@@ -1,4 +1,5 @@
 // What is printed for a list.
+ghost use Prim.Native.Nat.{_<_};
 use libc::STDOUT_FILENO;
 use replay::cells::WIDTH;
 use replay::format;
@@ -14,6 +15,10 @@ fn text(bytes: &[u8]) {
 
 fn decimal(n: u64) {
     io::print_decimal(STDOUT_FILENO, n);
+}
+
+fn wide(byte: u8) -> u64 {
+    byte as u64
 }
 
 // A list's place in the text.
@@ -50,7 +55,7 @@ fn print_cells(answers: &[u64]) {
 fn print_hex(bytes: &[u8]) {
     let mut i: usize = 0;
     while i < bytes.len() {
-        io::print_hex(STDOUT_FILENO, bytes[i] as u64, 2);
+        io::print_hex(STDOUT_FILENO, wide(bytes[i]), 2);
         i += 1;
     }
 }
@@ -80,11 +85,19 @@ pub fn answers(list: &[u8], out: &[u8], answers: &[u64]) {
     print_index(out, vectors::number(answers, WIDTH * calls + 1));
 }
 
+// A remainder with one digit more.
+fn next(h: u64, digit: u64) -> u64
+    requires { ⌜ h < 4294967291 ⌝ }
+    ensures { λ r. ⌜ r < 4294967291 ⌝ }
+{
+    (BASE * h + digit % MODULUS) % MODULUS
+}
+
 fn bytes_remainder(bytes: &[u8]) -> u64 {
     let mut h: u64 = 0;
     let mut i: usize = 0;
     while i < bytes.len() {
-        h = (BASE * h + bytes[i] as u64) % MODULUS;
+        h = next(h, wide(bytes[i]));
         i += 1;
     }
     h
@@ -94,7 +107,7 @@ fn numbers_remainder(numbers: &[u64]) -> u64 {
     let mut h: u64 = 0;
     let mut i: usize = 0;
     while i < numbers.len() {
-        h = (BASE * h + numbers[i] % MODULUS) % MODULUS;
+        h = next(h, numbers[i]);
         i += 1;
     }
     h
