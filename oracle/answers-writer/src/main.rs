@@ -2,14 +2,18 @@
 
 mod addresses;
 mod calls;
+mod damaged_lists;
 mod folder;
 mod indexes;
 mod intervals;
 mod leaves;
+mod list_bytes;
 mod listings;
 mod patterns;
 mod refused;
 mod refused_tables;
+mod replayed;
+mod replays;
 mod stores;
 mod text;
 mod worked;
@@ -20,6 +24,7 @@ use std::{env, fs};
 fn main() {
     let folder = env::args().nth(1).expect("the folder to write to");
     worked::check();
+    let (replays, answers) = replays::lists();
     let lists = [
         ("leaves.txt", leaves::list(), 60_000),
         ("stores.txt", stores::list(), 200_000),
@@ -27,6 +32,8 @@ fn main() {
         ("calls.txt", calls::list(), 65_000),
         ("indexes.txt", indexes::list(), 350_000),
         ("patterns.txt", patterns::list(), 262_143),
+        ("replays.txt", replays, 327_679),
+        ("replayed.txt", answers, 400_000),
     ];
     for (name, list, most) in lists {
         fs::write(Path::new(&folder).join(name), &list).expect("the folder can be written to");
