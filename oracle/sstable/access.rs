@@ -1,5 +1,7 @@
 //! Private functions of the block index, called from outside. No answer is made here.
 
+use std::io;
+
 use common::OwnedBytes;
 use tantivy_fst::Automaton;
 
@@ -104,7 +106,11 @@ pub struct Index(SSTableIndex);
 
 impl Index {
     pub fn open(bytes: &[u8]) -> Index {
-        Index(SSTableIndex::open(3, 0, OwnedBytes::new(bytes.to_vec())).unwrap())
+        Index::try_open(bytes).unwrap()
+    }
+
+    pub fn try_open(bytes: &[u8]) -> io::Result<Index> {
+        SSTableIndex::open(3, 0, OwnedBytes::new(bytes.to_vec())).map(Index)
     }
 
     pub fn get_block(&self, id: u64) -> Option<Block> {

@@ -2,13 +2,13 @@
 
 use std::collections::BTreeSet;
 
+use model::blocks::{self, LIMIT, WORKED};
+use model::foreign::{self, Group, group, near};
+use model::numbers::Numbers;
 use tantivy_sstable::access::{Block, Store};
 
-use crate::foreign::{self, Group, least_width, ord_points, range_points};
-use crate::numbers::Numbers;
 use crate::stores;
 use crate::text::{List, hex};
-use crate::worked;
 
 pub fn list() -> String {
     let mut rng = Numbers::from_seed(4);
@@ -26,10 +26,10 @@ pub fn list() -> String {
         "",
         "Stores of the list above",
     ]);
-    let blocks = worked::BLOCKS;
+    let blocks = WORKED;
     look_up(
         &mut list,
-        &stores::store(&blocks),
+        &blocks::store(&blocks),
         &blocks,
         0..5,
         [0, 3, 4, 8, 9, 10, 1_000_000],
@@ -39,23 +39,23 @@ pub fn list() -> String {
         // all the small ones, and some of the others
         if count <= 3 || i % 11 == 0 {
             let most = if count <= 3 { 3 } else { 4 };
-            add(&mut list, &mut rng, &stores::store(blocks), blocks, most);
+            add(&mut list, &mut rng, &blocks::store(blocks), blocks, most);
         }
     }
     list.comment(&["", "Stores of the Rust with more than one group"]);
     for (count, length_bits, step_bits) in [(128, 5, 0), (129, 4, 2), (130, 9, 5), (257, 2, 0)] {
-        let blocks = stores::random(&mut rng, count, length_bits, step_bits, 30, 20);
-        add(&mut list, &mut rng, &stores::store(&blocks), &blocks, 4);
+        let blocks = blocks::random(&mut rng, count, length_bits, step_bits, 30, 20);
+        add(&mut list, &mut rng, &blocks::store(&blocks), &blocks, 4);
     }
     list.comment(&[
         "",
-        "Foreign stores, by oracle/answers-writer/src/foreign.rs: one group, slopes that aren't the best, widths up to 56,",
+        "Foreign stores, by oracle/model/src/foreign.rs: one group, slopes that aren't the best, widths up to 56,",
         "fields of 0, bytes before the group's fields and behind them, bits behind the last field that aren't 0",
     ]);
     for round in 0..56 {
         let count = rng.within(1, 7);
         let (length_bits, step_bits) = (rng.within(2, 44), rng.within(0, 44));
-        let blocks = stores::random(&mut rng, count, length_bits, step_bits, 20, 40);
+        let blocks = blocks::random(&mut rng, count, length_bits, step_bits, 20, 40);
         let widest = round % 4 == 0;
         let offset = if rng.one_in(2) {
             0
@@ -75,7 +75,7 @@ pub fn list() -> String {
     }
     list.comment(&["", "Foreign stores: two groups and more, with gaps, in another order, sharing their fields or overlapping"]);
     for (round, count) in [129, 131, 140, 257].into_iter().enumerate() {
-        let blocks = stores::random(&mut rng, count, 3, 1, 20, 20);
+        let blocks = blocks::random(&mut rng, count, 3, 1, 20, 20);
         let mut groups = Vec::new();
         let mut offset = 0;
         let parts: Vec<&[Block]> = blocks.chunks(128).collect();
@@ -107,7 +107,7 @@ pub fn list() -> String {
         let lengths: Vec<u64> = (0..128).map(|_| rng.below(8)).collect();
         let steps: Vec<u64> = (0..128).map(|_| rng.within(1, 2)).collect();
         let at = |i: usize| i % 128;
-        let blocks = stores::touching(
+        let blocks = blocks::touching(
             77,
             &(0..count).map(|i| lengths[at(i)]).collect::<Vec<_>>(),
             5,
@@ -128,7 +128,7 @@ pub fn list() -> String {
         );
     }
     // the second group's fields begin inside the first's: all fields of both are the same
-    let blocks = stores::touching(9, &[6; 140], 3, &[2; 139]);
+    let blocks = blocks::touching(9, &[6; 140], 3, &[2; 139]);
     let same = Group {
         blocks: &blocks[..128],
         offset: 0,
@@ -150,7 +150,7 @@ pub fn list() -> String {
         4,
     );
     // full groups of the widest fields
-    let blocks = stores::random(&mut rng, 129, 40, 40, 20, 20);
+    let blocks = blocks::random(&mut rng, 129, 40, 40, 20, 20);
     let wide = Group {
         blocks: &blocks[..128],
         offset: 1,
@@ -174,55 +174,6 @@ pub fn list() -> String {
         1,
     );
     list.text()
-}
-
-/// A group with any slopes and widths that hold its points.
-pub fn group<'a>(rng: &mut Numbers, blocks: &'a [Block], offset: usize, widest: bool) -> Group<'a> {
-    let mut slope_and_width = |points: &[(u64, u64)]| {
-        let mean = points.last().map_or(0, |&(i, value)| value / i);
-        let slope = match rng.below(5) {
-            0 => 0,
-            1 => u32::MAX,
-            2 => rng.next() as u32,
-            _ => (mean + rng.below(4)) as u32,
-        };
-        let least = least_width(points, slope);
-        let width = if widest {
-            56 - rng.below(3)
-        } else {
-            u64::from(least) + rng.pick(&[0, 0, 1, 2, 7])
-        };
-        (slope, (width.min(56) as u8).max(least))
-    };
-    let (range_slope, range_width) = slope_and_width(&range_points(blocks));
-    let (ord_slope, ord_width) = slope_and_width(&ord_points(blocks));
-    Group {
-        blocks,
-        offset,
-        range_slope,
-        ord_slope,
-        range_width,
-        ord_width,
-    }
-}
-
-/// A group with slopes near the mean, in few bits.
-pub fn near<'a>(rng: &mut Numbers, blocks: &'a [Block], offset: usize) -> Group<'a> {
-    let mut slope_and_width = |points: &[(u64, u64)]| {
-        let mean = points.last().map_or(0, |&(i, value)| value / i);
-        let slope = (mean + rng.below(2)) as u32;
-        (slope, least_width(points, slope) + rng.below(2) as u8)
-    };
-    let (range_slope, range_width) = slope_and_width(&range_points(blocks));
-    let (ord_slope, ord_width) = slope_and_width(&ord_points(blocks));
-    Group {
-        blocks,
-        offset,
-        range_slope,
-        ord_slope,
-        range_width,
-        ord_width,
-    }
 }
 
 /// At most `most` lookups of each kind, those at the ends of groups before others.
@@ -254,7 +205,7 @@ fn add(list: &mut List, rng: &mut Numbers, bytes: &[u8], blocks: &[Block], most:
                 2 => ord + 1,
                 3 => ord.saturating_sub(1),
                 4 => rng.within(first.ord, last.ord),
-                _ => rng.pick(&[stores::LIMIT - 1, u64::MAX, 1_000_000]),
+                _ => rng.pick(&[LIMIT - 1, u64::MAX, 1_000_000]),
             });
         }
         ords.retain(|&ord| ord >= first.ord);
@@ -270,7 +221,7 @@ fn look_up(
     ids: impl IntoIterator<Item = u64>,
     ords: impl IntoIterator<Item = u64>,
 ) {
-    stores::legal(blocks);
+    blocks::legal(blocks);
     let store = Store::open(bytes);
     let text = hex(bytes);
     let n = blocks.len();

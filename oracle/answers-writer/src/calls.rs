@@ -3,228 +3,13 @@
 use std::collections::BTreeSet;
 use std::fmt::Write;
 
+use model::areas::{Areas, Entry, MARK, MOST, Machine, View, by_rule, first, hits, index};
+use model::blocks::{LIMIT, WORKED, block};
+use model::numbers::Numbers;
+use model::sums::remainder;
 use tantivy_sstable::access::{self, Block};
 
-use crate::numbers::Numbers;
 use crate::text::{hex, numbers};
-use crate::worked;
-
-const LIMIT: u64 = 1 << 48;
-const MOST: u128 = 65_536;
-const MARK: u8 = 0xa5;
-/// A prime.
-const MODULUS: u64 = (1 << 56) - 5;
-
-type Entry = (Block, Vec<u8>);
-
-fn block(start: u64, end: u64, ord: u64) -> Block {
-    Block { start, end, ord }
-}
-
-/// Block i by the rule, and its key: the 4 bytes of i, highest first.
-fn by_rule(i: u32) -> Entry {
-    let start = |i: u64| 65_536 * i + 40_503 * i % 65_536;
-    let at = u64::from(i);
-    let ord = 1000 * at + 617 * at % 1000;
-    let key = i.to_be_bytes().to_vec();
-    (block(start(at), start(at + 1), ord), key)
-}
-
-/// The remainder of the number that the bytes spell, the first one highest.
-fn remainder(bytes: &[u8]) -> u64 {
-    bytes
-        .iter()
-        .fold(0, |h, &byte| (256 * h + u64::from(byte)) % MODULUS)
-}
-
-/// What the rows of document 01's table look at.
-struct View {
-    n: u128,
-    room: u128,
-    key_room: u128,
-    /// where the last key ends
-    taken: u128,
-    last: Option<Entry>,
-}
-
-impl View {
-    fn row_1(&self) -> bool {
-        self.n > MOST || 5 * self.n > self.room || self.taken > self.key_room
-    }
-
-    fn row_6(&self, key: &[u8]) -> bool {
-        self.last.as_ref().is_some_and(|last| key <= &last.1[..])
-    }
-
-    fn row_7(&self, key: &[u8]) -> bool {
-        self.n == MOST
-            || 5 * self.n + 5 > self.room
-            || self.taken + key.len() as u128 > self.key_room
-    }
-
-    /// Rows 2 to 6, all that hold.
-    fn block_rows(&self, block: Block, key: &[u8]) -> Vec<u64> {
-        let Block { start, end, ord } = block;
-        let last = self.last.as_ref().map(|last| last.0);
-        hits(&[
-            (2, key.len() > 1024),
-            (3, end < start || end >= LIMIT || ord >= LIMIT),
-            (4, last.is_some_and(|last| start != last.end)),
-            (5, last.is_some_and(|last| ord <= last.ord)),
-            (6, self.row_6(key)),
-        ])
-    }
-
-    /// The rows of an add, all that hold.
-    fn add_rows(&self, block: Block, key: &[u8]) -> Vec<u64> {
-        let mut rows = hits(&[(1, self.row_1())]);
-        rows.extend(self.block_rows(block, key));
-        rows.extend(hits(&[(7, self.row_7(key))]));
-        rows
-    }
-
-    /// The rows of a shorten, all that hold.
-    fn shorten_rows(&self, next: &[u8]) -> Vec<u64> {
-        hits(&[
-            (1, self.row_1()),
-            (2, next.len() > 1024),
-            (6, self.row_6(next)),
-        ])
-    }
-}
-
-fn hits(rows: &[(u64, bool)]) -> Vec<u64> {
-    rows.iter().filter(|row| row.1).map(|row| row.0).collect()
-}
-
-/// The first row that is hit, or 0.
-fn first(rows: &[u64]) -> u64 {
-    rows.first().copied().unwrap_or(0)
-}
-
-/// The plain machine: entries, and the areas' lengths.
-struct Machine {
-    entries: Vec<Entry>,
-    room: usize,
-    key_room: usize,
-}
-
-impl Machine {
-    fn view(&self) -> View {
-        View {
-            n: self.entries.len() as u128,
-            room: self.room as u128,
-            key_room: self.key_room as u128,
-            taken: self.joined().len() as u128,
-            last: self.entries.last().cloned(),
-        }
-    }
-
-    fn joined(&self) -> Vec<u8> {
-        self.entries
-            .iter()
-            .flat_map(|entry| entry.1.clone())
-            .collect()
-    }
-}
-
-/// A count over two areas: five numbers a block, and the keys.
-#[derive(Clone)]
-struct Areas {
-    n: u64,
-    blocks: Vec<u64>,
-    keys: Vec<u8>,
-}
-
-impl Areas {
-    fn record(&self, i: u64) -> [u64; 5] {
-        let at = (i as usize).saturating_mul(5);
-        std::array::from_fn(|k| {
-            let place = at.saturating_add(k);
-            self.blocks.get(place).copied().unwrap_or(0)
-        })
-    }
-
-    /// Block i and its key, as far as it is inside.
-    fn entry(&self, i: u64) -> Entry {
-        let [start, end, ord, offset, length] = self.record(i);
-        let inside = |place: u64| place.min(self.keys.len() as u64) as usize;
-        let from = inside(offset);
-        let key = &self.keys[from..inside(offset.saturating_add(length)).max(from)];
-        (block(start, end, ord), key.to_vec())
-    }
-
-    /// What the first `n` blocks show.
-    fn view(&self, n: u64) -> View {
-        let last = n.checked_sub(1);
-        View {
-            n: n.into(),
-            room: self.blocks.len() as u128,
-            key_room: self.keys.len() as u128,
-            taken: last.map_or(0, |last| {
-                let [.., offset, length] = self.record(last);
-                u128::from(offset) + u128::from(length)
-            }),
-            last: last.map(|last| self.entry(last)),
-        }
-    }
-
-    /// Row 8's parts, all that are broken: 0 the key offsets' rule, and 2 to 6.
-    fn broken(&self) -> BTreeSet<u64> {
-        let mut broken = BTreeSet::new();
-        for i in 0..self.n {
-            let [start, end, ord, offset, length] = self.record(i);
-            let view = self.view(i);
-            if u128::from(offset) != view.taken {
-                broken.insert(0);
-            }
-            // a key that isn't inside counts by its length alone
-            let mut key = self.entry(i).1;
-            if key.len() as u64 != length {
-                key.resize(length.min(2000) as usize, MARK);
-            }
-            broken.extend(view.block_rows(block(start, end, ord), &key));
-        }
-        broken
-    }
-
-    fn add(&mut self, block: Block, key: &[u8]) {
-        let offset = self.view(self.n).taken as usize;
-        let at = 5 * self.n as usize;
-        self.blocks[at..at + 5].copy_from_slice(&[
-            block.start,
-            block.end,
-            block.ord,
-            offset as u64,
-            key.len() as u64,
-        ]);
-        self.keys[offset..offset + key.len()].copy_from_slice(key);
-        self.n += 1;
-    }
-
-    fn replace_last_key(&mut self, key: &[u8]) {
-        let last = 5 * (self.n as usize - 1);
-        let offset = self.blocks[last + 3] as usize;
-        self.blocks[last + 4] = key.len() as u64;
-        self.keys[offset..offset + key.len()].copy_from_slice(key);
-    }
-
-    fn entries(&self) -> Vec<Entry> {
-        (0..self.n).map(|i| self.entry(i)).collect()
-    }
-}
-
-/// The index of the Rust and its directory's length; nothing for 0 and 1 blocks.
-fn index(entries: &[Entry]) -> (Vec<u8>, u64) {
-    let given: Vec<(Block, &[u8])> = entries.iter().map(|entry| (entry.0, &entry.1[..])).collect();
-    let bytes = access::write_index(&given);
-    let directory = u64::from_le_bytes(bytes[bytes.len() - 8..].try_into().unwrap());
-    if entries.len() < 2 {
-        assert_eq!((bytes.len(), directory), (8, 0));
-        return (Vec::new(), 0);
-    }
-    (bytes, directory)
-}
 
 /// The calls so far. A fresh builder is followed by the plain machine and by the areas, and both must agree.
 struct Calls {
@@ -501,7 +286,7 @@ fn check_seen(calls: &Calls) {
 fn worked_case(calls: &mut Calls) {
     calls.comment("the case that document 01 works by hand: 85 bytes");
     calls.fresh(15, 3);
-    for (block, key) in worked::BLOCKS.into_iter().zip([b"\x62", b"\x64", b"\x66"]) {
+    for (block, key) in WORKED.into_iter().zip([b"\x62", b"\x64", b"\x66"]) {
         assert_eq!(calls.add(block, key), 0);
     }
     calls.state();
@@ -570,7 +355,10 @@ fn rooms(calls: &mut Calls) {
     calls.comment("the first of two keys is empty; areas exactly full");
     calls.fresh(10, 1);
     assert_eq!(calls.add(block(LIMIT - 2, LIMIT - 1, 0), b""), 0);
-    assert_eq!(calls.add(block(LIMIT - 1, LIMIT - 1, LIMIT - 1), b"\x00"), 0);
+    assert_eq!(
+        calls.add(block(LIMIT - 1, LIMIT - 1, LIMIT - 1), b"\x00"),
+        0
+    );
     calls.state();
     calls.finish_all();
     calls.comment("areas one short");
@@ -772,11 +560,23 @@ fn broken_records(calls: &mut Calls) {
         }
     }
     calls.comment("row 8: a key that isn't above the one before");
-    for keys in [&b"abaabc"[..], b"ababbb", b"abbbab", b"abbb\x62\x00", b"abbba\xff", b"bcbbcc", b"\xff\xffbbcc"] {
+    for keys in [
+        &b"abaabc"[..],
+        b"ababbb",
+        b"abbbab",
+        b"abbb\x62\x00",
+        b"abbba\xff",
+        b"bcbbcc",
+        b"\xff\xffbbcc",
+    ] {
         calls.raw(3, &right, keys);
         calls.finish(90);
     }
-    calls.raw(3, &[10, 20, 5, 0, 2, 20, 30, 6, 2, 2, 30, 30, 9, 4, 2], b"abababc");
+    calls.raw(
+        3,
+        &[10, 20, 5, 0, 2, 20, 30, 6, 2, 2, 30, 30, 9, 4, 2],
+        b"abababc",
+    );
     calls.finish(90);
     calls.comment("row 8 with one block");
     for blocks in [
@@ -793,7 +593,9 @@ fn broken_records(calls: &mut Calls) {
         calls.add(block(1, 2, 1), b"");
         calls.shorten(b"b");
     }
-    calls.comment("row 8 by several rows at once, and a key area that is too short for a key in front");
+    calls.comment(
+        "row 8 by several rows at once, and a key area that is too short for a key in front",
+    );
     calls.raw(2, &[0, 1, 0, 0, 1024, 1, 2, 1, 5, 1], b"0123456789");
     calls.finish(0);
     calls.finish(90);
@@ -807,7 +609,11 @@ fn broken_records(calls: &mut Calls) {
     calls.raw(2, &[0, 1, 0, 0, 1, 1, 2, 1, 1, 1025], &vec![b'b'; 1026]);
     assert_eq!(calls.finish(3000), 8);
     calls.comment("a builder over broken areas takes what its last record allows");
-    calls.raw(1, &[7, 20, 5, 1, 2, 0, 0, 0, 0, 0, 0], b"\x00ab\xee\xee\xee");
+    calls.raw(
+        1,
+        &[7, 20, 5, 1, 2, 0, 0, 0, 0, 0, 0],
+        b"\x00ab\xee\xee\xee",
+    );
     assert_eq!(calls.shorten(b"b"), 0);
     assert_eq!(calls.add(block(20, 21, 6), b"ac"), 6);
     assert_eq!(calls.add(block(20, 21, 6), b"bcde"), 7);
@@ -824,7 +630,10 @@ fn random(calls: &mut Calls) {
     let mut rng = Numbers::from_seed(62);
     for _ in 0..13 {
         let count = rng.within(1, 9);
-        calls.fresh(5 * count as usize + rng.below(3) as usize, 8 * count as usize);
+        calls.fresh(
+            5 * count as usize + rng.below(3) as usize,
+            8 * count as usize,
+        );
         let (mut at, mut ord) = (rng.bits(20), rng.bits(6));
         let mut key = Vec::new();
         for i in 0..count + 1 {

@@ -3,15 +3,16 @@
 use std::collections::BTreeSet;
 use std::fmt::Write;
 
+use model::around;
+use model::blocks::{self, LIMIT, touching};
+use model::faults::others;
+use model::files::{self, Fault, File, rising, smallest, two_group_file, worked_file};
+use model::foreign::{self, Group};
+use model::numbers::Numbers;
+use model::opening::{self, Hit, Opened, Opening};
 use tantivy_sstable::access::{Block, Index};
 
-use crate::addresses;
-use crate::files::{Fault, File, smallest, two_group_file, worked_file};
-use crate::foreign::{self, Group};
-use crate::numbers::Numbers;
-use crate::opening::{self, Hit, Opened, Opening};
 use crate::refused;
-use crate::stores::{self, LIMIT, touching};
 use crate::text::{hex, numbers};
 
 /// The most bytes that a change replaces.
@@ -145,16 +146,16 @@ impl Indexes {
     pub fn look_up(&mut self, rng: &mut Numbers, some: usize) {
         assert_eq!(self.opening.no(), 0);
         let n = self.opening.record.n;
-        let chosen = chosen(rng, n, some);
+        let chosen = around::ids(rng, n, some);
         let mut ids = chosen.clone();
         ids.extend([n, n.next_multiple_of(128), u64::MAX]);
         for id in ids {
             self.id(id);
         }
-        for ord in ords(&self.opening.blocks, &chosen) {
+        for ord in around::ords(&self.opening.blocks, &chosen) {
             self.ord(ord);
         }
-        for (i, key) in keys(&self.opening.keys, &chosen).iter().enumerate() {
+        for (i, key) in around::keys(&self.opening.keys, &chosen).iter().enumerate() {
             if i % 2 == 0 {
                 self.key(key);
             } else {
@@ -173,7 +174,7 @@ fn address(block: Block) -> String {
 }
 
 /// The Rust's index of a file that opens; it must hold the model's blocks and keys.
-fn rust(bytes: &[u8], opening: &Opening) -> Option<Index> {
+pub fn rust(bytes: &[u8], opening: &Opening) -> Option<Index> {
     if opening.no() != 0 {
         return None;
     }
@@ -188,46 +189,6 @@ fn rust(bytes: &[u8], opening: &Opening) -> Option<Index> {
         assert_eq!(&bytes[at as usize..(at + length) as usize], key);
     }
     Some(index)
-}
-
-/// Ids of a file: all of a short one.
-fn chosen(rng: &mut Numbers, n: u64, some: usize) -> BTreeSet<u64> {
-    if n <= 8 {
-        return (0..n).collect();
-    }
-    let ends = [0, 1, 126, 127, 128, 129, 255, 256, n - 2, n - 1];
-    let mut ids: BTreeSet<u64> = ends.into_iter().filter(|&id| id < n).collect();
-    ids.extend((0..some).map(|_| rng.below(n)));
-    ids
-}
-
-/// Each first ordinal, the one below and the one above, and some far away.
-fn ords(blocks: &[Block], ids: &BTreeSet<u64>) -> BTreeSet<u64> {
-    let mut ords = BTreeSet::from([0, u64::MAX]);
-    for &id in ids {
-        let ord = blocks[id as usize].ord;
-        ords.extend([ord.saturating_sub(1), ord, ord + 1]);
-    }
-    ords
-}
-
-/// Each separator, keys just above and below it, the empty key, and keys above all.
-fn keys(separators: &[Vec<u8>], ids: &BTreeSet<u64>) -> BTreeSet<Vec<u8>> {
-    let mut keys = BTreeSet::from([vec![], vec![0]]);
-    for &id in ids {
-        let separator = &separators[id as usize];
-        keys.insert(separator.clone());
-        keys.insert([&separator[..], &[0]].concat());
-        if let Some((&last, front)) = separator.split_last() {
-            keys.insert(match last {
-                0 => front.to_vec(),
-                _ => [front, &[last - 1, 0xff]].concat(),
-            });
-        }
-    }
-    let last = separators.last().unwrap();
-    keys.insert([&last[..], &[0xff; 3]].concat());
-    keys
 }
 
 pub fn list() -> String {
@@ -333,19 +294,6 @@ fn worked_case(indexes: &mut Indexes) {
     }
 }
 
-/// Rising keys over few bytes, FF among them; the first one may be empty.
-pub fn rising(rng: &mut Numbers, count: u64, longest: u64) -> Vec<Vec<u8>> {
-    let mut keys = BTreeSet::new();
-    while (keys.len() as u64) < count {
-        let length = rng.within(0, longest);
-        let key: Vec<u8> = (0..length)
-            .map(|_| rng.pick(&[0x00, 0x01, 0x61, 0x62, 0xfe, 0xff, 0xff]))
-            .collect();
-        keys.insert(key);
-    }
-    keys.into_iter().collect()
-}
-
 fn written(indexes: &mut Indexes) {
     indexes.comment(
         "two blocks, by the Rust's SSTableIndexBuilder; empty blocks, the greatest numbers",
@@ -414,7 +362,7 @@ fn written(indexes: &mut Indexes) {
     indexes.comment("some blocks");
     for count in 4..=8 {
         let (length_bits, step_bits) = (rng.within(2, 42), rng.within(0, 42));
-        let blocks = stores::random(&mut rng, count, length_bits, step_bits, 20, 20);
+        let blocks = blocks::random(&mut rng, count, length_bits, step_bits, 20, 20);
         let keys = rising(&mut rng, count, 5);
         assert_eq!(indexes.open(&File::written(&blocks, &keys).bytes()), 0);
         indexes.look_up(&mut rng, 0);
@@ -427,7 +375,7 @@ fn written(indexes: &mut Indexes) {
         (256, 2, 1),
         (257, 9, 5),
     ] {
-        let blocks = stores::random(&mut rng, count, length_bits, step_bits, 30, 20);
+        let blocks = blocks::random(&mut rng, count, length_bits, step_bits, 30, 20);
         let keys = rising(&mut rng, count, 4);
         assert_eq!(indexes.open(&File::written(&blocks, &keys).bytes()), 0);
         indexes.look_up(&mut rng, 3);
@@ -442,26 +390,26 @@ fn foreign_files(indexes: &mut Indexes) {
     for round in 0..12 {
         let count = rng.within(2, 6);
         let (length_bits, step_bits) = (rng.within(2, 44), rng.within(0, 44));
-        let blocks = stores::random(&mut rng, count, length_bits, step_bits, 20, 40);
+        let blocks = blocks::random(&mut rng, count, length_bits, step_bits, 20, 40);
         let keys = rising(&mut rng, count, 4);
         let offset = rng.pick(&[0, 0, 1, 3]);
-        let group = addresses::group(&mut rng, &blocks, offset, round % 3 == 0);
+        let group = foreign::group(&mut rng, &blocks, offset, round % 3 == 0);
         let behind = rng.pick(&[0, 0, 1, 9]);
         let junk = rng.bytes((offset + group.length()) as u64 + behind);
         open_foreign(indexes, &keys, &[group], junk);
         indexes.look_up(&mut rng, 0);
     }
     indexes.comment("foreign files of more groups: gaps, another order, one set of fields for two groups, groups that overlap");
-    let blocks = stores::random(&mut rng, 131, 5, 2, 20, 20);
+    let blocks = blocks::random(&mut rng, 131, 5, 2, 20, 20);
     let keys = rising(&mut rng, 131, 3);
-    let second = addresses::near(&mut rng, &blocks[128..], 2);
-    let first = addresses::near(&mut rng, &blocks[..128], 7 + second.length());
+    let second = foreign::near(&mut rng, &blocks[128..], 2);
+    let first = foreign::near(&mut rng, &blocks[..128], 7 + second.length());
     let junk = rng.bytes((first.offset + first.length() + 2) as u64);
     open_foreign(indexes, &keys, &[first, second], junk);
     indexes.look_up(&mut rng, 2);
     let lengths: Vec<u64> = (0..129).map(|i| if i == 128 { 1 } else { i % 5 }).collect();
     let blocks = touching(70, &[&lengths[..128], &lengths[..3]].concat(), 5, &[1; 130]);
-    let first = addresses::near(&mut rng, &blocks[..128], 1);
+    let first = foreign::near(&mut rng, &blocks[..128], 1);
     let shared = Group {
         blocks: &blocks[128..],
         ..first
@@ -491,7 +439,7 @@ fn foreign_files(indexes: &mut Indexes) {
     );
     indexes.look_up(&mut rng, 2);
     indexes.comment("the widest fields in a full group");
-    let blocks = stores::random(&mut rng, 129, 40, 40, 20, 20);
+    let blocks = blocks::random(&mut rng, 129, 40, 40, 20, 20);
     let wide = Group {
         blocks: &blocks[..128],
         offset: 1,
@@ -525,21 +473,7 @@ fn open_foreign(indexes: &mut Indexes, keys: &[Vec<u8>], groups: &[Group], junk:
 fn by_rule(indexes: &mut Indexes) {
     indexes.comment("the most blocks, and one more");
     for (count, no) in [(129u64, 0), (65_535, 0), (65_537, 12), (65_536, 0)] {
-        let lengths = vec![1; count as usize];
-        let blocks = touching(0, &lengths, 0, &lengths[1..]);
-        let keys: Vec<Vec<u8>> = (0..count).map(|i| i.to_be_bytes()[5..].to_vec()).collect();
-        let groups: Vec<Group> = blocks
-            .chunks(128)
-            .map(|blocks| Group {
-                blocks,
-                offset: 0,
-                range_slope: 1,
-                ord_slope: 1,
-                range_width: 1,
-                ord_width: 1,
-            })
-            .collect();
-        let file = File::new(&keys, &foreign::store(&groups, vec![0xff; 32]));
+        let file = files::by_rule(count);
         assert_eq!(indexes.open_as(&file.bytes(), format!("g {count}")), no);
     }
     for id in [
@@ -624,90 +558,4 @@ fn left_free(indexes: &mut Indexes) {
     for key in ["a", "b", "c", "f", "g"] {
         indexes.key(key.as_bytes());
     }
-}
-
-/// Records that the 85 bytes don't have.
-pub fn others(right: Opened) -> Vec<Opened> {
-    let mut records = Vec::new();
-    for n in [
-        0,
-        1,
-        2,
-        4,
-        128,
-        129,
-        65_536,
-        65_537,
-        1 << 32,
-        1 << 63,
-        u64::MAX,
-    ] {
-        records.push(Opened { n, ..right });
-    }
-    // more groups than there are records, which lie inside
-    for n in [129, 256, 65_536] {
-        records.push(Opened {
-            n,
-            records: (0, 85),
-            ..right
-        });
-    }
-    let places = [
-        (85, 0),
-        (86, 0),
-        (0, 85),
-        (0, 86),
-        (85, 1),
-        (1, 85),
-        (0, 0),
-        (0, u64::MAX),
-        (u64::MAX, 0),
-        (u64::MAX, 1),
-        (u64::MAX, 2),
-        (1 << 63, 1 << 63),
-        (u64::MAX - 30, 62),
-    ];
-    for place in places {
-        for part in 0..3 {
-            let mut record = right;
-            *[
-                &mut record.directory,
-                &mut record.records,
-                &mut record.addresses,
-            ][part] = place;
-            records.push(record);
-        }
-    }
-    // parts that begin or end at another byte
-    for (from, length) in [(38, 36), (40, 36), (39, 35), (39, 37), (0, 36), (49, 36)] {
-        records.push(Opened {
-            records: (from, length),
-            ..right
-        });
-    }
-    for (from, length) in [
-        (0, 3),
-        (0, 4),
-        (0, 11),
-        (0, 12),
-        (0, 28),
-        (0, 30),
-        (1, 31),
-        (8, 31),
-        (44, 31),
-    ] {
-        records.push(Opened {
-            directory: (from, length),
-            ..right
-        });
-    }
-    for (from, length) in [(75, 1), (74, 2), (76, 2), (0, 2), (83, 2)] {
-        records.push(Opened {
-            addresses: (from, length),
-            ..right
-        });
-    }
-    let small = opening::open(&smallest().bytes()).record;
-    records.push(small);
-    records
 }

@@ -2,13 +2,12 @@
 
 use std::collections::BTreeSet;
 
+use model::blocks::LIMIT;
+use model::numbers::Numbers;
 use tantivy_bitpacker::{BitPacker, compute_num_bits};
 use tantivy_sstable::access;
 
-use crate::numbers::Numbers;
 use crate::text::{List, hex, numbers};
-
-const LIMIT: u64 = 1 << 48;
 
 pub fn list() -> String {
     let mut rng = Numbers::from_seed(1);
@@ -46,14 +45,29 @@ fn num_bits(list: &mut List) {
 }
 
 fn little_endian(list: &mut List) {
-    list.comment(&["l WIDTH VALUE BYTES: a number in WIDTH bytes, to_le_bytes of Rust's own library"]);
+    list.comment(&[
+        "l WIDTH VALUE BYTES: a number in WIDTH bytes, to_le_bytes of Rust's own library",
+    ]);
     for value in [0u64, 1, 0x1234, 0xfedc, 0xffff] {
-        list.case(format!("l 2 {value} {}", hex(&(value as u16).to_le_bytes())));
+        list.case(format!(
+            "l 2 {value} {}",
+            hex(&(value as u16).to_le_bytes())
+        ));
     }
     for value in [0u64, 1, 0x1_0000, 0x1234_5678, 0xfedc_ba98, 0xffff_ffff] {
-        list.case(format!("l 4 {value} {}", hex(&(value as u32).to_le_bytes())));
+        list.case(format!(
+            "l 4 {value} {}",
+            hex(&(value as u32).to_le_bytes())
+        ));
     }
-    for value in [0u64, 1, 1 << 32, 0x0123_4567_89ab_cdef, 0xfedc_ba98_7654_3210, u64::MAX] {
+    for value in [
+        0u64,
+        1,
+        1 << 32,
+        0x0123_4567_89ab_cdef,
+        0xfedc_ba98_7654_3210,
+        u64::MAX,
+    ] {
         list.case(format!("l 8 {value} {}", hex(&value.to_le_bytes())));
     }
 }

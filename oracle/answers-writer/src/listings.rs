@@ -1,15 +1,15 @@
 //! Listings: index files of the Rust's builder, and automata that tell their blocks apart.
 
+use model::automaton::Table;
+use model::blocks::{self, LIMIT};
+use model::faults::others;
+use model::files::{Fault, File, rising, smallest, two_group_file, worked_file};
+use model::numbers::Numbers;
+use model::opening::{self, Opened};
+use model::patterns::{drawn, nearby, ring, small};
 use tantivy_sstable::access;
 
-use crate::automaton::Table;
-use crate::files::{Fault, File, smallest, two_group_file, worked_file};
-use crate::indexes::{others, rising};
-use crate::intervals::{drawn, nearby, ring, small};
-use crate::numbers::Numbers;
-use crate::opening::{self, Opened};
 use crate::patterns::Patterns;
-use crate::stores::{self, LIMIT};
 
 /// Keys of files.
 fn key_lists(rng: &mut Numbers) -> Vec<Vec<Vec<u8>>> {
@@ -56,7 +56,7 @@ pub fn files(patterns: &mut Patterns) {
     patterns.comment("listings of files of 2 blocks and more, by the Rust's builder: keys with runs of FF, keys that are fronts of others, an");
     patterns.comment("empty first separator, shortened ones");
     for keys in key_lists(&mut rng) {
-        let blocks = stores::random(&mut rng, keys.len() as u64, 8, 4, 10, 10);
+        let blocks = blocks::random(&mut rng, keys.len() as u64, 8, 4, 10, 10);
         assert_eq!(patterns.open(&File::written(&blocks, &keys).bytes()), 0);
         let count = if keys.len() < 8 { 1 } else { 2 };
         for _ in 0..count {

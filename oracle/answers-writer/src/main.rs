@@ -1,19 +1,19 @@
-//! Writes the lists of answers into the folder that it is given.
+//! Writes the lists of answers, and the folder of files, into the folder that it is given.
 
 mod addresses;
-mod automaton;
 mod calls;
-mod files;
-mod foreign;
+mod damaged_lists;
+mod folder;
 mod indexes;
 mod intervals;
 mod leaves;
+mod list_bytes;
 mod listings;
-mod numbers;
-mod opening;
 mod patterns;
 mod refused;
 mod refused_tables;
+mod replayed;
+mod replays;
 mod stores;
 mod text;
 mod worked;
@@ -24,6 +24,7 @@ use std::{env, fs};
 fn main() {
     let folder = env::args().nth(1).expect("the folder to write to");
     worked::check();
+    let (replays, answers) = replays::lists();
     let lists = [
         ("leaves.txt", leaves::list(), 60_000),
         ("stores.txt", stores::list(), 200_000),
@@ -31,9 +32,12 @@ fn main() {
         ("calls.txt", calls::list(), 65_000),
         ("indexes.txt", indexes::list(), 350_000),
         ("patterns.txt", patterns::list(), 262_143),
+        ("replays.txt", replays, 327_679),
+        ("replayed.txt", answers, 400_000),
     ];
     for (name, list, most) in lists {
         fs::write(Path::new(&folder).join(name), &list).expect("the folder can be written to");
         assert!(list.len() <= most, "{name} has {} bytes", list.len());
     }
+    folder::write(Path::new(&folder));
 }

@@ -1,19 +1,16 @@
-//! The list of patterns: automata, and the calls that take one, with a plain model of rows 21 to 25.
+//! The list of patterns: automata, and the calls that take one.
 
 use std::collections::{BTreeSet, HashSet};
 use std::fmt::Write;
 
-use tantivy_sstable::access::{self, Index};
+use model::automaton::{Interval, Table, mark, number, room, table_hits};
+use model::opening::{self, Hit, Opened, Opening};
+use tantivy_sstable::access::Index;
 
-use crate::automaton::Table;
 use crate::intervals;
 use crate::listings;
-use crate::opening::{self, Hit, Opened, Opening};
 use crate::refused_tables;
 use crate::text::{hex, numbers};
-
-/// An interval: above the first key, where there is one, and not above the second.
-pub type Interval = (Option<Vec<u8>>, Vec<u8>);
 
 /// The lines so far, and what the next call is about.
 pub struct Patterns {
@@ -29,49 +26,6 @@ pub struct Patterns {
     seen: BTreeSet<(char, Vec<Hit>)>,
     /// the calls since the automaton or the file changed
     calls: HashSet<String>,
-}
-
-/// The rows that an automaton's bytes break, in their order.
-fn table_hits(bytes: &[u8]) -> Vec<Hit> {
-    let Some((&m, rest)) = bytes.split_first() else {
-        return vec![(21, "empty")];
-    };
-    let m = usize::from(m);
-    let mut hits = Vec::new();
-    if m == 0 {
-        hits.push((21, "no states"));
-    }
-    if m > 64 {
-        hits.push((21, "over 64 states"));
-    }
-    if bytes.len() != 1 + 257 * m {
-        hits.push((21, "length"));
-    }
-    let (flags, next) = rest.split_at(m.min(rest.len()));
-    if flags.iter().any(|&flag| flag > 1) {
-        hits.push((22, "flag"));
-    }
-    if next.iter().any(|&state| usize::from(state) >= m) {
-        hits.push((23, "next state"));
-    }
-    hits
-}
-
-/// The first row that is hit, or 0.
-fn number(hits: &[Hit]) -> u64 {
-    hits.first().map_or(0, |hit| hit.0)
-}
-
-/// The room that every example of the interval fits in.
-pub fn room((start, end): &Interval) -> usize {
-    start.as_ref().map_or(0, Vec::len).max(end.len()) + 64
-}
-
-/// The Rust's answer, held against a plain search.
-pub fn mark(table: &Table, (start, end): &Interval) -> bool {
-    let answer = access::can_block_match_automaton(start.as_deref(), end, table);
-    assert_eq!(answer, table.accepts_in(start.as_deref(), end));
-    answer
 }
 
 impl Patterns {

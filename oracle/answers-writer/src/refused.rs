@@ -2,11 +2,13 @@
 
 use std::collections::BTreeSet;
 
-use crate::files::{Fault, File, faults, keys_of_one_byte, smallest, two_group_file, worked_file};
-use crate::foreign::{self, Group};
+use model::blocks::{self, LIMIT, touching};
+use model::faults::faults;
+use model::files::{Fault, File, keys_of_one_byte, smallest, two_group_file, worked_file};
+use model::foreign::{self, Group};
+use model::numbers::Numbers;
+
 use crate::indexes::Indexes;
-use crate::numbers::Numbers;
-use crate::stores::{self, LIMIT, touching};
 
 /// Rows 10 to 16.
 pub fn files(indexes: &mut Indexes) {
@@ -78,14 +80,14 @@ fn broken(indexes: &mut Indexes) {
         assert_eq!(indexes.open(&file.with(fault).bytes()), row);
     }
     indexes.comment("row 12 alone: no block, one block, a key of 1,025 bytes");
-    let none = File::new(&[], &stores::store(&[]));
+    let none = File::new(&[], &blocks::store(&[]));
     assert_eq!(indexes.open(&none.bytes()), 12);
     let blocks = touching(0, &[1, 1], 0, &[1]);
-    let one = File::new(&[b"a".to_vec()], &stores::store(&blocks[..1]));
+    let one = File::new(&[b"a".to_vec()], &blocks::store(&blocks[..1]));
     assert_eq!(indexes.open(&one.bytes()), 12);
     let keys = [vec![0x61; 1025], vec![0x62]];
     assert_eq!(
-        indexes.open(&File::new(&keys, &stores::store(&blocks)).bytes()),
+        indexes.open(&File::new(&keys, &blocks::store(&blocks)).bytes()),
         12
     );
 }

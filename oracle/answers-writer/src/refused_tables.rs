@@ -1,8 +1,9 @@
 //! Automata that are refused: rows 21 to 23, and two rows at once.
 
-use crate::automaton::Table;
-use crate::files::worked_file;
-use crate::patterns::{Interval, Patterns, room};
+use model::automaton::{Interval, Table, room};
+use model::files::worked_file;
+
+use crate::patterns::Patterns;
 
 /// A place of an automaton's bytes, and what is put there.
 type Change = (usize, u8);

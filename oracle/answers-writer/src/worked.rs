@@ -1,28 +1,9 @@
 //! The cases that document 01 works by hand. A list is written only if they come out.
 
+use model::automaton::Table;
+use model::blocks::WORKED as BLOCKS;
 use tantivy_bitpacker::{BitPacker, compute_num_bits};
-use tantivy_sstable::access::{self, Block, Index, Store};
-
-use crate::automaton::Table;
-
-/// The three blocks of the worked case.
-pub const BLOCKS: [Block; 3] = [
-    Block {
-        start: 0,
-        end: 10,
-        ord: 0,
-    },
-    Block {
-        start: 10,
-        end: 25,
-        ord: 4,
-    },
-    Block {
-        start: 25,
-        end: 30,
-        ord: 9,
-    },
-];
+use tantivy_sstable::access::{self, Index, Store};
 
 pub fn check() {
     assert_eq!(access::find_best_slope(&[10, 25, 30]), (11, 3));

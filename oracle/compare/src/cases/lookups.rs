@@ -1,0 +1,48 @@
+//! Lookups in a file.
+
+use model::around::{ids, keys, ords};
+use model::numbers::Numbers;
+
+use crate::opened::File;
+use crate::tally::Tally;
+
+/// Every lookup with ids, ordinals and keys around those of a file that opens: all of a short one, of a long one those
+/// at the ends of groups and `some` others.
+pub fn around(tally: &mut Tally, rng: &mut Numbers, file: &File, some: usize) {
+    let n = file.n();
+    let ids = ids(rng, n, some);
+    for &id in ids
+        .iter()
+        .chain(&[n, n + 1, n.next_multiple_of(128), 1 << 32, u64::MAX])
+    {
+        file.id(tally, id);
+        file.separator(tally, id);
+    }
+    let far = [1 << 47, 1 << 48, 1 << 63];
+    for ord in ords(&file.opening.blocks, &ids).into_iter().chain(far) {
+        file.ord(tally, ord);
+    }
+    for key in keys(&file.opening.keys, &ids)
+        .into_iter()
+        .chain([vec![0xff; 1030]])
+    {
+        file.key(tally, &key);
+        file.address(tally, &key);
+    }
+}
+
+/// A few lookups of each kind, with any record.
+pub fn some(tally: &mut Tally, file: &File) {
+    let n = file.n();
+    for id in [0, 1, n.wrapping_sub(1), n] {
+        file.id(tally, id);
+        file.separator(tally, id);
+    }
+    for ord in [0, 5, 1 << 47, u64::MAX] {
+        file.ord(tally, ord);
+    }
+    for key in [&b""[..], b"b", b"c\xff", b"\xff\xff\xff"] {
+        file.key(tally, key);
+        file.address(tally, key);
+    }
+}

@@ -1,0 +1,81 @@
+//! The differences that docs/DIFFERENCES.md lists: the smallest input of each on both sides.
+
+mod building;
+mod opening;
+
+use std::collections::BTreeSet;
+use std::fs;
+use std::hint::black_box;
+use std::path::Path;
+
+use crate::tally::{Tally, quietly};
+
+/// One difference: what both sides do, and what the list says that they do.
+struct Difference {
+    id: &'static str,
+    input: &'static str,
+    rust: [String; 2],
+    here: [String; 2],
+}
+
+fn difference(
+    id: &'static str,
+    input: &'static str,
+    rust: (String, &str),
+    here: (String, &str),
+) -> Difference {
+    Difference {
+        id,
+        input,
+        rust: [rust.0, rust.1.to_string()],
+        here: [here.0, here.1.to_string()],
+    }
+}
+
+/// Whether a sum that wraps stops the program.
+fn checked() -> bool {
+    quietly(|| black_box(255u8) + black_box(1)).is_none()
+}
+
+/// Shows each difference, and holds the list to those that were shown.
+pub fn run(tally: &mut Tally, root: &Path) {
+    tally.section("differences");
+    let mut shown = BTreeSet::new();
+    for found in opening::all().into_iter().chain(building::all()) {
+        let Difference {
+            id,
+            input,
+            rust,
+            here,
+        } = found;
+        println!("  {id} {input}: the Rust {}, here {}", rust[0], here[0]);
+        let right = rust[0] == rust[1] && here[0] == here[1];
+        tally.difference(right, || {
+            format!(
+                "{id}: listed is that the Rust {}, here {}",
+                rust[1], here[1]
+            )
+        });
+        assert!(shown.insert(id.to_string()), "{id} twice");
+    }
+    let listed = listed(root);
+    tally.difference(shown == listed, || {
+        format!("listed {listed:?}, shown {shown:?}")
+    });
+    tally.end_section();
+}
+
+/// The marks of the differences in docs/DIFFERENCES.md: table rows whose first cell is D and a number.
+fn listed(root: &Path) -> BTreeSet<String> {
+    let place = root.join("docs/DIFFERENCES.md");
+    let text =
+        fs::read_to_string(&place).unwrap_or_else(|why| panic!("{}: {why}", place.display()));
+    let marks = text
+        .lines()
+        .filter_map(|line| line.strip_prefix("| ")?.split(' ').next());
+    let is_mark = |mark: &&str| {
+        mark.strip_prefix('D')
+            .is_some_and(|number| number.parse::<u32>().is_ok())
+    };
+    marks.filter(is_mark).map(str::to_string).collect()
+}

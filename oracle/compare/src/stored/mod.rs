@@ -1,0 +1,79 @@
+//! The stored lists of answers, which the gate replays, run through the library.
+
+mod builders;
+mod indexes;
+mod leaves;
+mod patterns;
+mod stores;
+
+use std::fs;
+use std::path::Path;
+
+use crate::tally::{Call, Tally};
+
+/// Runs every line of the lists that is a call of an exported function.
+pub fn run(tally: &mut Tally, root: &Path) {
+    tally.replay(true);
+    let read = |list: &str| {
+        let place = root.join("crates").join(list).join("stdin");
+        fs::read_to_string(&place).unwrap_or_else(|why| panic!("{}: {why}", place.display()))
+    };
+    for (list, replay) in [
+        ("leaf_vectors", leaves::run as fn(&mut Tally, &[&str])),
+        ("store_vectors", stores::run),
+        ("builder_vectors", builders::run),
+        ("index_vectors", indexes::run),
+        ("pattern_vectors", patterns::run),
+    ] {
+        tally.section(&format!("stored: {list}"));
+        let text = read(list);
+        let lines: Vec<&str> = text.lines().filter(|line| !line.starts_with('#')).collect();
+        replay(tally, &lines);
+    }
+    tally.end_section();
+    tally.replay(false);
+}
+
+/// The parts of a line behind its letter.
+struct Words<'a> {
+    line: &'a str,
+    words: std::str::Split<'a, char>,
+}
+
+impl<'a> Words<'a> {
+    /// The letter, and what is behind it.
+    fn new(line: &'a str) -> (&'a str, Words<'a>) {
+        let mut words = line.split(' ');
+        let letter = words.next().expect("a letter");
+        (letter, Words { line, words })
+    }
+
+    fn word(&mut self) -> &'a str {
+        self.words
+            .next()
+            .unwrap_or_else(|| panic!("{} is too short", self.line))
+    }
+
+    fn number(&mut self) -> u64 {
+        self.word()
+            .parse()
+            .unwrap_or_else(|_| panic!("no number in {}", self.line))
+    }
+
+    fn numbers<const N: usize>(&mut self) -> [u64; N] {
+        std::array::from_fn(|_| self.number())
+    }
+
+    fn bytes(&mut self) -> Vec<u8> {
+        let digits = self.word().strip_prefix('x').expect("x and hex");
+        let byte = |i: usize| u8::from_str_radix(&digits[2 * i..2 * i + 2], 16).expect("hex");
+        (0..digits.len() / 2).map(byte).collect()
+    }
+
+    /// Fails the last case unless its answer is the stored one.
+    fn hold<T: PartialEq>(&self, tally: &mut Tally, call: Call, got: T, stored: T) {
+        if got != stored {
+            tally.unlike(call, &self.line[..self.line.len().min(300)]);
+        }
+    }
+}

@@ -1,0 +1,13 @@
+//! Plain models of document 01, and makers of cases. Nothing here calls the library that is compared.
+
+pub mod areas;
+pub mod around;
+pub mod automaton;
+pub mod blocks;
+pub mod faults;
+pub mod files;
+pub mod foreign;
+pub mod numbers;
+pub mod opening;
+pub mod patterns;
+pub mod sums;
