@@ -6,8 +6,8 @@ use mathlib.Core.Logic.{⊎-elim}
 use Prim.Native.Nat.{ℕ, zero, suc, _+_, _*_, _≤_, _<_}
 use native.Mathlib.Nat.{eq-or-lt-of-le, le-of-suc-le-suc, lt-of-not-le}
 use native.Mathlib.Omega.{arith}
-use Rattle.keys.specs.Order.{less, _≺_, _≼_}
-use Rattle.keys.proofs.Order.{less-trans}
+use Rattle.keys.specs.Order.{less, _≺_, _≼_, commonPrefixLen}
+use Rattle.keys.proofs.Order.{less-trans, less-asym, commonPrefixLen-below, commonPrefixLen-above}
 use Rattle.directory.specs.Read.{keyOf, Sorted, First}
 
 -- ---- keys that rise
@@ -30,6 +30,15 @@ module _ (d : List ℕ) (n : ℕ) (sorted : Sorted d n) where
       (λ (e : i ≡ m). rw e p)
       (λ (g : i < m). less-trans (keyOf d n i) (keyOf d n m) key (keys-rise i m g l) p)
       (eq-or-lt-of-le h′)
+
+  -- above key m, up to a key, no fewer bytes are in common with the key; below key m, down to the key, as well
+  pub shared-below : (m : ℕ) (key : List ℕ) → (i : ℕ) → m + 1 ≤ i → i < n → keyOf d n i ≼ key → commonPrefixLen (keyOf d n m) key ≤ commonPrefixLen (keyOf d n i) key
+  shared-below m key i h l r =
+      commonPrefixLen-below (keyOf d n m) (keyOf d n i) key (less-asym (keyOf d n m) (keyOf d n i) (keys-rise m i (omega arith) l)) r
+
+  pub shared-above : (m : ℕ) (key : List ℕ) → m < n → (i : ℕ) → i < m → key ≼ keyOf d n i → commonPrefixLen (keyOf d n m) key ≤ commonPrefixLen (keyOf d n i) key
+  shared-above m key l i h r =
+      commonPrefixLen-above (keyOf d n i) (keyOf d n m) key r (less-asym (keyOf d n i) (keyOf d n m) (keys-rise i m h l))
 
 -- ---- the first that isn't below
 

@@ -1,9 +1,10 @@
 // A directory in a file: its rules, its keys, the search for a key.
 ghost use mathlib.Core.Path.{_≡_};
 ghost use mathlib.Core.Bool.{false};
-ghost use Prim.Native.Nat.{_+_, _*_, _^_, _≤_, _<_};
+ghost use Prim.Native.Nat.{_+_, _*_, _^_, _≤_, _<_, min};
 ghost use lib.ListN.{length, take, drop};
 ghost use Rattle.serialize.specs.Digits.{numberAt};
+ghost use Rattle.keys.specs.Order.{less, commonPrefixLen};
 ghost use Rattle.directory.specs.Read.{countOf, keyOffset, keyLength, keyOf, pairsBad, directoryBad, keysBad, directoryNo, keyOutside, Sorted, FoundIn, FoundAs};
 
 const PAIR_LEN: usize = 8;
@@ -126,7 +127,31 @@ pub fn directory_no(directory: &[u8]) -> u32
     0
 }
 
-// The first of n keys that isn't below `key`: a binary search.
+// The lesser of two lengths.
+fn lesser(a: usize, b: usize) -> usize
+    ensures { λ r. ⌜ r ≡ min a b ⌝ }
+{
+    if a < b {
+        return a;
+    }
+    b
+}
+
+// Whether `at` is below `key`, if `shared` is how many bytes they have in common at the front.
+fn below(at: &[u8], key: &[u8], shared: usize) -> bool
+    ensures { λ r. ⌜ (shared ≡ commonPrefixLen (now (at .entry)) (now (key .entry)) → r ≡ less (now (at .entry)) (now (key .entry))) ⌝ }
+{
+    if shared >= key.len() {
+        return false;
+    }
+    if shared >= at.len() {
+        return true;
+    }
+    at[shared] < key[shared]
+}
+
+// The first of n keys that isn't below `key`: a binary search. The key before `left` and the key at `right` share
+// `left_shared` and `right_shared` bytes with `key`; where keys rise, those between them share at least the lesser of the two.
 pub fn locate_with_key(directory: &[u8], n: usize, key: &[u8]) -> Found
     requires { ⌜ (1 ≤ n) × (n ≤ 65536) ⌝ }
     ensures { λ r. ⌜ FoundIn n r ⌝ }
@@ -134,15 +159,21 @@ pub fn locate_with_key(directory: &[u8], n: usize, key: &[u8]) -> Found
 {
     let mut left: usize = 0;
     let mut right = n;
+    let mut left_shared: usize = 0;
+    let mut right_shared: usize = 0;
     while left < right {
         let mid = left + (right - left) / 2;
         if key_outside(directory, n, mid) {
             return Found::Outside;
         }
-        if keys::lt(self::key(directory, n, mid), key) {
+        let at = self::key(directory, n, mid);
+        let shared = keys::common_prefix_len_from(at, key, lesser(left_shared, right_shared));
+        if below(at, key, shared) {
             left = mid + 1;
+            left_shared = shared;
         } else {
             right = mid;
+            right_shared = shared;
         }
     }
     if left == n {

@@ -1,6 +1,6 @@
 -- Laws of the order of byte strings and of their common prefix.
-use Prim.Native.Nat.{ℕ, suc, _+_, _≤_, _<_}
-use mathlib.Core.Path.{_≡_, refl, sym}
+use Prim.Native.Nat.{ℕ, suc, _+_, _≤_, _<_, min}
+use mathlib.Core.Path.{_≡_, refl, sym, ap}
 use mathlib.Core.Logic.{_⊎_, inl, inr, ⊎-elim}
 use mathlib.Core.List.{List, [], _∷_, _++_}
 use mathlib.Core.Bool.{Bool, true, false}
@@ -192,6 +192,45 @@ pub commonPrefixLen-other : (a b : List ℕ) (i : ℕ) → i < length a → i < 
 unfolding commonPrefixLen
 commonPrefixLen-other a b i h k e =
     rw (drop-cons a i 0 h, drop-cons b i 0 k, ne-eqb (getD a i 0) (getD b i 0) e) (omega arith)
+
+-- with itself: all
+pub commonPrefixLen-same-key : (a : List ℕ) → commonPrefixLen a a ≡ length a
+unfolding commonPrefixLen
+commonPrefixLen-same-key [] = refl
+commonPrefixLen-same-key (x ∷ xs) = simp eqb-same (ap suc (commonPrefixLen-same-key xs))
+
+-- what lies between two byte strings has in common with k at least what both have
+pub commonPrefixLen-between : (a x b k : List ℕ) → a ≼ x → x ≼ b → min (commonPrefixLen a k) (commonPrefixLen b k) ≤ commonPrefixLen x k
+unfolding less commonPrefixLen
+commonPrefixLen-between [] x b k l r = omega arith
+commonPrefixLen-between (p ∷ a) x b [] l r = omega arith
+commonPrefixLen-between (p ∷ a) x [] (z ∷ k) l r = omega arith
+commonPrefixLen-between (p ∷ a) [] (q ∷ b) (z ∷ k) l r = absurd (let z : _≡_ {A = ℕ} 0 1 = cc in omega arith)
+commonPrefixLen-between (p ∷ a) (y ∷ x) (q ∷ b) (z ∷ k) l r =
+    by-test (eqb p z)
+    (λ e. by-test (eqb q z)
+    (λ f. by-test (eqb y z)
+    (λ g.
+    let h : eqb y p ≡ true = eq-eqb y p (omega (arith, eqb-true)) in
+    let j : eqb q y ≡ true = eq-eqb q y (omega (arith, eqb-true)) in
+    let i = commonPrefixLen-between a x b k (simp h at l) (simp j at r) in
+    simp (e, f, g) (omega arith))
+    (λ g.
+    let n = eqb-false y z g in
+    let h : eqb y p ≡ false = ne-eqb y p (omega (arith, eqb-true)) in
+    let j : eqb q y ≡ false = ne-eqb q y (omega (arith, eqb-true)) in
+    let m : ltb y p ≡ false = simp h at l in
+    let o : ltb q y ≡ false = simp j at r in
+    absurd (n (omega (arith, eqb-true, ltb-false)))))
+    (λ f. simp f (omega arith)))
+    (λ e. simp e (omega arith))
+
+-- nearer to k no fewer are in common, from below and from above
+pub commonPrefixLen-below : (a x k : List ℕ) → a ≼ x → x ≼ k → commonPrefixLen a k ≤ commonPrefixLen x k
+commonPrefixLen-below a x k l r = omega (arith, commonPrefixLen-between a x k k l r, commonPrefixLen-same-key k, commonPrefixLen-right a k)
+
+pub commonPrefixLen-above : (x b k : List ℕ) → k ≼ x → x ≼ b → commonPrefixLen b k ≤ commonPrefixLen x k
+commonPrefixLen-above x b k l r = omega (arith, commonPrefixLen-between k x b k l r, commonPrefixLen-same-key k, commonPrefixLen-right b k)
 
 -- ---- the order, by the common prefix and the bytes behind it
 

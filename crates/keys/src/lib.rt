@@ -40,13 +40,15 @@ fn common_of_word(left: &[u8], right: &[u8], at: usize) -> usize
     u64::trailing_zeros(differing) as usize / 8
 }
 
-// The place of the first word that differs, in steps of eight bytes; `last` where none before it does.
-fn first_other_word(left: &[u8], right: &[u8], last: usize) -> usize
+// The place of the first word from `from` on that differs, in steps of eight bytes; `last` where none before it does.
+// Nothing is said where not all of the first `from` bytes are in common.
+fn first_other_word(left: &[u8], right: &[u8], from: usize, last: usize) -> usize
     requires { ⌜ last + 8 ≡ min (length (now left)) (length (now right)) ⌝ }
-    ensures { λ r. ⌜ (r ≤ last) × (r ≤ commonPrefixLen (now (left .entry)) (now (right .entry))) ⌝ }
-    ensures { λ r. ⌜ commonPrefixLen (now (left .entry)) (now (right .entry)) ≤ r + 8 ⌝ }
+    ensures { λ r. ⌜ r ≤ last ⌝ }
+    ensures { λ r. ⌜ (from ≤ commonPrefixLen (now (left .entry)) (now (right .entry)) → r ≤ commonPrefixLen (now (left .entry)) (now (right .entry))) ⌝ }
+    ensures { λ r. ⌜ (from ≤ commonPrefixLen (now (left .entry)) (now (right .entry)) → commonPrefixLen (now (left .entry)) (now (right .entry)) ≤ r + 8) ⌝ }
 {
-    let mut at = 0;
+    let mut at = from;
     while at < last {
         if serialize::deserialize_u64(left, at) != serialize::deserialize_u64(right, at) {
             return at;
@@ -56,16 +58,23 @@ fn first_other_word(left: &[u8], right: &[u8], last: usize) -> usize
     last
 }
 
-// How many bytes the keys have in common at the front. The last word may overlap the one before it.
-pub fn common_prefix_len(left: &[u8], right: &[u8]) -> usize
-    ensures { λ r. ⌜ r ≡ commonPrefixLen (now (left .entry)) (now (right .entry)) ⌝ }
+// How many bytes the keys have in common at the front, if the first `from` are. The last word may overlap the one before it.
+pub fn common_prefix_len_from(left: &[u8], right: &[u8], from: usize) -> usize
+    ensures { λ r. ⌜ (from ≤ commonPrefixLen (now (left .entry)) (now (right .entry)) → r ≡ commonPrefixLen (now (left .entry)) (now (right .entry))) ⌝ }
 {
     let short = shorter(left, right);
     if short < 8 {
         return common_bytes(left, right, short);
     }
-    let at = first_other_word(left, right, short - 8);
+    let at = first_other_word(left, right, from, short - 8);
     at + common_of_word(left, right, at)
+}
+
+// How many bytes the keys have in common at the front.
+pub fn common_prefix_len(left: &[u8], right: &[u8]) -> usize
+    ensures { λ r. ⌜ r ≡ commonPrefixLen (now (left .entry)) (now (right .entry)) ⌝ }
+{
+    common_prefix_len_from(left, right, 0)
 }
 
 // The common prefix, as the front of the first key.

@@ -1,45 +1,14 @@
--- `keys::common_prefix_len` meets its contract: the common prefix ends within the word found.
+-- `keys::common_prefix_len` meets its contract: no byte is passed over.
 use borrow.Author.Needs.{needs}
 use native.Mathlib.Omega.{arith}
-use Rattle.keys.proofs.Order.{commonPrefixLen-left, commonPrefixLen-right}
-use Rattle.keys.proofs.Words.{commonPrefixLen-behind}
 use Rattle.keys.proofs.common_prefix_len.Statement.{statement}
 use Rattle.keys.proofs.common_prefix_len.Tie as tie
 
-shorter-requires : tie.Need-shorter-requires
-shorter-requires c κs = search needs
-
-common-bytes-requires : tie.Need-common-bytes-requires
-common-bytes-requires c κs = search needs
+common-prefix-len-from-requires : tie.Need-common-prefix-len-from-requires
+common-prefix-len-from-requires c κs = search needs
 
 returns : tie.Need-returns
-returns c =
-    let a = c .before .before .before .before .before .args in
-    omega (arith, commonPrefixLen-left (a .left .now) (a .right .now), commonPrefixLen-right (a .left .now) (a .right .now))
-
-first-other-word-requires : tie.Need-first-other-word-requires
-first-other-word-requires c κs = search needs
-
-common-of-word-requires : tie.Need-common-of-word-requires
-common-of-word-requires c κs = search needs
-
-add-result : tie.Need-add-result
-add-result c = search needs
-
-returns-2 : tie.Need-returns-2
-returns-2 c =
-    let a = c .before .before .before .before .before .before .args in
-    let w = c .before .first-other-word in
-    omega (arith, commonPrefixLen-behind (w .result) (a .left .now) (a .right .now) (w .ensures .0 .1))
+returns c = c .common-prefix-len-from .ensures (omega arith)
 
 pub common-prefix-len-spec : {M : Type 1} → statement M
-common-prefix-len-spec =
-    tie.close
-    (tie.spec
-    shorter-requires
-    common-bytes-requires
-    returns
-    first-other-word-requires
-    common-of-word-requires
-    add-result
-    returns-2)
+common-prefix-len-spec = tie.close (tie.spec common-prefix-len-from-requires returns)

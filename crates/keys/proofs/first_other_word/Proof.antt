@@ -10,13 +10,13 @@ use Rattle.keys.proofs.first_other_word.Statement.{statement}
 use Rattle.keys.proofs.first_other_word.Tie as tie
 
 abbrev Inv-loop : tie.InvT-loop
-Inv-loop left right last at₀ at = at ≤ commonPrefixLen left right
+Inv-loop left right from last at₀ at = from ≤ commonPrefixLen left right → at ≤ commonPrefixLen left right
 
 abbrev μ-loop : tie.MeasureT-loop
-μ-loop left right last at₀ at = last - at
+μ-loop left right from last at₀ at = last - at
 
 loop-holds : tie.Need-loop-holds Inv-loop μ-loop
-loop-holds c = search needs
+loop-holds c = λ h. h
 
 deserialize-u64-requires : tie.Need-deserialize-u64-requires Inv-loop μ-loop
 deserialize-u64-requires c κs = search needs
@@ -30,11 +30,17 @@ returns c =
     let l = r .before .before in
     let k = l .before in
     let s = k .before .before in
-    let a = s .args in
-    let e =
-    other-word (a .left .now) (a .right .now) (λ i. k .before .shared-slice-known .given i .fits) (λ i. k .shared-slice-known2 .given i .fits) (l .loop .at) (omega arith) (omega arith) (l .loop .inv)
-    (λ q. c .if1 .taken (r .deserialize-u64 .ensures ∙ q ∙ sym (c .before .deserialize-u642 .ensures))) in
-    ((omega arith, omega arith), omega arith)
+    let a = s .args in (
+      omega arith,
+      (
+        l .loop .inv,
+        λ h.
+            let e =
+            other-word (a .left .now) (a .right .now) (λ i. k .before .shared-slice-known .given i .fits) (λ i. k .shared-slice-known2 .given i .fits) (l .loop .at) (omega arith) (omega arith) (l .loop .inv h)
+            (λ q. c .if1 .taken (r .deserialize-u64 .ensures ∙ q ∙ sym (c .before .deserialize-u642 .ensures))) in
+            omega arith,
+      ),
+    )
 
 add-at : tie.Need-add-at Inv-loop μ-loop
 add-at c = search needs
@@ -49,13 +55,20 @@ loop-again c =
     let k = l .before in
     let s = k .before .before in
     let a = s .args in
-    same-word (a .left .now) (a .right .now) (λ i. k .before .shared-slice-known .given i .fits) (λ i. k .shared-slice-known2 .given i .fits) (l .loop .at) (omega arith) (omega arith) (l .loop .inv)
+    λ h.
+    same-word (a .left .now) (a .right .now) (λ i. k .before .shared-slice-known .given i .fits) (λ i. k .shared-slice-known2 .given i .fits) (l .loop .at) (omega arith) (omega arith) (l .loop .inv h)
     (sym (r .deserialize-u64 .ensures) ∙ c .if1 .left ∙ c .before .deserialize-u642 .ensures)
 
 returns-2 : tie.Need-returns-2 Inv-loop μ-loop
 returns-2 c =
-    let a = c .before .before .before .before .args in
-    ((omega arith, omega arith), omega (arith, commonPrefixLen-left (a .left .now) (a .right .now), commonPrefixLen-right (a .left .now) (a .right .now)))
+    let l = c .before in
+    let a = l .before .before .before .args in (
+      omega arith,
+      (
+        λ h. let i = l .loop .inv h in omega arith,
+        λ h. omega (arith, commonPrefixLen-left (a .left .now) (a .right .now), commonPrefixLen-right (a .left .now) (a .right .now)),
+      ),
+    )
 
 pub first-other-word-spec : {M : Type 1} → statement M
 first-other-word-spec =

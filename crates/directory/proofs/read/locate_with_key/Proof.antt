@@ -1,30 +1,61 @@
 -- `directory::read::locate_with_key` meets its contract: of sorted keys those before left are below the key, and right's isn't or right is behind the end.
+-- Keys from left on that aren't above the key share left's bytes with it, and keys before right that aren't below it share right's.
 use borrow.Author.Needs.{needs}
 use mathlib.Core.Path.{_≡_, sym, ap, _∙_}
 use mathlib.Core.Bool.{Bool, true≢false}
 use mathlib.Core.List.{List}
-use Prim.Native.Nat.{ℕ, _+_, _-_, _≤_, _<_}
+use Prim.Native.Nat.{ℕ, _+_, _-_, _/_, _≤_, _<_, min}
 use native.Mathlib.Omega.{arith}
-use Rattle.keys.specs.Order.{less, _≺_, _≼_}
+use Rattle.keys.specs.Order.{less, _≺_, _≼_, commonPrefixLen}
+use Rattle.keys.proofs.Order.{by-test, less-asym}
 use Rattle.directory.specs.Read.{keyOf, Sorted, First, FoundIn, FoundAs}
-use Rattle.directory.proofs.Reader.{all-below}
+use Rattle.directory.proofs.Reader.{all-below, shared-below, shared-above}
 use Rattle.directory.proofs.read.locate_with_key.Statement.{statement}
 use Rattle.directory.proofs.read.locate_with_key.Tie as tie
 
+abbrev middle : ℕ → ℕ → ℕ
+middle left right = left + (right - left) / 2
+
+abbrev SharedFrom : List ℕ → ℕ → List ℕ → ℕ → ℕ → Type 0
+SharedFrom d n key left m = (i : ℕ) → left ≤ i → i < n → keyOf d n i ≼ key → m ≤ commonPrefixLen (keyOf d n i) key
+
+abbrev SharedBefore : List ℕ → ℕ → List ℕ → ℕ → ℕ → Type 0
+SharedBefore d n key right m = (i : ℕ) → i < right → key ≼ keyOf d n i → m ≤ commonPrefixLen (keyOf d n i) key
+
 abbrev Inv-loop : tie.InvT-loop
-Inv-loop directory n key left₀ right₀ left right =
+Inv-loop directory n key left₀ right₀ left-shared₀ right-shared₀ left right left-shared right-shared =
     (left ≤ right) × (right ≤ n) × (Sorted directory n → (i : ℕ) → i < left → keyOf directory n i ≺ key)
     × (Sorted directory n → right < n → key ≼ keyOf directory n right)
+    × (Sorted directory n → SharedFrom directory n key left left-shared)
+    × (Sorted directory n → SharedBefore directory n key right right-shared)
 
 abbrev μ-loop : tie.MeasureT-loop
-μ-loop directory n key left₀ right₀ left right = right - left
+μ-loop directory n key left₀ right₀ left-shared₀ right-shared₀ left right left-shared right-shared = right - left
 
--- the test of a part of the bytes is the test of the key
-tested : {x k : List ℕ} {t b : Bool} (key : List ℕ) → x ≡ k → t ≡ less x key → t ≡ b → less k key ≡ b
-tested key e p q = ap (λ y. less y key) (sym e) ∙ sym p ∙ q
+-- a key between the two shares the lesser of the two lengths
+lesser-shared : (x key : List ℕ) (low high : ℕ) → (x ≼ key → low ≤ commonPrefixLen x key) → (key ≼ x → high ≤ commonPrefixLen x key) → min low high ≤ commonPrefixLen x key
+lesser-shared x key low high f g =
+    by-test (less key x)
+    (λ e. let h = g (less-asym key x e) in omega arith)
+    (λ e. let h = f e in omega arith)
+
+-- what is counted and tested of a part x of the bytes holds of the key k that it is
+module _ {x k : List ℕ} (key : List ℕ) (e : x ≡ k) where
+  counted : (skip shared : ℕ) → skip ≤ commonPrefixLen k key → (skip ≤ commonPrefixLen x key → shared ≡ commonPrefixLen x key) → shared ≡ commonPrefixLen k key
+  counted skip shared h p = rw e at p h
+
+  tested : {t b : Bool} (shared : ℕ) → shared ≡ commonPrefixLen k key → (shared ≡ commonPrefixLen x key → t ≡ less x key) → t ≡ b → less k key ≡ b
+  tested shared h p q = sym (rw e at p h) ∙ q
 
 loop-holds : tie.Need-loop-holds Inv-loop μ-loop
-loop-holds c = (omega arith, omega arith, λ sorted i h. absurd (let z : ⊥ = omega arith in z), λ sorted h. absurd (let z : ⊥ = omega arith in z))
+loop-holds c = (
+  omega arith,
+  omega arith,
+  λ sorted i h. absurd (let z : ⊥ = omega arith in z),
+  λ sorted h. absurd (let z : ⊥ = omega arith in z),
+  λ sorted i h l r. omega arith,
+  λ sorted i h r. omega arith,
+)
 
 sub-mid : tie.Need-sub-mid Inv-loop μ-loop
 sub-mid c = search needs
@@ -45,8 +76,14 @@ returns c =
 key-requires : tie.Need-key-requires Inv-loop μ-loop
 key-requires c κs = (search needs, search needs, sym (c .before .key-outside .ensures) ∙ c .if1 .left)
 
-lt-requires : tie.Need-lt-requires Inv-loop μ-loop
-lt-requires c κs = search needs
+lesser-requires : tie.Need-lesser-requires Inv-loop μ-loop
+lesser-requires c κs = search needs
+
+common-prefix-len-from-requires : tie.Need-common-prefix-len-from-requires Inv-loop μ-loop
+common-prefix-len-from-requires c κs = search needs
+
+below-requires : tie.Need-below-requires Inv-loop μ-loop
+below-requires c κs = search needs
 
 add-left : tie.Need-add-left Inv-loop μ-loop
 add-left c = search needs
@@ -54,16 +91,34 @@ add-left c = search needs
 loop-less : tie.Need-loop-less Inv-loop μ-loop
 loop-less c = search needs
 
+-- where keys rise, what the code counts is what the key in the middle shares
+shared-is : (c : tie.After-common-prefix-len-from Inv-loop μ-loop) →
+    let l = c .before .before .before .before .before .before in
+    let a = l .before .before .before .args in
+    Sorted (a .directory .now) (a .n)
+    → c .common-prefix-len-from .result ≡ commonPrefixLen (keyOf (a .directory .now) (a .n) (middle (l .loop .left) (l .loop .right))) (a .key .now)
+shared-is c sorted =
+    let k = c .before .before in
+    let l = k .before .before .before .before in
+    let a = l .before .before .before .args in
+    let mid = middle (l .loop .left) (l .loop .right) in
+    let s =
+    lesser-shared (keyOf (a .directory .now) (a .n) mid) (a .key .now) (l .loop .left-shared) (l .loop .right-shared) (l .loop .inv .4 sorted mid (omega arith) (omega arith)) (l .loop .inv .5 sorted mid (omega arith)) in
+    counted (a .key .now) (k .key .ensures) (c .before .lesser .result) (c .common-prefix-len-from .result) (omega arith) (c .common-prefix-len-from .ensures)
+
 loop-again : tie.Need-loop-again Inv-loop μ-loop
 loop-again c =
-    let key = c .before .before in
-    let l = key .before .before .before .before in
-    let s = l .before .before .before in
-    let a = s .args in (
+    let f = c .before .before in
+    let k = f .before .before in
+    let l = k .before .before .before .before in
+    let a = l .before .before .before .args in
+    let mid = middle (l .loop .left) (l .loop .right) in (
       omega arith,
       l .loop .inv .1,
-      λ sorted. all-below (a .directory .now) (a .n) sorted _ (a .key .now) (omega arith) (tested (a .key .now) (key .key .ensures) (c .before .lt .ensures) (c .if2 .taken)),
+      λ sorted. all-below (a .directory .now) (a .n) sorted mid (a .key .now) (omega arith) (tested (a .key .now) (k .key .ensures) (f .common-prefix-len-from .result) (shared-is f sorted) (c .before .below .ensures) (c .if2 .taken)),
       l .loop .inv .3,
+      λ sorted i h g r. rw (shared-is f sorted) (shared-below (a .directory .now) (a .n) sorted mid (a .key .now) i h g r),
+      l .loop .inv .5,
     )
 
 loop-less-2 : tie.Need-loop-less-2 Inv-loop μ-loop
@@ -71,14 +126,17 @@ loop-less-2 c = search needs
 
 loop-again-2 : tie.Need-loop-again-2 Inv-loop μ-loop
 loop-again-2 c =
-    let key = c .before .before in
-    let l = key .before .before .before .before in
-    let s = l .before .before .before in
-    let a = s .args in (
+    let f = c .before .before in
+    let k = f .before .before in
+    let l = k .before .before .before .before in
+    let a = l .before .before .before .args in
+    let mid = middle (l .loop .left) (l .loop .right) in (
       omega arith,
       omega arith,
       l .loop .inv .2,
-      λ sorted h. tested (a .key .now) (key .key .ensures) (c .before .lt .ensures) (c .if2 .left),
+      λ sorted h. tested (a .key .now) (k .key .ensures) (f .common-prefix-len-from .result) (shared-is f sorted) (c .before .below .ensures) (c .if2 .left),
+      l .loop .inv .4,
+      λ sorted i h r. rw (shared-is f sorted) (shared-above (a .directory .now) (a .n) sorted mid (a .key .now) (omega arith) i h r),
     )
 
 returns-2 : tie.Need-returns-2 Inv-loop μ-loop
@@ -114,7 +172,9 @@ locate-with-key-spec =
     key-outside-requires
     returns
     key-requires
-    lt-requires
+    lesser-requires
+    common-prefix-len-from-requires
+    below-requires
     add-left
     loop-less
     loop-again
