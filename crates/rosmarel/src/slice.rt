@@ -1,7 +1,7 @@
 // The store of one lent slice of blocks.
 ghost use mathlib.Core.Path.{_≡_};
 ghost use Rattle.store_slice.specs.Slice.{sliceStored, sliceOut};
-use group::BlockAddr;
+ghost use Rattle.store_slice.specs.Numbers.{recordsOf};
 use store_slice::Stored;
 
 // Hands out the length of an answer, and returns its number.
@@ -12,10 +12,10 @@ fn answer(stored: Stored, len: &mut u64) -> u32
     stored.no
 }
 
-// Writes the store of the blocks from the front of `out` on.
+// Writes the store of the blocks from the front of `out` on. A block is three numbers: start, end, first ordinal.
 #[no_mangle]
-pub extern "C" fn rosmarel_store(blocks: &[BlockAddr], out: &mut [u8], len: &mut u64) -> u32
-    ensures { λ r. ⌜ (r ≡ sliceStored (now (blocks .entry)) (now (out .entry)) .no) × (now (out .exit) ≡ sliceOut (now (blocks .entry)) (now (out .entry))) × (now (len .exit) ≡ sliceStored (now (blocks .entry)) (now (out .entry)) .len) ⌝ }
+pub extern "C" fn rosmarel_store(blocks: &[[u64; 3]], out: &mut [u8], len: &mut u64) -> u32
+    ensures { λ r. ⌜ (r ≡ sliceStored (recordsOf (now (blocks .entry))) (now (out .entry)) .no) × (now (out .exit) ≡ sliceOut (recordsOf (now (blocks .entry))) (now (out .entry))) × (now (len .exit) ≡ sliceStored (recordsOf (now (blocks .entry))) (now (out .entry)) .len) ⌝ }
 {
-    answer(store_slice::serialize(blocks, out), len)
+    answer(store_slice::groups::serialize_numbers(blocks, out), len)
 }

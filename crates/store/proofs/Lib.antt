@@ -1,4 +1,5 @@
 pub mod Groups
+pub mod Left
 pub mod Lookup
 pub mod Rows
 pub mod Passed

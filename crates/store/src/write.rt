@@ -23,7 +23,7 @@ pub fn group_count(n: usize, group_len: usize) -> usize
 }
 
 // How many blocks the group from block `first` on has.
-fn blocks_from(first: usize, n: usize, group_len: usize) -> usize
+pub fn blocks_from(first: usize, n: usize, group_len: usize) -> usize
     requires { ⌜ first ≤ n ⌝ }
     ensures { λ r. ⌜ r ≡ min «group_len» (n - first) ⌝ }
 {
@@ -56,7 +56,7 @@ pub fn store_len(area: &[u64], stride: usize, n: usize, group_len: usize) -> usi
 }
 
 // Writes the record of a group at `meta_at` and its bits at `at`. Returns how many bytes the bits take.
-fn write_group(
+pub fn write_group(
     area: &[u64],
     stride: usize,
     first: usize,

@@ -1,12 +1,13 @@
 -- What a slice's store answers and leaves: for records that hit a row, and for others as the store's writer (row 9).
-use mathlib.Core.Path.{_≡_, refl, ap}
+use mathlib.Core.Path.{_≡_, refl, ap, _∙_}
 use mathlib.Core.Bool.{Bool, true, false, cond}
 use mathlib.Core.List.{List}
-use Prim.Native.Nat.{ℕ, zero, suc}
+use Prim.Native.Nat.{ℕ, zero, suc, _≤_, _<_}
 use native.Mathlib.Omega.{arith}
 use lib.Dec.{ltb}
 use lib.ListN.{length}
 use lib.Seq.{sets}
+use borrow.Author.Tests.{lt-ltb, le-ltb}
 use Rattle.slope.specs.Slope.{bestSlope}
 use Rattle.group.specs.declared.BlockAddr.{BlockAddr}
 use Rattle.store.specs.declared.Serialized.the-variants.{Len, Short}
@@ -48,6 +49,19 @@ module _ (bs : List BlockAddr) (out : List ℕ) (none : recordsNo bs ≡ 0) wher
   pub stored-out : storeOut out bytes ≡ sliceOut bs out
   unfolding storeOut
   stored-out = rw only-nine (out-by (ltb (length out) (length bytes)))
+
+  -- the same by the lengths alone
+  pub short-answer : length out < length bytes → (record { no = 9; len = 0 } ≡ sliceStored bs out) × (out ≡ sliceOut bs out)
+  unfolding storedStep outStep
+  short-answer h =
+      let nine : sliceNo bs (length out) ≡ 9 = only-nine ∙ rw (lt-ltb (length out) (length bytes) h) refl in
+      (rw nine refl, rw nine refl)
+
+  pub whole-answer : length bytes ≤ length out → (record { no = 0; len = length bytes } ≡ sliceStored bs out) × (sets out 0 bytes ≡ sliceOut bs out)
+  unfolding storedStep outStep
+  whole-answer h =
+      let none-hit : sliceNo bs (length out) ≡ 0 = only-nine ∙ rw (le-ltb (length out) (length bytes) h) refl in
+      (rw none-hit refl, rw none-hit refl)
 
 -- records that hit a row
 hit-no : (bs : List BlockAddr) (room k : ℕ) → recordsNo bs ≡ suc k → sliceNo bs room ≡ suc k

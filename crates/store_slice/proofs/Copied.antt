@@ -1,6 +1,6 @@
 -- Records that were copied out to an area are its blocks.
 use mathlib.Core.Path.{_≡_, refl, sym, _∙_, ap}
-use mathlib.Core.List.{List, [], _∷_, _++_, append-assoc}
+use mathlib.Core.List.{List, [], _∷_, _++_, append-assoc, append-nil}
 use Prim.Native.Nat.{ℕ, suc, _+_, _*_, _≤_, _<_}
 use native.Mathlib.Numerals.{add-one}
 use native.Mathlib.Omega.{arith}
@@ -10,7 +10,7 @@ use Rattle.group.specs.declared.BlockAddr.{BlockAddr}
 use Rattle.group.specs.Blocks.{blockOf, blockAt, blocksAt}
 use Rattle.store_slice.specs.Records.{numbersOf}
 
-length-numbersOf : (bs : List BlockAddr) → length (numbersOf bs) ≡ 3 * length bs
+pub length-numbersOf : (bs : List BlockAddr) → length (numbersOf bs) ≡ 3 * length bs
 unfolding numbersOf
 length-numbersOf [] = refl
 length-numbersOf (b ∷ bs) = omega (arith, length-numbersOf bs)
@@ -57,3 +57,7 @@ blocks-behind front rest (b ∷ bs) i e =
 
 pub copied : (zs : List ℕ) (bs : List BlockAddr) → 3 * length bs ≤ length zs → blocksAt (sets zs 0 (numbersOf bs)) 3 0 (length bs) ≡ bs
 copied zs bs h = rw (sets-eq (numbersOf bs) zs 0 (omega (arith, length-numbersOf bs))) (blocks-behind [] (drop (0 + length (numbersOf bs)) zs) bs 0 refl)
+
+-- the numbers alone are an area of them
+pub numbers-blocks : (bs : List BlockAddr) → blocksAt (numbersOf bs) 3 0 (length bs) ≡ bs
+numbers-blocks bs = rw (append-nil (numbersOf bs)) at (blocks-behind [] [] bs 0 refl)

@@ -1,2 +1,3 @@
 pub mod Slice
 pub mod Records
+pub mod Numbers

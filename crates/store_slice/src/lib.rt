@@ -5,6 +5,7 @@ ghost use lib.ListN.{length};
 ghost use Rattle.store_slice.specs.Slice.{recordsNo, sliceStored, sliceOut};
 
 mod area;
+pub mod groups;
 mod rows;
 
 use group::BlockAddr;

@@ -17,7 +17,7 @@ pub struct Seen {
 }
 
 impl Seen {
-    fn none() -> Seen
+    pub fn none() -> Seen
         ensures { λ r. ⌜ r ≡ seenNone ⌝ }
     {
         let last = BlockAddr {
@@ -35,7 +35,7 @@ impl Seen {
     }
 
     // One record more.
-    fn with(self, block: BlockAddr) -> Seen
+    pub fn with(self, block: BlockAddr) -> Seen
         ensures { λ r. ⌜ r ≡ seenWith self block ⌝ }
     {
         let before = self.last;
@@ -49,7 +49,7 @@ impl Seen {
     }
 
     // The first row that these n records hit, or 0.
-    fn no(self, n: usize) -> u32
+    pub fn no(self, n: usize) -> u32
         ensures { λ r. ⌜ r ≡ seenNo self n ⌝ }
     {
         if self.numbers_bad {

@@ -1,0 +1,11 @@
+-- Records that are given as three numbers each: start, end, first ordinal.
+use Prim.Native.Nat.{ℕ}
+use mathlib.Core.List.{List, map}
+use lib.ListN.{getD}
+use Rattle.group.specs.declared.BlockAddr.{BlockAddr}
+
+abbrev pub recordOf : List ℕ → BlockAddr
+recordOf numbers = record { start = getD numbers 0 0; end = getD numbers 1 0; «first_ordinal» = getD numbers 2 0 }
+
+abbrev pub recordsOf : List (List ℕ) → List BlockAddr
+recordsOf blocks = map recordOf blocks
