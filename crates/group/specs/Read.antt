@@ -20,8 +20,8 @@ groupBad m count len =
     || ltb len (m .offset + bytesOf (groupBits (m .«range_start_nbits») (m .«first_ordinal_nbits») (m .«block_len»)))
 
 -- row 16 for a group's first values: one is outside the range
-abbrev pub firstBad : BlockAddrBlockMetadata → Bool
-firstBad m = leb limit (m .«range_start») || leb limit (m .«first_ordinal»)
+abbrev pub firstValuesBad : BlockAddrBlockMetadata → Bool
+firstValuesBad m = leb limit (m .«range_start») || leb limit (m .«first_ordinal»)
 
 -- a value read: first value + field + slope × i - 2^(width-1), over the whole numbers; one below 0 stands as the limit, which is outside too
 unfoldable pub valueRead : ℕ → ℕ → ℕ → ℕ → ℕ → ℕ

@@ -5,7 +5,7 @@ use mathlib.Core.Bool.{Bool, false, _||_, cond}
 use lib.ListN.{length}
 use Rattle.group.specs.declared.BlockAddr.{BlockAddr}
 use Rattle.group.specs.Rows.{numbersBad, joinBad, ordinalBad}
-use Rattle.group.specs.Read.{groupBad, firstBad}
+use Rattle.group.specs.Read.{groupBad, firstValuesBad}
 use Rattle.store.specs.Store.{groupCount}
 use Rattle.store.specs.Read.{groupMeta, groupLen, storeBlock}
 
@@ -17,7 +17,7 @@ groupsBad L recs addr n (suc k) = groupsBad L recs addr n k || groupBad (groupMe
 -- row 16: a first value of one of the first k groups is outside the range
 unfoldable pub firstsBad : List ℕ → ℕ → Bool
 firstsBad recs zero = false
-firstsBad recs (suc k) = firstsBad recs k || firstBad (groupMeta recs k)
+firstsBad recs (suc k) = firstsBad recs k || firstValuesBad (groupMeta recs k)
 
 -- row 16: one of the first m blocks breaks 3, which a value read outside the range does, or 4 or 5 behind the one before it
 unfoldable pub blocksBad : (ℕ → BlockAddr) → ℕ → Bool

@@ -10,7 +10,7 @@ use Rattle.group.specs.declared.BlockAddrBlockMetadata.{BlockAddrBlockMetadata}
 use Rattle.group.specs.Legal.{NumbersOk, Legal}
 use Rattle.group.specs.Rows.{numbersBad}
 use Rattle.group.specs.Meta.{metaAt}
-use Rattle.group.specs.Read.{groupBad, firstBad, blockRead}
+use Rattle.group.specs.Read.{groupBad, firstValuesBad, blockRead}
 use Rattle.store.specs.Store.{groupCount}
 use Rattle.store.specs.declared.Got.{Got}
 use Rattle.store.specs.declared.Got.the-variants.{Block, Broken}
@@ -32,7 +32,7 @@ storeBlock L recs addr i =
 
 -- a group that breaks row 15, or whose first values are outside row 16's range
 unfoldable pub metaBad : ℕ → List ℕ → List ℕ → ℕ → ℕ → Bool
-metaBad L recs addr n g = groupBad (groupMeta recs g) (groupLen L n g) (length addr) || firstBad (groupMeta recs g)
+metaBad L recs addr n g = groupBad (groupMeta recs g) (groupLen L n g) (length addr) || firstValuesBad (groupMeta recs g)
 
 -- block i as it is read; numbers that break row 3 stand for a group that can't be read
 unfoldable pub blockOr : ℕ → List ℕ → List ℕ → ℕ → ℕ → BlockAddr
