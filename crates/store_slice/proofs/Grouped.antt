@@ -18,12 +18,12 @@ use Rattle.store.proofs.Groups.{take-blocksAt, drop-blocksAt, group-area}
 use Rattle.store.proofs.Left.{bits, Left, record-room, bits-room, left-turn}
 use Rattle.store.proofs.Stored.{length-addrs-turn, length-storeBytes, store-addrs-le}
 use Rattle.store_slice.specs.declared.rows.Seen.{Seen}
-use Rattle.store_slice.specs.Records.{numbersOf, seenWith, seenAll, seenNone, seenNo}
+use Rattle.store_slice.specs.Records.{numbersOf, seenWith, seenNone, seenNo}
 use Rattle.store_slice.specs.Numbers.{recordOf, recordsOf}
 use Rattle.store_slice.specs.Slice.{recordsNo}
 use Rattle.store_slice.proofs.Copied.{put, put-next, put-none, copied, length-numbersOf, numbers-blocks}
 use Rattle.store_slice.proofs.Kept.{area-kept}
-use Rattle.store_slice.proofs.Scan.{seen-next, seen-last, seen-no}
+use Rattle.store_slice.proofs.Scan.{seenAll, seen-next, seen-last, seen-no}
 
 record-at : (xs : List (List ℕ)) (i : ℕ) → blockOf (recordsOf xs) i ≡ recordOf (getD xs i [])
 record-at xs i = List·getD-map recordOf xs i []

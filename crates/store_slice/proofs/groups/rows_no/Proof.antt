@@ -5,8 +5,9 @@ use mathlib.Core.Path.{_≡_, sym, ap}
 use native.Mathlib.Omega.{arith}
 use lib.ListN.{length, drop}
 use Rattle.store_slice.specs.declared.rows.Seen.{Seen}
-use Rattle.store_slice.specs.Records.{seenAll, seenNone}
+use Rattle.store_slice.specs.Records.{seenNone}
 use Rattle.store_slice.specs.Numbers.{recordsOf}
+use Rattle.store_slice.proofs.Scan.{seenAll}
 use Rattle.store_slice.proofs.Grouped.{rows-next, rows-all}
 use Rattle.store_slice.proofs.groups.rows_no.Statement.{statement}
 use Rattle.store_slice.proofs.groups.rows_no.Tie as tie
