@@ -2,11 +2,12 @@
 use mathlib.Core.Path.{_≡_, sym, ap, _∙_, subst}
 use mathlib.Core.List.{List}
 use mathlib.Core.Logic.{⊎-elim}
-use Prim.Native.Nat.{ℕ, zero, suc, _+_, _-_, _*_, _/_, _%_, _^_, _<_}
-use native.Mathlib.Nat.{pow-suc, le-refl, zero-mul}
+use Prim.Native.Nat.{ℕ, zero, suc, _+_, _-_, _*_, _/_, _%_, _^_, _≤_, _<_}
+use native.Mathlib.Nat.{pow-suc, le-refl, zero-mul, lt-of-lt-of-le}
 use native.Mathlib.Numerals.{add-one}
 use native.Mathlib.Omega.{arith}
 use lib.Dec.{lit<}
+use lib.Pow.{pow-mono}
 use lib.Bits.{bitAnd, bitOr, or-zero-r}
 use lib.ListN.{length, getD, set}
 use lib.Seq.{getD-set-same, getD-set-other}
@@ -52,6 +53,20 @@ module _ {f : ℕ → ℕ} {n w : ℕ} (i : Filled f n w) where
   -- `w | (((v >> s) & 1) << n)`
   pub filled-bit : (v s : ℕ) → bit v s ≡ f n → n < 64 → Filled f (n + 1) (bitOr w ((bitAnd (v / 2 ^ s) 1 * 2 ^ n) % 2 ^ 64))
   filled-bit v s e l = rw bit-test (filled-more (bit v s) e (bit-lt v s) l)
+
+-- a bit put below the others
+pub filled-below : (f : ℕ → ℕ) (j n w x : ℕ) → Filled (λ k. f (j + 1 + k)) n w → x ≡ f j → x < 2 → Filled (λ k. f (j + k)) (n + 1) (w * 2 + x)
+unfolding bit
+filled-below f j n w x i e h = record { small = rw (add-one, pow-suc) (omega (arith, i .small)); at = go }
+  where
+    go : (k : ℕ) → k < n + 1 → bit (w * 2 + x) k ≡ f (j + k)
+    go zero l = let q : (w * 2 + x) % 2 ≡ x = omega arith in q ∙ e ∙ ap f (omega arith)
+    go (suc k) l =
+        let q : (w * 2 + x) / 2 ≡ w = omega arith in
+        ap (λ (v : ℕ). bit v k) q ∙ i .at k (omega arith) ∙ ap f (omega arith)
+
+pub filled-fits : {f : ℕ → ℕ} {n w : ℕ} → Filled f n w → n < 64 → w < 2 ^ 63
+filled-fits {f} {n} {w} i h = let l : n ≤ 63 = omega arith in lt-of-lt-of-le (i .small) (pow-mono l)
 
 -- ---- the bits of w are f 0 to f (n - 1) and no others
 pub record Holds (f : ℕ → ℕ) (n w : ℕ) : Type 0 where

@@ -1,7 +1,7 @@
 -- The number of a refused table, and what a table that is taken has: `table-ok` and `ok-table`.
 use mathlib.Core.Path.{_≡_, refl, sym, ap, subst}
 use mathlib.Core.List.{List, [], _∷_}
-use mathlib.Core.Bool.{Bool, true, false, not, _||_, cond, false≢true}
+use mathlib.Core.Bool.{Bool, true, false, not, _||_, cond, false≢true, or-assoc, or-false}
 use Prim.Native.Nat.{ℕ, zero, suc, _+_, _-_, _*_, _/_, _%_, _≤_, _<_, min}
 use native.Mathlib.Nat.{le-of-eq}
 use native.Mathlib.Numerals.{add-one}
@@ -14,17 +14,13 @@ use Rattle.automaton.specs.Table.{states, flag, anyFrom, tableNo, WellFo
 
 -- ---- the loop over a list
 module _ (bound : ℕ) (l : List ℕ) (i : ℕ) where
-  pub any-stop : i < length l → bound ≤ getD l i 0 → anyFrom bound (drop i l) ≡ true
+  pub any-step : (found : Bool) → i < length l → found || anyFrom bound (drop i l) ≡ (found || leb bound (getD l i 0)) || anyFrom bound (drop (i + 1) l)
   unfolding anyFrom
-  any-stop h b = rw (drop-cons l i 0, le-leb bound (getD l i 0) b)
+  any-step found h = rw (add-one, drop-cons l i 0, or-assoc found (leb bound (getD l i 0)) (anyFrom bound (drop (suc i) l)))
 
-  pub any-next : i < length l → getD l i 0 < bound → anyFrom bound (drop i l) ≡ anyFrom bound (drop (i + 1) l)
+  pub any-end : (found : Bool) → length l ≤ i → found || anyFrom bound (drop i l) ≡ found
   unfolding anyFrom
-  any-next h b = rw (add-one, drop-cons l i 0, lt-leb bound (getD l i 0) b)
-
-  pub any-end : length l ≤ i → anyFrom bound (drop i l) ≡ false
-  unfolding anyFrom
-  any-end h = ap (anyFrom bound) (drop-of-length-le l h)
+  any-end found h = rw (drop-of-length-le l h, or-false found)
 
 or-left : (a b : Bool) → a || b ≡ false → a ≡ false
 or-left true b e = e

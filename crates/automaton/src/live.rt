@@ -10,16 +10,16 @@ ghost use Rattle.automaton.specs.Table.{WellFormed, states};
 ghost use Rattle.automaton.specs.Words.{Reach};
 ghost use Rattle.automaton.specs.Live.{Live, LiveByte, First, End, Firsts, Ends};
 
-// Of the 64 next states from `at` on, the word of those that can match.
+// Of the 64 next states from `at` on, the word of those that can match: the last one's bit first.
 fn live_word(table: &[u8], reach: u64, at: usize) -> u64
     requires { ⌜ (at + 64 ≤ length (now table)) × ((j : ℕ) → j < 64 → getD (now table) (at + j) 0 < 64) ⌝ }
     ensures { λ r. ⌜ ((j : ℕ) → j < 64 → bit r j ≡ bit reach (getD (now (table .entry)) (at + j) 0)) ⌝ }
 {
     let mut word: u64 = 0;
-    let mut j: usize = 0;
-    while j < 64 {
-        word |= ((reach >> table[at + j]) & 1) << j;
-        j += 1;
+    let mut j: usize = 64;
+    while j > 0 {
+        j -= 1;
+        word = word * 2 + ((reach >> table[at + j]) & 1);
     }
     word
 }

@@ -4,18 +4,17 @@ ghost use Prim.Native.Nat.{_+_, _*_, _≤_, _<_};
 ghost use Rattle.automaton.specs.Bits.{Exactly};
 ghost use Rattle.automaton.specs.Table.{tableNo, WellFormed, states, flag, next, anyFrom};
 
-// Whether some byte is at or above the bound.
+// Whether some byte is at or above the bound. It looks at all of them: without a way out the loop takes many at once.
 fn any_from(bytes: &[u8], bound: usize) -> bool
     ensures { λ r. ⌜ r ≡ anyFrom bound (now (bytes .entry)) ⌝ }
 {
+    let mut found = false;
     let mut i: usize = 0;
     while i < bytes.len() {
-        if bytes[i] as usize >= bound {
-            return true;
-        }
+        found = found | (bytes[i] as usize >= bound);
         i += 1;
     }
-    false
+    found
 }
 
 // The number by which a table is refused; 0 for one that is taken.

@@ -198,6 +198,12 @@ module _ (key : List ℕ) (n : ℕ) (h : n < length key) where
   pub part-first : getD (take (length key - n) (drop n key)) 0 0 ≡ getD key n 0
   part-first = rw (part-rest key n, drop-byte key n h)
 
+-- ---- two keys that share n bytes
+pub shared-run : (t : List ℕ) (s : ℕ) (a b : List ℕ) (n : ℕ) → take n a ≡ take n b → Bytes a → {base : ℕ} → base ≡ run t s (take n a) → MatchBetween t s a b ↔ MatchBetween t base (drop n a) (drop n b)
+shared-run t s a b n same bytes r =
+    let i = between-prefix t s (take n a) (drop n a) (drop n b) (bytes-take n a bytes) in
+    rw r (subst₂ (λ (x y : List ℕ). MatchBetween t s x y ↔ MatchBetween t (run t s (take n a)) (drop n a) (drop n b)) (take-append-drop n a) (rw same (take-append-drop n b)) i)
+
 -- ---- two keys, by the length n of their common prefix
 module _ (t : List ℕ) (s : ℕ) (a b : List ℕ) {n : ℕ} (e : n ≡ commonPrefixLen a b) where
   pub common-none : length b ≤ n → MatchBetween t s a b → ⊥
@@ -211,10 +217,7 @@ module _ (t : List ℕ) (s : ℕ) (a b : List ℕ) {n : ℕ} (e : n ≡ commonPr
 
   module _ (bytes : Bytes a) {base : ℕ} (r : base ≡ run t s (take n a)) where
     pub common-run : MatchBetween t s a b ↔ MatchBetween t base (drop n a) (drop n b)
-    common-run =
-        let i = between-prefix t s (take n a) (drop n a) (drop n b) (bytes-take n a bytes) in
-        let same : take n a ≡ take n b = rw e (commonPrefixLen-take a b) in
-        rw r (subst₂ (λ (x y : List ℕ). MatchBetween t s x y ↔ MatchBetween t (run t s (take n a)) (drop n a) (drop n b)) (take-append-drop n a) (rw same (take-append-drop n b)) i)
+    common-run = shared-run t s a b n (rw e (commonPrefixLen-take a b)) bytes r
 
     -- the start is the prefix
     pub common-end : length a ≤ n → MatchBetween t s a b ↔ MatchBetween t base [] (drop n b)

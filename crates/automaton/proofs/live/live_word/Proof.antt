@@ -1,22 +1,34 @@
--- The loop keeps: bit k is the bit that the word of reach has for the k-th next state.
-use Prim.Native.Nat.{ℕ, _+_, _-_, _≤_}
-use mathlib.Core.Path.{_≡_, refl, subst}
+-- The loop keeps: bit k is the bit that the word of reach has for the next state k behind the one that comes next.
+use Prim.Native.Nat.{ℕ, _+_, _-_, _*_, _<_, _≤_, _/_, _^_}
+use mathlib.Core.Path.{_≡_, ap, _∙_, subst}
 use native.Mathlib.Omega.{arith}
 use borrow.Author.Needs.{needs}
+use lib.Bits.{bitAnd}
 use lib.ListN.{getD}
 use Rattle.automaton.specs.Bits.{bit}
-use Rattle.automaton.proofs.Built.{Filled, filled-none, filled-bit}
+use Rattle.automaton.proofs.Word.{bit-lt, bit-test}
+use Rattle.automaton.proofs.Built.{Filled, filled-none, filled-below, filled-fits}
 use Rattle.automaton.proofs.live.live_word.Statement.{statement}
 use Rattle.automaton.proofs.live.live_word.Tie as tie
 
 abbrev Inv-loop : tie.InvT-loop
-Inv-loop table reach at word₀ j₀ word j = Filled (λ k. bit reach (getD table (at + k) 0)) j word × (j ≤ 64)
+Inv-loop table reach at word₀ j₀ word j = Filled (λ k. bit reach (getD table (at + (j + k)) 0)) (64 - j) word × (j ≤ 64)
 
 abbrev μ-loop : tie.MeasureT-loop
-μ-loop table reach at word₀ j₀ word j = 64 - j
+μ-loop table reach at word₀ j₀ word j = j
+
+-- `(w >> s) & 1` is 0 or 1
+one-bit : (w s : ℕ) → bitAnd (w / 2 ^ s) 1 < 2
+one-bit w s = rw bit-test (bit-lt w s)
 
 loop-holds : tie.Need-loop-holds Inv-loop μ-loop
 loop-holds c = (filled-none _, search needs)
+
+sub-j : tie.Need-sub-j Inv-loop μ-loop
+sub-j c = search needs
+
+mul-word : tie.Need-mul-word Inv-loop μ-loop
+mul-word c = omega (arith, filled-fits (c .before .loop .inv .0) (omega arith))
 
 add-word : tie.Need-add-word Inv-loop μ-loop
 add-word c = search needs
@@ -25,16 +37,15 @@ shared-slice-read-word : tie.Need-shared-slice-read-word Inv-loop μ-loop
 shared-slice-read-word c = search needs
 
 cast-word : tie.Need-cast-word Inv-loop μ-loop
-cast-word c = omega (arith, c .before .before .before .pre .1 (c .before .before .loop .j) (search needs))
+cast-word c = omega (arith, c .before .before .before .pre .1 (c .before .before .loop .j - 1) (omega arith))
 
 shr-word : tie.Need-shr-word Inv-loop μ-loop
-shr-word c = omega (arith, c .before .before .before .pre .1 (c .before .before .loop .j) (search needs))
+shr-word c = omega (arith, c .before .before .before .pre .1 (c .before .before .loop .j - 1) (omega arith))
 
-shl-word : tie.Need-shl-word Inv-loop μ-loop
-shl-word c = search needs
-
-add-j : tie.Need-add-j Inv-loop μ-loop
-add-j c = search needs
+add-word-2 : tie.Need-add-word-2 Inv-loop μ-loop
+add-word-2 c =
+    let f : c .before .before .loop .word < 2 ^ 63 = filled-fits (c .before .before .loop .inv .0) (omega arith) in
+    omega (arith, one-bit (c .before .before .before .args .reach) (getD (c .before .before .before .args .table .now) (c .before .before .before .args .at + (c .before .before .loop .j - 1)) 0))
 
 loop-less : tie.Need-loop-less Inv-loop μ-loop
 loop-less c = search needs
@@ -43,13 +54,21 @@ loop-again : tie.Need-loop-again Inv-loop μ-loop
 loop-again c =
     let a = c .before .before .before .args in
     let l = c .before .before .loop in
-    (filled-bit (l .inv .0) (a .reach) (getD (a .table .now) (a .at + l .j) 0) refl (search needs), search needs)
+    let f : ℕ → ℕ = λ k. bit (a .reach) (getD (a .table .now) (a .at + k) 0) in
+    let e : l .j ≡ l .j - 1 + 1 = omega arith in
+    let q : 64 - l .j + 1 ≡ 64 - (l .j - 1) = omega arith in
+    let i = subst (λ (x : ℕ). Filled (λ k. f (x + k)) (64 - l .j) (l .word)) e (l .inv .0) in
+    let x = getD (a .table .now) (a .at + (l .j - 1)) 0 in
+    let v = l .word * 2 + bitAnd (a .reach / 2 ^ x) 1 in
+    (subst (λ (n : ℕ). Filled (λ k. f (l .j - 1 + k)) n v) q (filled-below f (l .j - 1) (64 - l .j) (l .word) (bitAnd (a .reach / 2 ^ x) 1) i (bit-test (a .reach) x) (one-bit (a .reach) x)), omega arith)
 
 returns : tie.Need-returns Inv-loop μ-loop
 returns c =
     let a = c .before .before .args in
-    let e : c .before .loop .j ≡ 64 = omega arith in
-    subst (λ (x : ℕ). Filled (λ k. bit (a .reach) (getD (a .table .now) (a .at + k) 0)) x (c .before .loop .word)) e (c .before .loop .inv .0) .at
+    let l = c .before .loop in
+    let e : l .j ≡ 0 = omega arith in
+    let i = subst (λ (x : ℕ). Filled (λ k. bit (a .reach) (getD (a .table .now) (a .at + (x + k)) 0)) (64 - x) (l .word)) e (l .inv .0) in
+    λ j h. let q : 0 + j ≡ j = omega arith in i .at j h ∙ ap (λ (x : ℕ). bit (a .reach) (getD (a .table .now) (a .at + x) 0)) q
 
 pub live-word-spec : {M : Type 1} → statement M
 live-word-spec =
@@ -58,12 +77,13 @@ live-word-spec =
     Inv-loop
     μ-loop
     loop-holds
+    sub-j
+    mul-word
     add-word
     shared-slice-read-word
     cast-word
     shr-word
-    shl-word
-    add-j
+    add-word-2
     loop-less
     loop-again
     returns)
