@@ -29,17 +29,37 @@ pub fn flags(table: &[u8]) -> u64
     word
 }
 
-// The word of the next states that stand in the 256 bytes from `at` on.
+// The word of the next states that stand in the eight bytes from `at` on.
+fn states_of(table: &[u8], at: usize) -> u64
+    requires { ⌜ (at + 8 ≤ length (now table)) × ((b : ℕ) → b < 8 → getD (now table) (at + b) 0 < 64) ⌝ }
+    ensures { λ r. ⌜ ((b : ℕ) → b < 8 → bit r (getD (now (table .entry)) (at + b) 0) ≡ 1) ⌝ }
+    ensures { λ r. ⌜ ((s : ℕ) → bit r s ≡ 1 → (b : ℕ) × (b < 8) × (getD (now (table .entry)) (at + b) 0 ≡ s)) ⌝ }
+{
+    let mut word: u64 = 0;
+    let mut b: usize = 0;
+    while b < 8 {
+        word |= 1u64 << table[at + b];
+        b += 1;
+    }
+    word
+}
+
+// The word of the next states that stand in the 256 bytes from `at` on. Eight that equal the eight before them are in it.
 fn next_states(table: &[u8], at: usize) -> u64
     requires { ⌜ (at + 256 ≤ length (now table)) × ((b : ℕ) → b < 256 → getD (now table) (at + b) 0 < 64) ⌝ }
     ensures { λ r. ⌜ ((b : ℕ) → b < 256 → bit r (getD (now (table .entry)) (at + b) 0) ≡ 1) ⌝ }
     ensures { λ r. ⌜ ((s : ℕ) → bit r s ≡ 1 → (b : ℕ) × (b < 256) × (getD (now (table .entry)) (at + b) 0 ≡ s)) ⌝ }
 {
-    let mut word: u64 = 0;
-    let mut b: usize = 0;
+    let mut last = serialize::deserialize_u64(table, at);
+    let mut word = states_of(table, at);
+    let mut b: usize = 8;
     while b < 256 {
-        word |= 1u64 << table[at + b];
-        b += 1;
+        let eight = serialize::deserialize_u64(table, at + b);
+        if eight != last {
+            word |= states_of(table, at + b);
+            last = eight;
+        }
+        b += 8;
     }
     word
 }
