@@ -163,19 +163,6 @@ add-ok v key b e =
     let q = orElse-zero (blockNo v key b) _ (p .1) in
     record { area = area-ok v (p .0); block = block-ok v key b (q .0); room = room-ok v key (cond-zero (roomBad v key) 6 0 (q .1) .0) }
 
--- an accepted shorten
-pub record ShortenOk (v : View) (next : List ℕ) : Type 0 where
-  pub area : AreaOk v
-  pub short : length next ≤ 1024
-  pub above : (v .n ≡ 0 → ⊥) → v .lastKey ≺ next
-
-pub shorten-ok : (v : View) (next : List ℕ) → shortenNo v next ≡ 0 → ShortenOk v next
-unfolding shortenNo
-shorten-ok v next e =
-    let p = cond-zero (areaBad v) 0 _ e in
-    let q = cond-zero (keyLong next) 1 _ (p .1) in
-    record { area = area-ok v (p .0); short = short-ok next (q .0); above = above-ok v next (cond-zero (keyBad v next) 5 0 (q .1) .0) }
-
 -- ---- what a call leaves, refused and accepted
 
 module _ (s : SSTableIndexBuilder) (B K key : List ℕ) where

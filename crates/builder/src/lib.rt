@@ -60,11 +60,17 @@ impl SSTableIndexBuilder {
     ) -> Answer
         ensures { λ r. ⌜ after r (now (blocks .exit)) (now (keys .exit)) ≡ shortenDef self (now (blocks .entry)) (now (keys .entry)) (now («next_key» .entry)) ⌝ }
     {
-        let no = rows::shorten_no(self, blocks, keys, next_key);
-        if no != 0 {
-            return Answer::Refused(no, self);
+        if rows::area_bad(self, blocks, keys) {
+            return Answer::Refused(1, self);
         }
-        shorten::shorten_last(self, blocks, keys, next_key);
+        if next_key.len() > rows::MAX_KEY_LEN {
+            return Answer::Refused(2, self);
+        }
+        let common = rows::common_len(self, blocks, keys, next_key);
+        if rows::key_bad_behind(self, blocks, keys, next_key, common) {
+            return Answer::Refused(6, self);
+        }
+        shorten::shorten_last(self, blocks, keys, common);
         Answer::Taken(self)
     }
 

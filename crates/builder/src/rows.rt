@@ -2,8 +2,9 @@
 ghost use mathlib.Core.Path.{_≡_};
 ghost use Prim.Native.Nat.{_+_, _*_, _≤_};
 ghost use lib.ListN.{length};
+ghost use Rattle.keys.specs.Order.{commonPrefixLen};
 ghost use Rattle.builder.specs.Area.{viewOf};
-ghost use Rattle.builder.specs.Rows.{areaBad, AreaOk, keyBad, roomBad, blockNo, addNo, shortenNo};
+ghost use Rattle.builder.specs.Rows.{areaBad, AreaOk, keyBad, roomBad, blockNo, addNo};
 use crate::SSTableIndexBuilder;
 use group::BlockAddr;
 
@@ -20,7 +21,7 @@ pub const KEY_LEN: usize = 4;
 
 const MAX_BLOCKS: usize = 65536;
 
-const MAX_KEY_LEN: usize = 1024;
+pub const MAX_KEY_LEN: usize = 1024;
 
 // Row 1: whether the builder's count and its last key don't fit the areas.
 pub fn area_bad(builder: SSTableIndexBuilder, blocks: &[u64], keys: &[u8]) -> bool
@@ -59,19 +60,53 @@ pub fn next_key(builder: SSTableIndexBuilder, blocks: &[u64], keys: &[u8]) -> us
     blocks[at + KEY_OFFSET] as usize + blocks[at + KEY_LEN] as usize
 }
 
-// Row 6: whether a key isn't above the last separator.
-pub fn key_bad(builder: SSTableIndexBuilder, blocks: &[u64], keys: &[u8], key: &[u8]) -> bool
+// The last separator; empty where there is no block.
+fn last_key<'a>(builder: SSTableIndexBuilder, blocks: &[u64], keys: &'a [u8]) -> &'a [u8]
     requires { ⌜ AreaOk (viewOf builder (now blocks) (now keys)) ⌝ }
-    ensures { λ r. ⌜ r ≡ keyBad (viewOf builder (now (blocks .entry)) (now (keys .entry))) (now (key .entry)) ⌝ }
+    ensures { λ r. ⌜ now r ≡ viewOf builder (now (blocks .entry)) (now (keys .entry)) .lastKey ⌝ }
 {
     let n = builder.n;
     if n == 0 {
-        return false;
+        return &keys[..0];
     }
     let at = STRIDE * (n - 1);
     let offset = blocks[at + KEY_OFFSET] as usize;
     let end = offset + blocks[at + KEY_LEN] as usize;
-    !keys::lt(&keys[offset..end], key)
+    &keys[offset..end]
+}
+
+// How many bytes the last separator and a key have in common.
+pub fn common_len(builder: SSTableIndexBuilder, blocks: &[u64], keys: &[u8], key: &[u8]) -> usize
+    requires { ⌜ AreaOk (viewOf builder (now blocks) (now keys)) ⌝ }
+    ensures { λ r. ⌜ r ≡ commonPrefixLen (viewOf builder (now (blocks .entry)) (now (keys .entry)) .lastKey) (now (key .entry)) ⌝ }
+{
+    keys::common_prefix_len(last_key(builder, blocks, keys), key)
+}
+
+// Row 6, where the last separator and the key have `common` bytes in common.
+pub fn key_bad_behind(
+    builder: SSTableIndexBuilder,
+    blocks: &[u64],
+    keys: &[u8],
+    key: &[u8],
+    common: usize,
+) -> bool
+    requires { ⌜ AreaOk (viewOf builder (now blocks) (now keys)) × (common ≡ commonPrefixLen (viewOf builder (now blocks) (now keys) .lastKey) (now key)) ⌝ }
+    ensures { λ r. ⌜ r ≡ keyBad (viewOf builder (now (blocks .entry)) (now (keys .entry))) (now (key .entry)) ⌝ }
+{
+    if builder.n == 0 {
+        return false;
+    }
+    !keys::lt_behind(last_key(builder, blocks, keys), key, common)
+}
+
+// Row 6: whether a key isn't above the last separator.
+fn key_bad(builder: SSTableIndexBuilder, blocks: &[u64], keys: &[u8], key: &[u8]) -> bool
+    requires { ⌜ AreaOk (viewOf builder (now blocks) (now keys)) ⌝ }
+    ensures { λ r. ⌜ r ≡ keyBad (viewOf builder (now (blocks .entry)) (now (keys .entry))) (now (key .entry)) ⌝ }
+{
+    let common = common_len(builder, blocks, keys, key);
+    key_bad_behind(builder, blocks, keys, key, common)
 }
 
 // The block before the next one, if there is one.
@@ -161,22 +196,6 @@ pub fn add_no(
     }
     if room_bad(builder, blocks, keys, key) {
         return 7;
-    }
-    0
-}
-
-// The number that a shorten answers.
-pub fn shorten_no(builder: SSTableIndexBuilder, blocks: &[u64], keys: &[u8], next_key: &[u8]) -> u32
-    ensures { λ r. ⌜ r ≡ shortenNo (viewOf builder (now (blocks .entry)) (now (keys .entry))) (now («next_key» .entry)) ⌝ }
-{
-    if area_bad(builder, blocks, keys) {
-        return 1;
-    }
-    if next_key.len() > MAX_KEY_LEN {
-        return 2;
-    }
-    if key_bad(builder, blocks, keys, next_key) {
-        return 6;
     }
     0
 }

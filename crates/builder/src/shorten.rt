@@ -1,5 +1,9 @@
 // What an accepted shorten changes.
 ghost use mathlib.Core.Path.{_≡_};
+ghost use Prim.Native.Nat.{ℕ, _≤_};
+ghost use mathlib.Core.List.{List};
+ghost use lib.ListN.{length};
+ghost use Rattle.keys.specs.Order.{commonPrefixLen};
 ghost use Rattle.builder.specs.Area.{viewOf};
 ghost use Rattle.builder.specs.Rows.{AreaOk};
 ghost use Rattle.builder.specs.Calls.{shortBlocks, shortKeys};
@@ -8,16 +12,15 @@ use crate::rows::KEY_LEN;
 use crate::rows::KEY_OFFSET;
 use crate::rows::STRIDE;
 
-// Shortens the last key in place, and its length in the last record.
+// Shortens the last key in place, and its length in the last record, for every next key with which it has `common` bytes in common.
 pub fn shorten_last(
     builder: SSTableIndexBuilder,
     blocks: &mut [u64],
     keys: &mut [u8],
-    next_key: &[u8],
+    common: usize,
 )
-    requires { ⌜ AreaOk (viewOf builder (now blocks) (now keys)) ⌝ }
-    ensures { λ _. ⌜ now (blocks .exit) ≡ shortBlocks (builder .n) (now (blocks .entry)) (now (keys .entry)) (now («next_key» .entry)) ⌝ }
-    ensures { λ _. ⌜ now (keys .exit) ≡ shortKeys (builder .n) (now (blocks .entry)) (now (keys .entry)) (now («next_key» .entry)) ⌝ }
+    requires { ⌜ AreaOk (viewOf builder (now blocks) (now keys)) × (common ≤ length (viewOf builder (now blocks) (now keys) .lastKey)) ⌝ }
+    ensures { λ _. ⌜ ((next : List ℕ) → common ≡ commonPrefixLen (viewOf builder (now (blocks .entry)) (now (keys .entry)) .lastKey) next → (now (blocks .exit) ≡ shortBlocks (builder .n) (now (blocks .entry)) (now (keys .entry)) next) × (now (keys .exit) ≡ shortKeys (builder .n) (now (blocks .entry)) (now (keys .entry)) next)) ⌝ }
 {
     let n = builder.n;
     if n == 0 {
@@ -26,6 +29,6 @@ pub fn shorten_last(
     let at = STRIDE * (n - 1);
     let offset = blocks[at + KEY_OFFSET] as usize;
     let len = blocks[at + KEY_LEN] as usize;
-    let shortened = keys::find_shorter_str_in_between(keys, offset, len, next_key);
+    let shortened = keys::shorter_str_behind(keys, offset, len, common);
     blocks[at + KEY_LEN] = shortened as u64;
 }

@@ -1,6 +1,7 @@
 // Keys: the order of byte strings, the common prefix (src/lib.rs) and the shortened separator (src/index/mod.rs).
 ghost use mathlib.Core.Path.{_≡_};
 ghost use Prim.Native.Nat.{ℕ, _+_, _≤_, _<_, min};
+ghost use mathlib.Core.List.{List};
 ghost use lib.ListN.{length, take, drop, getD};
 ghost use lib.Seq.{sets};
 ghost use Rattle.keys.specs.Order.{less, commonPrefixLen};
@@ -85,11 +86,11 @@ pub fn common_prefix<'a>(left: &'a [u8], right: &[u8]) -> &'a [u8]
     &left[..len]
 }
 
-// Whether left is below right.
-pub fn lt(left: &[u8], right: &[u8]) -> bool
+// Whether left is below right; `len` is their common prefix's length.
+pub fn lt_behind(left: &[u8], right: &[u8], len: usize) -> bool
+    requires { ⌜ len ≡ commonPrefixLen (now left) (now right) ⌝ }
     ensures { λ r. ⌜ r ≡ less (now (left .entry)) (now (right .entry)) ⌝ }
 {
-    let len = common_prefix_len(left, right);
     if len >= right.len() {
         return false;
     }
@@ -97,6 +98,14 @@ pub fn lt(left: &[u8], right: &[u8]) -> bool
         return true;
     }
     left[len] < right[len]
+}
+
+// Whether left is below right.
+pub fn lt(left: &[u8], right: &[u8]) -> bool
+    ensures { λ r. ⌜ r ≡ less (now (left .entry)) (now (right .entry)) ⌝ }
+{
+    let len = common_prefix_len(left, right);
+    lt_behind(left, right, len)
 }
 
 // The place of the first byte from `from` on that isn't FF; `end` where there is none before it.
@@ -116,6 +125,24 @@ fn first_below_ff(keys: &[u8], from: usize, end: usize) -> usize
     pos
 }
 
+// `find_shorter_str_in_between` for every right with which the key has `common_len` bytes in common: the search needs no more of it.
+pub fn shorter_str_behind(keys: &mut [u8], at: usize, len: usize, common_len: usize) -> usize
+    requires { ⌜ (at + len ≤ length (now keys)) × («common_len» ≤ len) ⌝ }
+    ensures { λ r. ⌜ ((right : List ℕ) → «common_len» ≡ commonPrefixLen (take len (drop at (now (keys .entry)))) right → (r ≡ length (shorten (take len (drop at (now (keys .entry)))) right)) × (now (keys .exit) ≡ sets (now (keys .entry)) at (shorten (take len (drop at (now (keys .entry)))) right))) ⌝ }
+{
+    if common_len == len {
+        return len;
+    }
+    let end = at + len;
+    let pos = first_below_ff(keys, at + common_len + 1, end);
+    if pos == end {
+        return len;
+    }
+    let byte = keys[pos];
+    keys[pos] = byte + 1;
+    pos + 1 - at
+}
+
 // Shortens the key of `len` bytes at `at`, in place, to one that isn't below it and still below `right` (if the key is).
 // Returns the new length. At most one byte changes.
 pub fn find_shorter_str_in_between(keys: &mut [u8], at: usize, len: usize, right: &[u8]) -> usize
@@ -125,14 +152,5 @@ pub fn find_shorter_str_in_between(keys: &mut [u8], at: usize, len: usize, right
 {
     let end = at + len;
     let common_len = common_prefix_len(&keys[at..end], right);
-    if common_len == len {
-        return len;
-    }
-    let pos = first_below_ff(keys, at + common_len + 1, end);
-    if pos == end {
-        return len;
-    }
-    let byte = keys[pos];
-    keys[pos] = byte + 1;
-    pos + 1 - at
+    shorter_str_behind(keys, at, len, common_len)
 }

@@ -1,18 +1,27 @@
 -- `builder::shorten::shorten_last` meets its contract: the last key lies within the key area.
 use borrow.Author.Needs.{needs}
 use borrow.Author.Tests.{eq-eqb, ne-eqb}
-use mathlib.Core.Path.{refl, ap}
+use Prim.Native.Nat.{ℕ, _-_, _≤_}
+use mathlib.Core.Path.{_≡_, refl, ap, _∙_}
+use mathlib.Core.List.{List}
 use native.Mathlib.Omega.{arith}
-use lib.ListN.{set}
-use Rattle.builder.specs.Area.{areaView}
+use lib.ListN.{length, set, drop, length-take}
+use Rattle.keys.specs.Order.{commonPrefixLen}
+use Rattle.builder.specs.Area.{areaView, areaKey, areaKeyOffset, areaKeyLen}
 use Rattle.builder.specs.Calls.{shortBlocks, shortKeys}
-use Rattle.builder.proofs.Views.{next-some}
+use Rattle.builder.proofs.Views.{next-some, key-some}
 use Rattle.builder.proofs.shorten.shorten_last.Statement.{statement}
 use Rattle.builder.proofs.shorten.shorten_last.Tie as tie
 
+-- the common prefix isn't longer than the last key
+within-key : (n : ℕ) (B K : List ℕ) (common : ℕ) → (n ≡ 0 → ⊥) → common ≤ length (areaView n B K .lastKey) → common ≤ areaKeyLen B (n - 1)
+within-key n B K common some h =
+    let g : common ≤ length (areaKey B K (n - 1)) = rw (key-some n B K some) at h in
+    omega (arith, length-take (areaKeyLen B (n - 1)) (drop (areaKeyOffset B (n - 1)) K))
+
 returns : tie.Need-returns
 unfolding shortBlocks shortKeys
-returns c = rw (eq-eqb _ _ (c .if1 .taken)) (refl, refl)
+returns c = λ next e. rw (eq-eqb _ _ (c .if1 .taken)) (refl, refl)
 
 sub-at : tie.Need-sub-at
 sub-at c = search needs
@@ -45,12 +54,15 @@ slice-read-len : tie.Need-slice-read-len
 unfolding areaView
 slice-read-len c = search needs
 
-find-shorter-str-in-between-requires : tie.Need-find-shorter-str-in-between-requires
+shorter-str-behind-requires : tie.Need-shorter-str-behind-requires
 unfolding areaView
-find-shorter-str-in-between-requires c κs =
+shorter-str-behind-requires c κs =
     let b = c .before .before .before in
-    let a = b .before .before .before .before .args in
-    omega (arith, next-some (a .builder .n) (a .blocks .now) (a .keys .now) (b .if1 .left))
+    let s = b .before .before .before in
+    let a = s .args in (
+      omega (arith, next-some (a .builder .n) (a .blocks .now) (a .keys .now) (b .if1 .left)),
+      within-key (a .builder .n) (a .blocks .now) (a .keys .now) (a .common) (b .if1 .left) (s .pre .1),
+    )
 
 add-blocks : tie.Need-add-blocks
 unfolding areaView
@@ -72,10 +84,12 @@ same-length-2 c = search needs
 
 returns-2 : tie.Need-returns-2
 unfolding shortBlocks shortKeys
-returns-2 c =
+returns-2 c = λ next e.
     let b = c .before .before .before .before .before .before in
-    let call = c .before .before .find-shorter-str-in-between .ensures in
-    rw (ne-eqb _ _ (b .if1 .left)) (ap (set (b .before .before .before .before .args .blocks .now) _) (call .0), call .1)
+    let a = b .before .before .before .args in
+    let key = key-some (a .builder .n) (a .blocks .now) (a .keys .now) (b .if1 .left) in
+    let call = c .before .before .shorter-str-behind .ensures next (e ∙ ap (λ (k : List ℕ). commonPrefixLen k next) key) in
+    rw (ne-eqb _ _ (b .if1 .left)) (ap (set (a .blocks .now) _) (call .0), call .1)
 
 pub shorten-last-spec : {M : Type 1} → statement M
 shorten-last-spec =
@@ -90,7 +104,7 @@ shorten-last-spec =
     add-len
     mul-len
     slice-read-len
-    find-shorter-str-in-between-requires
+    shorter-str-behind-requires
     add-blocks
     mul-blocks
     slice-write-blocks
