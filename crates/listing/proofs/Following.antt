@@ -1,17 +1,22 @@
 -- The states along a key: one byte more, and what the next key keeps of them.
 use mathlib.Core.Path.{_≡_, refl, sym, ap, _∙_, subst}
-use mathlib.Core.List.{List}
+use mathlib.Core.List.{List, [], _∷_}
 use mathlib.Core.Logic.{⊎-elim}
-use Prim.Native.Nat.{ℕ, _+_, _≤_, _<_, min}
+use Prim.Native.Nat.{ℕ, zero, suc, _+_, _≤_, _<_, zero-le, suc-le-suc}
+use native.Mathlib.Nat.{le-refl}
 use native.Mathlib.Omega.{arith}
+use lib.Dec.{eqb}
 use lib.ListN.{length, take, getD, set, length-set}
 use lib.Seq.{getD-set-same, getD-set-other, take-take}
 use Rattle.keys.specs.Order.{commonPrefixLen}
-use Rattle.keys.proofs.Order.{commonPrefixLen-take}
+use Rattle.keys.proofs.Order.{by-test, commonPrefixLen-take}
 use Rattle.automaton.specs.Table.{WellFormed, states, next}
 use Rattle.automaton.specs.Words.{Bytes, run}
+use Rattle.automaton.specs.Live.{End, Ends}
 use Rattle.automaton.proofs.Exact.{same-or}
 use Rattle.automaton.proofs.Strings.{run-more, run-states, bytes-take}
+use Rattle.pruning.specs.Interval.{MatchBetween}
+use Rattle.pruning.proofs.Looks.{shared-dead}
 use Rattle.listing.specs.Followed.{Followed}
 
 module _ (t : List ℕ) where
@@ -35,7 +40,18 @@ module _ (t : List ℕ) where
     pub followed-state : (known j : ℕ) → Followed t key kept known → WellFormed t → Bytes key → j ≤ known → getD kept j 0 < states t
     followed-state known j f w b h = rw (f .each j h) (run-states w 0 (take j key) (omega (arith, w .some)) (bytes-take j key b))
 
--- what two keys share
+-- ---- what two keys share
+-- all of the first n bytes of the one
+pub front-common : (n : ℕ) (a b : List ℕ) → commonPrefixLen (take n a) b ≡ n → n ≤ commonPrefixLen a b
+unfolding commonPrefixLen
+front-common zero a b e = zero-le
+front-common (suc n) [] b e = absurd (omega arith)
+front-common (suc n) (x ∷ a) [] e = absurd (omega arith)
+front-common (suc n) (x ∷ a) (y ∷ b) e =
+    by-test (eqb x y)
+    (λ q. let h : suc (commonPrefixLen (take n a) b) ≡ suc n = simp q at e in simp q (suc-le-suc (front-common n a b (omega arith))))
+    (λ q. let h : 0 ≡ suc n = simp q at e in absurd (omega arith))
+
 same-front : (a b : List ℕ) (j : ℕ) → j ≤ commonPrefixLen a b → take j a ≡ take j b
 same-front a b j h =
     let n = commonPrefixLen a b in
@@ -43,3 +59,10 @@ same-front a b j h =
 
 pub followed-next : (t a b kept : List ℕ) (known : ℕ) → Followed t a kept known → known ≤ commonPrefixLen a b → Followed t b kept known
 followed-next t a b kept known f h = record { long = f .long; each = λ j g. f .each j g ∙ ap (run t 0) (same-front a b j (omega arith)) }
+
+-- no key between them matches where no byte leads on behind bytes that they share
+pub followed-dead : (t a b kept ends : List ℕ) (known : ℕ) → WellFormed t → Ends t ends → Bytes a → Followed t a kept known → getD ends (getD kept known 0) 0 ≡ 0 → known ≤ commonPrefixLen a b → MatchBetween t 0 a b → ⊥
+followed-dead t a b kept ends known w e bytes f z h =
+    let s = followed-state t a kept known known f w bytes (le-refl known) in
+    let d : End t (getD kept known 0) 0 = subst (End t (getD kept known 0)) z (e .each (getD kept known 0) s) in
+    shared-dead t a b known (same-front a b known h) bytes (subst (λ (x : ℕ). End t x 0) (f .each known (le-refl known)) d)

@@ -1,13 +1,18 @@
 // The blocks that can hold a key of a pattern: `get_block_for_automaton` of src/index/v3.rs.
 ghost use mathlib.Core.Path.{_≡_};
-ghost use mathlib.Core.Bool.{false, cond};
-ghost use Prim.Native.Nat.{_≤_, _<_, min};
-ghost use lib.ListN.{length, take, set};
+ghost use mathlib.Core.Bool.{true, false, cond};
+ghost use Prim.Native.Nat.{_≤_, _<_};
+ghost use lib.Dec.{eqb};
+ghost use lib.ListN.{length, take, set, getD};
+ghost use Rattle.keys.specs.Order.{commonPrefixLen};
 ghost use Rattle.automaton.specs.Table.{WellFormed, states as stateCount};
 ghost use Rattle.automaton.specs.Words.{run};
+ghost use Rattle.automaton.specs.Live.{Ends};
+ghost use Rattle.pruning.specs.Interval.{MatchBetween};
+ghost use Rattle.pruning.specs.Prepared.{Prepared};
 ghost use Rattle.directory.specs.Read.{keyOf};
 ghost use Rattle.listing.specs.Listing.{keysOutside, listingNo, separatorAt, Listing, listedNo, listedCount, ListingLeaves};
-ghost use Rattle.listing.specs.Followed.{Followed};
+ghost use Rattle.listing.specs.Followed.{Followed, Turned};
 use automaton::table::accept;
 use directory::read::key;
 use index::SSTableIndexV3;
@@ -21,6 +26,12 @@ use pruning::block_match_automaton::can_block_match_from;
 pub enum Listed {
     Count(usize),
     Refused(u32),
+}
+
+// How many bytes of a block's end key are followed, and whether the block matches.
+struct Turn {
+    known: usize,
+    matches: bool,
 }
 
 // Whether one of n keys or its pair lies outside the directory.
@@ -38,16 +49,52 @@ fn keys_outside(directory: &[u8], n: usize) -> bool
     false
 }
 
-// The states behind the first bytes of a key, up to n bytes or 1,024: those behind at most `known` bytes are there.
-// Returns how many bytes they are followed.
-fn follow(table: &[u8], key: &[u8], states: &mut [u8; 1025], known: usize, n: usize) -> usize
+// Whether no byte leads on from the state behind `known` bytes.
+fn is_dead(ends: &[u16; 64], states: &[u8; 1025], known: usize) -> bool
+    requires { ⌜ (known ≤ 1024) × (getD (now states) known 0 < 64) ⌝ }
+    ensures { λ r. ⌜ r ≡ eqb (getD (now (ends .entry)) (getD (now (states .entry)) known 0) 0) 0 ⌝ }
+{
+    ends[states[known] as usize] == 0
+}
+
+// Whether no byte leads on from a state behind bytes that the keys share: then no key between them matches.
+fn shares_dead(
+    table: &[u8],
+    ends: &[u16; 64],
+    states: &[u8; 1025],
+    known: usize,
+    start_key: &[u8],
+    end_key: &[u8],
+) -> bool
+    requires { ⌜ WellFormed (now table) × Ends (now table) (now ends) × Followed (now table) (now «start_key») (now states) known × ((known ≤ 1024) × (known ≤ length (now «start_key»))) ⌝ }
+    ensures { λ r. ⌜ (r ≡ true → (known ≤ commonPrefixLen (now («start_key» .entry)) (now («end_key» .entry))) × (MatchBetween (now (table .entry)) 0 (now («start_key» .entry)) (now («end_key» .entry)) → ⊥)) ⌝ }
+{
+    if !is_dead(ends, states, known) {
+        return false;
+    }
+    keys::common_prefix_len(&start_key[..known], end_key) == known
+}
+
+// The states behind the first bytes of a key, up to n bytes or 1,024, and no further than to a dead one: those behind at
+// most `known` bytes are there. Returns how many bytes are followed.
+fn follow(
+    table: &[u8],
+    ends: &[u16; 64],
+    key: &[u8],
+    states: &mut [u8; 1025],
+    known: usize,
+    n: usize,
+) -> usize
     requires { ⌜ WellFormed (now table) × Followed (now table) (now key) (now states) known × (known ≤ 1024) × (n ≤ length (now key)) ⌝ }
-    ensures { λ r. ⌜ (r ≡ min n 1024) × Followed (now (table .entry)) (now (key .entry)) (now (states .exit)) r ⌝ }
+    ensures { λ r. ⌜ (r ≤ n) × (r ≤ 1024) × Followed (now (table .entry)) (now (key .entry)) (now (states .exit)) r ⌝ }
 {
     let end = if n < 1024 { n } else { 1024 };
     let mut i = if known < end { known } else { end };
     let mut state = states[i] as usize;
     while i < end {
+        if ends[state] == 0 {
+            return i;
+        }
         state = accept(table, state, key[i]);
         i += 1;
         states[i] = state as u8;
@@ -79,8 +126,44 @@ fn mark(marks: &mut [u8], i: usize, matches: bool) -> usize
     0
 }
 
-// Marks the n blocks of a directory, 0 or 1 each. Returns how many are 1. The states along a key are kept for the next:
-// those behind the bytes that it shares.
+// Whether a block behind the first matches. The states along its start key, followed for `known` bytes, become those
+// along its end key.
+fn match_block(
+    table: &[u8],
+    live: &[u64; 256],
+    firsts: &[u16; 64],
+    ends: &[u16; 64],
+    states: &mut [u8; 1025],
+    known: usize,
+    start_key: &[u8],
+    end_key: &[u8],
+) -> Turn
+    requires { ⌜ Prepared (now table) (now live) (now firsts) (now ends) × Followed (now table) (now «start_key») (now states) known × (known ≤ 1024) × (known ≤ length (now «start_key»)) ⌝ }
+    ensures { λ r. ⌜ Turned (now (table .entry)) (now («start_key» .entry)) (now («end_key» .entry)) (now (states .exit)) (r .matches) (r .known) ⌝ }
+{
+    if shares_dead(table, ends, states, known, start_key, end_key) {
+        return Turn {
+            known: known,
+            matches: false,
+        };
+    }
+    let common = keys::common_prefix_len(start_key, end_key);
+    let behind = follow(table, ends, start_key, states, known, common);
+    if is_dead(ends, states, behind) {
+        return Turn {
+            known: behind,
+            matches: false,
+        };
+    }
+    let base = state_behind(table, start_key, states, behind, common);
+    let matches = can_block_match_from(table, live, firsts, ends, base, common, start_key, end_key);
+    Turn {
+        known: behind,
+        matches: matches,
+    }
+}
+
+// Marks the n blocks of a directory, 0 or 1 each. Returns how many are 1.
 fn mark_blocks(directory: &[u8], n: usize, table: &[u8], marks: &mut [u8]) -> usize
     requires { ⌜ ((1 ≤ n) × (n ≤ 65536)) × (keysOutside (now directory) n n ≡ false) × WellFormed (now table) × (n ≤ length (now marks)) ⌝ }
     ensures { λ r. ⌜ Listing (now (table .entry)) (keyOf (now (directory .entry)) n) n (now (marks .entry)) (now (marks .exit)) r ⌝ }
@@ -98,20 +181,18 @@ fn mark_blocks(directory: &[u8], n: usize, table: &[u8], marks: &mut [u8]) -> us
     while i < n {
         let start_key = key(directory, n, i - 1);
         let end_key = key(directory, n, i);
-        let common = keys::common_prefix_len(start_key, end_key);
-        known = follow(table, start_key, &mut states, known, common);
-        let base = state_behind(table, start_key, &states, known, common);
-        let matches = can_block_match_from(
+        let next = match_block(
             table,
             &live,
             &firsts,
             &ends,
-            base,
-            common,
+            &mut states,
+            known,
             start_key,
             end_key,
         );
-        count += mark(marks, i, matches);
+        known = next.known;
+        count += mark(marks, i, next.matches);
         i += 1;
     }
     count

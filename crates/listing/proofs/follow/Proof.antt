@@ -14,10 +14,10 @@ use Rattle.listing.proofs.follow.Statement.{statement}
 use Rattle.listing.proofs.follow.Tie as tie
 
 abbrev Inv-loop : tie.InvT-loop
-Inv-loop table key states₀ known n end i₀ state₀ states i state = (i ≤ end) × (state ≡ run table 0 (take i key)) × (state < stateCount table) × Followed table key states i
+Inv-loop table ends key states₀ known n end i₀ state₀ states i state = (i ≤ end) × (state ≡ run table 0 (take i key)) × (state < stateCount table) × Followed table key states i
 
 abbrev μ-loop : tie.MeasureT-loop
-μ-loop table key states₀ known n end i₀ state₀ states i state = end - i
+μ-loop table ends key states₀ known n end i₀ state₀ states i state = end - i
 
 -- where the walk ends and starts
 end-is : (c : tie.Joined1 Inv-loop μ-loop) → c .if1 .end ≡ min (c .before .before .before .args .n) 1024
@@ -50,39 +50,51 @@ loop-holds c =
     let h : j .if2 .i ≤ a .known = omega (arith, start-is j) in
     (omega (arith, start-is j), p .1 .each (j .if2 .i) h, known-state j, followed-less (a .table .now) (a .key .now) (a .states .now) (a .known) (j .if2 .i) (p .1) h)
 
+mul-if3 : tie.Need-mul-if3 Inv-loop μ-loop
+mul-if3 c = search needs
+
+element-copy-out-if3 : tie.Need-element-copy-out-if3 Inv-loop μ-loop
+element-copy-out-if3 c = omega (arith, c .before .loop .inv .2, c .before .before .before .before .before .before .before .pre .0 .few)
+
+returns : tie.Need-returns Inv-loop μ-loop
+returns c =
+    let l = c .before .before .before .loop in
+    let e = end-is (c .before .before .before .before .before .before) in
+    (omega (arith, l .inv .0), omega (arith, l .inv .0), l .inv .3)
+
 shared-slice-read-accept : tie.Need-shared-slice-read-accept Inv-loop μ-loop
-shared-slice-read-accept c = omega (arith, end-is (c .before .before .before .before .before))
+shared-slice-read-accept c = omega (arith, end-is (c .before .before .before .before .before .before .before))
 
 accept-requires : tie.Need-accept-requires Inv-loop μ-loop
 accept-requires c κs = search needs
 
 add-i : tie.Need-add-i Inv-loop μ-loop
-add-i c = omega (arith, end-is (c .before .before .before .before .before .before .before))
+add-i c = omega (arith, end-is (c .before .before .before .before .before .before .before .before .before))
 
 cast-states : tie.Need-cast-states Inv-loop μ-loop
-cast-states c = omega (arith, c .before .accept .ensures, c .before .before .before .before .before .before .before .before .before .before .pre .0 .few)
+cast-states c = omega (arith, c .before .accept .ensures, c .before .before .before .before .before .before .before .before .before .before .before .before .pre .0 .few)
 
 element-write-states : tie.Need-element-write-states Inv-loop μ-loop
-element-write-states c = omega (arith, end-is (c .before .before .before .before .before .before .before))
+element-write-states c = omega (arith, end-is (c .before .before .before .before .before .before .before .before .before))
 
 loop-less : tie.Need-loop-less Inv-loop μ-loop
 loop-less c = search needs
 
 loop-again : tie.Need-loop-again Inv-loop μ-loop
 loop-again c =
-    let a = c .before .before .before .before .before .before .before .before .before .before .args in
-    let l = c .before .before .before .before .loop in
+    let a = c .before .before .before .before .before .before .before .before .before .before .before .before .args in
+    let l = c .before .before .before .before .before .before .loop in
     let t = a .table .now in
-    let e = end-is (c .before .before .before .before .before .before .before) in
+    let e = end-is (c .before .before .before .before .before .before .before .before .before) in
     let h : l .i < length (a .key .now) = omega arith in
     let r = c .before .accept .ensures .0 ∙ ap (λ (x : ℕ). next t x (getD (a .key .now) (l .i) 0)) (l .inv .1) ∙ sym (run-more t 0 (a .key .now) (l .i) h) in
     (omega arith, r, c .before .accept .ensures .1, followed-more t (a .key .now) (l .states) (l .i) (c .before .accept .result) (l .inv .3) (omega arith) r)
 
-returns : tie.Need-returns Inv-loop μ-loop
-returns c =
+returns-2 : tie.Need-returns-2 Inv-loop μ-loop
+returns-2 c =
     let l = c .before .loop in
     let e : l .i ≡ c .before .before .before .before .if1 .end = omega arith in
-    (end-is (c .before .before .before .before), rw e at (l .inv .3))
+    (omega (arith, end-is (c .before .before .before .before)), omega (arith, end-is (c .before .before .before .before)), rw e at (l .inv .3))
 
 pub follow-spec : {M : Type 1} → statement M
 follow-spec =
@@ -93,6 +105,9 @@ follow-spec =
     element-copy-out-state
     cast-state
     loop-holds
+    mul-if3
+    element-copy-out-if3
+    returns
     shared-slice-read-accept
     accept-requires
     add-i
@@ -100,4 +115,4 @@ follow-spec =
     element-write-states
     loop-less
     loop-again
-    returns)
+    returns-2)

@@ -5,7 +5,6 @@ use Prim.Native.Nat.{ℕ, _+_, _-_, _≤_, _<_}
 use native.Mathlib.Nat.{zero-add}
 use native.Mathlib.Omega.{arith}
 use lib.ListN.{length, length-set}
-use Rattle.keys.proofs.Order.{commonPrefixLen-left}
 use Rattle.automaton.specs.Bits.{Exactly}
 use Rattle.directory.specs.Read.{keyOf}
 use Rattle.pruning.specs.Interval.{Marked}
@@ -13,7 +12,7 @@ use Rattle.pruning.specs.Prepared.{Prepared}
 use Rattle.listing.specs.Marks.{startAt}
 use Rattle.listing.specs.Followed.{Followed}
 use Rattle.listing.specs.Listing.{Listing}
-use Rattle.listing.proofs.Following.{followed-none, followed-next}
+use Rattle.listing.proofs.Following.{followed-none}
 use Rattle.listing.proofs.Outside.{each-inside}
 use Rattle.listing.proofs.Turns.{start-behind, listing-none, listing-turn, listing-over, listing-under, listing-length, listing-count, one-at-most}
 use Rattle.listing.proofs.mark_blocks.Statement.{statement}
@@ -21,7 +20,7 @@ use Rattle.listing.proofs.mark_blocks.Tie as tie
 
 abbrev Inv-loop : tie.InvT-loop
 Inv-loop directory n table marks₀ reach live firsts ends first count₀ states₀ known₀ i₀ marks count states known i =
-    (1 ≤ i) × (i ≤ n) × (known ≤ 1024) × Followed table (keyOf directory n (i - 1)) states known × Listing table (keyOf directory n) i marks₀ marks count
+    ((1 ≤ i) × (i ≤ n)) × ((known ≤ 1024) × (known ≤ length (keyOf directory n (i - 1)))) × Followed table (keyOf directory n (i - 1)) states known × Listing table (keyOf directory n) i marks₀ marks count
 
 abbrev μ-loop : tie.MeasureT-loop
 μ-loop directory n table marks₀ reach live firsts ends first count₀ states₀ known₀ i₀ marks count states known i =
@@ -30,10 +29,6 @@ abbrev μ-loop : tie.MeasureT-loop
 -- what is worked out of the table
 prepared : (c : tie.After-ends Inv-loop μ-loop) → Prepared (c .before .before .before .before .before .before .before .before .before .args .table .now) (c .before .before .before .before .live .result) (c .before .before .firsts .result) (c .ends .result)
 prepared c = record { ok = c .before .before .before .before .before .before .before .before .before .pre .2; words = c .before .before .before .before .live .ensures; lowest = c .before .before .firsts .ensures; highest = c .ends .ensures }
-
--- the common prefix is no longer than the key before
-within : (c : tie.After-common-prefix-len Inv-loop μ-loop) → c .common-prefix-len .result ≤ length (c .before .before .key2 .result .now)
-within c = omega (arith, c .common-prefix-len .ensures, commonPrefixLen-left (c .before .before .key2 .result .now) (c .before .key3 .result .now))
 
 reach-requires : tie.Need-reach-requires Inv-loop μ-loop
 reach-requires c κs = search needs
@@ -64,16 +59,16 @@ loop-holds c =
     let e : Exactly (c .before .before .before .before .can-block-match .result) (Marked (a .table .now) (startAt f 0) (f 0)) = rw (c .before .before .before .before .before .before .before .before .key .ensures) at (c .before .before .before .before .can-block-match .ensures) in
     let m = c .before .before .mark .ensures in
     let l = listing-turn (a .table .now) f 0 0 (a .marks .now) (a .marks .now) (listing-none (a .table .now) f (a .marks .now)) (c .before .before .before .before .can-block-match .result) (c .before .before .mark .result) _ e (m .0) (m .1) in
-    (omega arith, p .0 .0, omega arith, followed-none _ _ _ refl refl, listing-under (a .marks .now) _ _ (m .1) (omega arith) (rw (zero-add (c .before .before .mark .result)) at l))
+    ((omega arith, p .0 .0), (omega arith, omega arith), followed-none _ _ _ refl refl, listing-under (a .marks .now) _ _ (m .1) (omega arith) (rw (zero-add (c .before .before .mark .result)) at l))
 
 sub-key : tie.Need-sub-key Inv-loop μ-loop
-sub-key c = omega (arith, c .before .loop .inv .0)
+sub-key c = omega (arith, c .before .loop .inv .0 .0)
 
 key-requires-2 : tie.Need-key-requires-2 Inv-loop μ-loop
 key-requires-2 c κs =
     let s = c .before .before .before .before .before .before .before .before .before .before .before .before .before .before .before .before .before .before .before .before in
     let l = c .before .loop in
-    let h : l .i - 1 < s .args .n = omega (arith, c .loop-test .taken, l .inv .0) in
+    let h : l .i - 1 < s .args .n = omega (arith, c .loop-test .taken, l .inv .0 .0) in
     (s .pre .0 .1, h, each-inside _ _ _ (s .pre .1) (l .i - 1) h)
 
 key-requires-3 : tie.Need-key-requires-3 Inv-loop μ-loop
@@ -82,61 +77,53 @@ key-requires-3 c κs =
     let l = c .before .before .loop in
     (s .pre .0 .1, c .before .loop-test .taken, each-inside _ _ _ (s .pre .1) (l .i) (c .before .loop-test .taken))
 
-common-prefix-len-requires : tie.Need-common-prefix-len-requires Inv-loop μ-loop
-common-prefix-len-requires c κs = search needs
-
-follow-requires : tie.Need-follow-requires Inv-loop μ-loop
-follow-requires c κs = (c .before .before .before .before .before .before .before .before .before .before .before .before .before .before .before .before .before .before .before .before .before .before .before .before .pre .2, rw (c .before .before .before .key2 .ensures) (c .before .before .before .before .before .loop .inv .3), c .before .before .before .before .before .loop .inv .2, within (c .before))
-
-state-behind-requires : tie.Need-state-behind-requires Inv-loop μ-loop
-state-behind-requires c κs = (c .before .before .before .before .before .before .before .before .before .before .before .before .before .before .before .before .before .before .before .before .before .before .before .before .before .before .pre .2, c .before .follow .ensures .1, omega (arith, c .before .follow .ensures .0), within (c .before .before .before))
-
-can-block-match-from-requires : tie.Need-can-block-match-from-requires Inv-loop μ-loop
-can-block-match-from-requires c κs = (prepared (c .before .before .before .before .before .before .before .before .before .before .before .before .before .before .before .before .before .before .before .before .before), c .before .before .before .before .before .before .before .common-prefix-len .ensures, c .before .before .before .state-behind .ensures .0, c .before .before .before .state-behind .ensures .1)
+match-block-requires : tie.Need-match-block-requires Inv-loop μ-loop
+match-block-requires c κs =
+    let l = c .before .before .before .before .before .before .before .loop in
+    (prepared (c .before .before .before .before .before .before .before .before .before .before .before .before .before .before .before .before .before), rw (c .before .before .before .before .before .key2 .ensures) (l .inv .2), l .inv .1 .0, rw (c .before .before .before .before .before .key2 .ensures) (l .inv .1 .1))
 
 mark-requires-2 : tie.Need-mark-requires-2 Inv-loop μ-loop
 mark-requires-2 c κs =
-    let h : c .before .before .before .before .before .before .before .before .before .before .before .before .before .loop .i < c .before .before .before .before .before .before .before .before .before .before .before .before .before .before .before .before .before .before .before .before .before .before .before .before .before .before .before .before .before .before .before .before .args .n = c .before .before .before .before .before .before .before .before .before .before .before .before .loop-test .taken in
-    omega (arith, listing-length (c .before .before .before .before .before .before .before .before .before .before .before .before .before .loop .inv .4), c .before .before .before .before .before .before .before .before .before .before .before .before .before .before .before .before .before .before .before .before .before .before .before .before .before .before .before .before .before .before .before .before .pre .3)
+    let h : c .before .before .before .before .before .before .before .before .before .loop .i < c .before .before .before .before .before .before .before .before .before .before .before .before .before .before .before .before .before .before .before .before .before .before .before .before .before .before .before .before .args .n = c .before .before .before .before .before .before .before .before .loop-test .taken in
+    omega (arith, listing-length (c .before .before .before .before .before .before .before .before .before .loop .inv .3), c .before .before .before .before .before .before .before .before .before .before .before .before .before .before .before .before .before .before .before .before .before .before .before .before .before .before .before .before .pre .3)
 
 add-count : tie.Need-add-count Inv-loop μ-loop
 add-count c =
-    let h : c .before .before .before .before .before .before .before .before .before .before .before .before .before .before .before .before .loop .i < c .before .before .before .before .before .before .before .before .before .before .before .before .before .before .before .before .before .before .before .before .before .before .before .before .before .before .before .before .before .before .before .before .before .before .before .args .n = c .before .before .before .before .before .before .before .before .before .before .before .before .before .before .before .loop-test .taken in
-    omega (arith, listing-count (c .before .before .before .before .before .before .before .before .before .before .before .before .before .before .before .before .loop .inv .4), one-at-most (c .before .before .before .before .can-block-match-from .result), c .before .before .mark2 .ensures .0, c .before .before .before .before .before .before .before .before .before .before .before .before .before .before .before .before .before .before .before .before .before .before .before .before .before .before .before .before .before .before .before .before .before .before .before .pre .0 .1)
+    let h : c .before .before .before .before .before .before .before .before .before .before .before .before .loop .i < c .before .before .before .before .before .before .before .before .before .before .before .before .before .before .before .before .before .before .before .before .before .before .before .before .before .before .before .before .before .before .before .args .n = c .before .before .before .before .before .before .before .before .before .before .before .loop-test .taken in
+    omega (arith, listing-count (c .before .before .before .before .before .before .before .before .before .before .before .before .loop .inv .3), one-at-most (c .before .before .before .before .match-block .result .matches), c .before .before .mark2 .ensures .0, c .before .before .before .before .before .before .before .before .before .before .before .before .before .before .before .before .before .before .before .before .before .before .before .before .before .before .before .before .before .before .before .pre .0 .1)
 
 add-i : tie.Need-add-i Inv-loop μ-loop
 add-i c =
-    let h : c .before .before .before .before .before .before .before .before .before .before .before .before .before .before .before .before .loop .i < c .before .before .before .before .before .before .before .before .before .before .before .before .before .before .before .before .before .before .before .before .before .before .before .before .before .before .before .before .before .before .before .before .before .before .before .args .n = c .before .before .before .before .before .before .before .before .before .before .before .before .before .before .before .loop-test .taken in
-    omega (arith, c .before .before .before .before .before .before .before .before .before .before .before .before .before .before .before .before .before .before .before .before .before .before .before .before .before .before .before .before .before .before .before .before .before .before .before .pre .0 .1)
+    let h : c .before .before .before .before .before .before .before .before .before .before .before .before .loop .i < c .before .before .before .before .before .before .before .before .before .before .before .before .before .before .before .before .before .before .before .before .before .before .before .before .before .before .before .before .before .before .before .args .n = c .before .before .before .before .before .before .before .before .before .before .before .loop-test .taken in
+    omega (arith, c .before .before .before .before .before .before .before .before .before .before .before .before .before .before .before .before .before .before .before .before .before .before .before .before .before .before .before .before .before .before .before .pre .0 .1)
 
 loop-less : tie.Need-loop-less Inv-loop μ-loop
 loop-less c =
-    let h : c .before .before .before .before .before .before .before .before .before .before .before .before .before .before .before .before .loop .i < c .before .before .before .before .before .before .before .before .before .before .before .before .before .before .before .before .before .before .before .before .before .before .before .before .before .before .before .before .before .before .before .before .before .before .before .args .n = c .before .before .before .before .before .before .before .before .before .before .before .before .before .before .before .loop-test .taken in
+    let h : c .before .before .before .before .before .before .before .before .before .before .before .before .loop .i < c .before .before .before .before .before .before .before .before .before .before .before .before .before .before .before .before .before .before .before .before .before .before .before .before .before .before .before .before .before .before .before .args .n = c .before .before .before .before .before .before .before .before .before .before .before .loop-test .taken in
     omega arith
 
 loop-again : tie.Need-loop-again Inv-loop μ-loop
 loop-again c =
-    let l = c .before .before .before .before .before .before .before .before .before .before .before .before .before .before .before .before .loop in
-    let a = c .before .before .before .before .before .before .before .before .before .before .before .before .before .before .before .before .before .before .before .before .before .before .before .before .before .before .before .before .before .before .before .before .before .before .before .args in
+    let l = c .before .before .before .before .before .before .before .before .before .before .before .before .loop in
+    let a = c .before .before .before .before .before .before .before .before .before .before .before .before .before .before .before .before .before .before .before .before .before .before .before .before .before .before .before .before .before .before .before .args in
     let f = keyOf (a .directory .now) (a .n) in
-    let h : l .i < a .n = c .before .before .before .before .before .before .before .before .before .before .before .before .before .before .before .loop-test .taken in
-    let e : Exactly (c .before .before .before .before .can-block-match-from .result) (Marked (a .table .now) (startAt f (l .i)) (f (l .i))) =
-    rw (start-behind f (l .i) (l .inv .0), ← (c .before .before .before .before .before .before .before .before .before .before .before .before .before .before .key2 .ensures), ← (c .before .before .before .before .before .before .before .before .before .before .before .before .before .key3 .ensures)) (c .before .before .before .before .can-block-match-from .ensures) in
+    let h : l .i < a .n = c .before .before .before .before .before .before .before .before .before .before .before .loop-test .taken in
+    let r = c .before .before .before .before .match-block .ensures in
+    let e : Exactly (c .before .before .before .before .match-block .result .matches) (Marked (a .table .now) (startAt f (l .i)) (f (l .i))) =
+    rw (start-behind f (l .i) (l .inv .0 .0), ← (c .before .before .before .before .before .before .before .before .before .before .key2 .ensures), ← (c .before .before .before .before .before .before .before .before .before .key3 .ensures)) (r .right) in
     let m = c .before .before .mark2 .ensures in
-    let k = c .before .before .before .before .before .before .before .before .before .before .follow .ensures in
     let q : l .i + 1 - 1 ≡ l .i = omega arith in
-    let w : Followed (a .table .now) (c .before .before .before .before .before .before .before .before .before .before .before .before .before .key3 .result .now) _ (c .before .before .before .before .before .before .before .before .before .before .follow .result) = followed-next (a .table .now) (c .before .before .before .before .before .before .before .before .before .before .before .before .before .before .key2 .result .now) (c .before .before .before .before .before .before .before .before .before .before .before .before .before .key3 .result .now) _ (c .before .before .before .before .before .before .before .before .before .before .follow .result) (k .1) (omega (arith, k .0, c .before .before .before .before .before .before .before .before .before .before .before .before .common-prefix-len .ensures)) in
-    (omega arith, omega arith, omega (arith, k .0), rw (q, ← (c .before .before .before .before .before .before .before .before .before .before .before .before .before .key3 .ensures)) w, listing-turn (a .table .now) f (l .i) (l .count) _ (l .marks) (l .inv .4) (c .before .before .before .before .can-block-match-from .result) (c .before .before .mark2 .result) _ e (m .0) (m .1))
+    ((omega arith, omega arith), (r .few, rw (q, ← (c .before .before .before .before .before .before .before .before .before .key3 .ensures)) (r .within)), rw (q, ← (c .before .before .before .before .before .before .before .before .before .key3 .ensures)) (r .followed), listing-turn (a .table .now) f (l .i) (l .count) _ (l .marks) (l .inv .3) (c .before .before .before .before .match-block .result .matches) (c .before .before .mark2 .result) _ e (m .0) (m .1))
 
 same-length : tie.Need-same-length Inv-loop μ-loop
-same-length c = listing-length (c .before .loop .inv .4) ∙ ap length (c .before .before .before .before .mark .ensures .1) ∙ simp length-set
+same-length c = listing-length (c .before .loop .inv .3) ∙ ap length (c .before .before .before .before .mark .ensures .1) ∙ simp length-set
 
 returns : tie.Need-returns Inv-loop μ-loop
 returns c =
     let l = c .before .loop in
     let h : c .before .before .before .before .before .before .before .before .before .before .before .before .before .before .before .before .before .before .before .before .args .n ≤ l .i = c .loop-test .left in
-    let e : l .i ≡ c .before .before .before .before .before .before .before .before .before .before .before .before .before .before .before .before .before .before .before .before .args .n = omega (arith, l .inv .1) in
-    listing-over (c .before .before .before .before .before .before .before .before .before .before .before .before .before .before .before .before .before .before .before .before .args .marks .now) _ _ (c .before .before .before .before .mark .ensures .1) (c .before .before .before .before .before .before .before .before .before .before .before .before .before .before .before .before .before .before .before .before .pre .0 .0) (rw e at (l .inv .4))
+    let e : l .i ≡ c .before .before .before .before .before .before .before .before .before .before .before .before .before .before .before .before .before .before .before .before .args .n = omega (arith, l .inv .0 .1) in
+    listing-over (c .before .before .before .before .before .before .before .before .before .before .before .before .before .before .before .before .before .before .before .before .args .marks .now) _ _ (c .before .before .before .before .mark .ensures .1) (c .before .before .before .before .before .before .before .before .before .before .before .before .before .before .before .before .before .before .before .before .pre .0 .0) (rw e at (l .inv .3))
 
 pub mark-blocks-spec : {M : Type 1} → statement M
 mark-blocks-spec =
@@ -155,10 +142,7 @@ mark-blocks-spec =
     sub-key
     key-requires-2
     key-requires-3
-    common-prefix-len-requires
-    follow-requires
-    state-behind-requires
-    can-block-match-from-requires
+    match-block-requires
     mark-requires-2
     add-count
     add-i
