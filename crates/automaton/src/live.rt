@@ -3,23 +3,45 @@ use crate::bits::any_set;
 use crate::bits::highest;
 use crate::bits::lowest;
 ghost use mathlib.Core.Path.{_≡_};
-ghost use Prim.Native.Nat.{ℕ, _+_, _≤_, _<_};
+ghost use Prim.Native.Nat.{ℕ, _+_, _^_, _≤_, _<_};
 ghost use lib.ListN.{length, getD};
 ghost use Rattle.automaton.specs.Bits.{bit, Exactly};
 ghost use Rattle.automaton.specs.Table.{WellFormed, states};
 ghost use Rattle.automaton.specs.Words.{Reach};
 ghost use Rattle.automaton.specs.Live.{Live, LiveByte, First, End, Firsts, Ends};
 
-// Of the 64 next states from `at` on, the word of those that can match: the last one's bit first.
+// Of the eight next states from `at` on, the bits of those that can match: the last one's first.
+fn live_bits(table: &[u8], reach: u64, at: usize) -> u64
+    requires { ⌜ (at + 8 ≤ length (now table)) × ((j : ℕ) → j < 8 → getD (now table) (at + j) 0 < 64) ⌝ }
+    ensures { λ r. ⌜ r < 2 ^ 8 ⌝ }
+    ensures { λ r. ⌜ ((j : ℕ) → j < 8 → bit r j ≡ bit reach (getD (now (table .entry)) (at + j) 0)) ⌝ }
+{
+    let mut word: u64 = 0;
+    let mut j: usize = 8;
+    while j > 0 {
+        j -= 1;
+        word = word * 2 + ((reach >> table[at + j]) & 1);
+    }
+    word
+}
+
+// Of the 64 next states from `at` on, the word of those that can match: the last eight first. Eight that equal those behind them have the same bits.
 fn live_word(table: &[u8], reach: u64, at: usize) -> u64
     requires { ⌜ (at + 64 ≤ length (now table)) × ((j : ℕ) → j < 64 → getD (now table) (at + j) 0 < 64) ⌝ }
     ensures { λ r. ⌜ ((j : ℕ) → j < 64 → bit r j ≡ bit reach (getD (now (table .entry)) (at + j) 0)) ⌝ }
 {
+    let mut last = serialize::deserialize_u64(table, at + 56);
+    let mut bits = live_bits(table, reach, at + 56);
     let mut word: u64 = 0;
     let mut j: usize = 64;
     while j > 0 {
-        j -= 1;
-        word = word * 2 + ((reach >> table[at + j]) & 1);
+        j -= 8;
+        let eight = serialize::deserialize_u64(table, at + j);
+        if eight != last {
+            bits = live_bits(table, reach, at + j);
+            last = eight;
+        }
+        word = word * 256 + bits;
     }
     word
 }

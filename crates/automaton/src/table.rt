@@ -4,14 +4,14 @@ ghost use Prim.Native.Nat.{_+_, _*_, _≤_, _<_};
 ghost use Rattle.automaton.specs.Bits.{Exactly};
 ghost use Rattle.automaton.specs.Table.{tableNo, WellFormed, states, flag, next, anyFrom};
 
-// Whether some byte is at or above the bound. It looks at all of them: without a way out the loop takes many at once.
-fn any_from(bytes: &[u8], bound: usize) -> bool
+// Whether some byte is at or above the bound. It looks at all of them, byte against byte: so the loop takes many at once.
+fn any_from(bytes: &[u8], bound: u8) -> bool
     ensures { λ r. ⌜ r ≡ anyFrom bound (now (bytes .entry)) ⌝ }
 {
     let mut found = false;
     let mut i: usize = 0;
     while i < bytes.len() {
-        found = found | (bytes[i] as usize >= bound);
+        found = found | (bytes[i] >= bound);
         i += 1;
     }
     found
@@ -38,7 +38,7 @@ pub fn check(table: &[u8]) -> u32
     if any_from(&table[1..rows], 2) {
         return 22;
     }
-    if any_from(&table[rows..], m) {
+    if any_from(&table[rows..], m as u8) {
         return 23;
     }
     0

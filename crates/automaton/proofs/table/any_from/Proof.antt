@@ -22,9 +22,6 @@ loop-holds c = (search needs, refl)
 shared-slice-read-found : tie.Need-shared-slice-read-found Inv-loop μ-loop
 shared-slice-read-found c = search needs
 
-cast-found : tie.Need-cast-found Inv-loop μ-loop
-cast-found c = omega (arith, c .shared-slice-known .given (c .before .before .loop .i))
-
 add-i : tie.Need-add-i Inv-loop μ-loop
 add-i c = search needs
 
@@ -51,7 +48,6 @@ any-from-spec =
     μ-loop
     loop-holds
     shared-slice-read-found
-    cast-found
     add-i
     loop-less
     loop-again

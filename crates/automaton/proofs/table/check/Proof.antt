@@ -76,6 +76,9 @@ part-any-from-start-2 c = search needs
 part-any-from-end-2 : tie.Need-part-any-from-end-2
 part-any-from-end-2 c = search needs
 
+cast-any-from : tie.Need-cast-any-from
+cast-any-from c = omega arith
+
 any-from-requires-2 : tie.Need-any-from-requires-2
 any-from-requires-2 c κs = search needs
 
@@ -106,6 +109,7 @@ check-spec =
     sub-any-from-2
     part-any-from-start-2
     part-any-from-end-2
+    cast-any-from
     any-from-requires-2
     returns-6
     returns-7)
