@@ -13,7 +13,7 @@
  * - Parts that are lent to one call don't overlap, unless both are const. An out-parameter lies in none of them and is
  *   no other out-parameter.
  * - A bool is 0 or 1.
- * - Stack: rosmarel_store takes about 1.6 MB, however few the blocks; no other call takes more than 64 KB.
+ * - Stack: no call takes more than 16 KB.
  */
 #ifndef ROSMAREL_H
 #define ROSMAREL_H

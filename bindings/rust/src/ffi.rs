@@ -256,8 +256,7 @@ pub fn finish_len(n: u64, blocks: &[u64], keys: &[u8]) -> Result<usize, Refusal>
     answer(number, total as usize)
 }
 
-/// Writes the store of these blocks to the front of `out`, and gives its length. It takes 1.6 MB of stack, and its code
-/// touches each page of them in turn: too short a stack ends the process at the guard page.
+/// Writes the store of these blocks to the front of `out`, and gives its length.
 pub fn store(blocks: &[BlockAddr], out: &mut [u8]) -> Result<usize, Refusal> {
     let mut len = 0;
     // SAFETY: as in `add`; `BlockAddr` has the C layout.

@@ -9,9 +9,6 @@ const BLOCK_FIELDS: usize = 14;
 
 /// The address store alone of a list of blocks, which may be empty: an index without keys.
 ///
-/// It takes 1.6 MB of the caller's stack. A Rust thread has 2 MB unless it was told otherwise; on a thread with less the
-/// process ends at the stack's guard page, as with any overflow.
-///
 /// # Errors
 ///
 /// In this order, each over all blocks: [`BlockNumbers`](Refusal::BlockNumbers), [`BlockJoin`](Refusal::BlockJoin),
