@@ -133,7 +133,7 @@ between-same t s x a b hx = (
 
 -- the start's first byte below the end's
 abbrev pub Parted : List ℕ → (s x y : ℕ) (a b : List ℕ) → Type 0
-Parted t s x y a b = LiveByte t s (x + 1) y ⊎ (MatchAbove t (next t s x) a ⊎ ((flag t (next t s y) ≡ 1) ⊎ MatchBetween t (next t s y) [] b))
+Parted t s x y a b = MatchAbove t (next t s x) a ⊎ (LiveByte t s (x + 1) y ⊎ ((flag t (next t s y) ≡ 1) ⊎ MatchBetween t (next t s y) [] b))
 
 pub between-lower : (t : List ℕ) (s x y : ℕ) (a b : List ℕ) → x < y → y < 256 → MatchBetween t s (x ∷ a) (y ∷ b) ↔ Parted t s x y a b
 between-lower t s x y a b l hy = (
@@ -141,9 +141,9 @@ between-lower t s x y a b l hy = (
       (λ e p. absurd (not-≺-nil (x ∷ a) (p .0)))
       (λ c w h i p. both c w i (≺-heads x c a w (p .0)) (≼-heads c y w b (p .1))),
   ⊎-elim
-      (byte-word In (omega arith) (λ c w lo hi. (≺-lower x c a w (omega arith), ≼-lower c y w b hi)))
-      (⊎-elim
       (word-cons s x In (λ w. a ≺ w) (omega arith) (λ w p. (≺-same x a w p, ≼-lower x y w b l)))
+      (⊎-elim
+      (byte-word In (omega arith) (λ c w lo hi. (≺-lower x c a w (omega arith), ≼-lower c y w b hi)))
       (λ m. word-cons s y In (λ w. w ≼ b) hy (λ w p. (≺-lower x y a w l, ≼-same y w b p)) (upto-split t (next t s y) b .1 m))),
 )
   where
@@ -151,9 +151,9 @@ between-lower t s x y a b l hy = (
     In w = ((x ∷ a) ≺ w) × (w ≼ (y ∷ b))
 
     both : (c : ℕ) (w : List ℕ) → Hits t (next t s c) w → (x < c) ⊎ ((x ≡ c) × (a ≺ w)) → (c < y) ⊎ ((c ≡ y) × (w ≼ b)) → Parted t s x y a b
-    both c w i (inl lo) (inl hi) = inl (record { byte = c; low = omega arith; high = hi; rest = can-match-hits i })
+    both c w i (inl lo) (inl hi) = inr (inl (record { byte = c; low = omega arith; high = hi; rest = can-match-hits i }))
     both c w i (inl lo) (inr q) = inr (inr (upto-split t (next t s y) b .0 (from s (λ v. v ≼ b) c y (q .0) i (q .1))))
-    both c w i (inr q) hi = inr (inl (from s (λ v. a ≺ v) c x (sym (q .0)) i (q .1)))
+    both c w i (inr q) hi = inl (from s (λ v. a ≺ v) c x (sym (q .0)) i (q .1))
 
 -- the same by the bytes of two keys
 pub between-heads : (t : List ℕ) (s : ℕ) (a b : List ℕ) → 0 < length a → 0 < length b → getD a 0 0 < getD b 0 0 → getD b 0 0 < 256

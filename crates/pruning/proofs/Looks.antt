@@ -78,9 +78,9 @@ module _ (t : List ℕ) (s x y : ℕ) (a b : List ℕ) (l : x < y) (h : y < 256)
   parted-byte : Parted t s x y a b → LiveByte t s x (y + 1)
   parted-byte =
       ⊎-elim
-      (λ m. record { byte = m .byte; low = omega (arith, m .low); high = omega (arith, m .high); rest = m .rest })
-      (⊎-elim
       (λ m. byte-at x x (y + 1) (omega arith) (omega arith) (word-any _ m))
+      (⊎-elim
+      (λ m. record { byte = m .byte; low = omega (arith, m .low); high = omega (arith, m .high); rest = m .rest })
       (λ m. byte-at y x (y + 1) (omega arith) (omega arith) (upto-can t (next t s y) b m)))
 
   pub parted-low : (end : ℕ) → End t s end → end ≤ x → Parted t s x y a b → ⊥

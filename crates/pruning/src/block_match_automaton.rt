@@ -93,6 +93,10 @@ fn match_between(
     if firsts[state] > end_range as u16 {
         return false;
     }
+    let start_state = accept(table, state, start_range);
+    if match_range_start(table, ends, &start_key[1..], start_state) {
+        return true;
+    }
     if any_byte(
         table,
         live,
@@ -100,10 +104,6 @@ fn match_between(
         start_range as usize + 1,
         end_range as usize,
     ) {
-        return true;
-    }
-    let start_state = accept(table, state, start_range);
-    if match_range_start(table, ends, &start_key[1..], start_state) {
         return true;
     }
     let end_state = accept(table, state, end_range);

@@ -62,8 +62,8 @@ high c =
     let d = c .before .before .before .before in
     parted-high (table d) (state d) (start-range d) (end-range d) (drop 1 (start-key d)) (drop 1 (end-key d)) (p .4) (end-byte d) _ (p .0 .lowest .each (state d) (p .1)) (c .if2 .taken)
 
-above : (c : tie.After-match-range-start) → let d = c .before .before .before .before .before .before .before .before .before in Exactly (c .match-range-start .result) (MatchAbove (table d) (next (table d) (state d) (start-range d)) (drop 1 (start-key d)))
-above c = let e = part-rest (start-key (c .before .before .before .before .before .before .before .before .before)) 1 in rw (c .before .before .accept .ensures .0, e) at (c .match-range-start .ensures)
+above : (c : tie.After-match-range-start) → let d = c .before .before .before .before .before .before .before in Exactly (c .match-range-start .result) (MatchAbove (table d) (next (table d) (state d) (start-range d)) (drop 1 (start-key d)))
+above c = let e = part-rest (start-key (c .before .before .before .before .before .before .before)) 1 in rw (c .before .before .accept .ensures .0, e) at (c .match-range-start .ensures)
 
 here : (c : tie.After-is-match) → let d = c .before .before .before .before .before .before .before .before .before .before .before .before in Exactly (c .is-match .result) (flag (table d) (next (table d) (state d) (end-range d)) ≡ 1)
 here c = rw (c .before .accept2 .ensures .0) at (c .is-match .ensures)
@@ -98,21 +98,6 @@ cast-if2 c = omega (arith, end-byte (c .before .before .before))
 returns-2 : tie.Need-returns-2
 returns-2 c = λ m. high c (mid (c .before .before .before .before) .0 m)
 
-cast-any-byte : tie.Need-cast-any-byte
-cast-any-byte c = omega (arith, start-byte (c .before .before .before .before))
-
-add-any-byte : tie.Need-add-any-byte
-add-any-byte c = omega (arith, start-byte (c .before .before .before .before))
-
-cast-any-byte-2 : tie.Need-cast-any-byte-2
-cast-any-byte-2 c = omega (arith, end-byte (c .before .before .before .before))
-
-any-byte-requires : tie.Need-any-byte-requires
-any-byte-requires c κs = (search needs, search needs, search needs, omega (arith, end-byte (c .before .before .before .before)))
-
-returns-3 : tie.Need-returns-3
-returns-3 c = mid (c .before .before .before .before .before .before) .1 (inl (when-true (c .before .any-byte .ensures) (c .if3 .taken)))
-
 accept-requires : tie.Need-accept-requires
 accept-requires c κs = search needs
 
@@ -128,8 +113,23 @@ part-match-range-start-end c = search needs
 match-range-start-requires : tie.Need-match-range-start-requires
 match-range-start-requires c κs = search needs
 
+returns-3 : tie.Need-returns-3
+returns-3 c = mid (c .before .before .before .before .before .before .before .before) .1 (inl (when-true (above (c .before)) (c .if3 .taken)))
+
+cast-any-byte : tie.Need-cast-any-byte
+cast-any-byte c = omega (arith, start-byte (c .before .before .before .before .before .before .before .before))
+
+add-any-byte : tie.Need-add-any-byte
+add-any-byte c = omega (arith, start-byte (c .before .before .before .before .before .before .before .before))
+
+cast-any-byte-2 : tie.Need-cast-any-byte-2
+cast-any-byte-2 c = omega (arith, end-byte (c .before .before .before .before .before .before .before .before))
+
+any-byte-requires : tie.Need-any-byte-requires
+any-byte-requires c κs = (search needs, search needs, search needs, omega (arith, end-byte (c .before .before .before .before .before .before .before .before)))
+
 returns-4 : tie.Need-returns-4
-returns-4 c = mid (c .before .before .before .before .before .before .before .before .before .before) .1 (inr (inl (when-true (above (c .before)) (c .if4 .taken))))
+returns-4 c = mid (c .before .before .before .before .before .before .before .before .before .before) .1 (inr (inl (when-true (c .before .any-byte .ensures) (c .if4 .taken))))
 
 accept-requires-2 : tie.Need-accept-requires-2
 accept-requires-2 c κs = search needs
@@ -155,8 +155,8 @@ match-range-end-requires c κs = search needs
 returns-6 : tie.Need-returns-6
 returns-6 c =
     let d = c .before .before .before .before .before .before .before .before .before .before .before .before .before .before .before in
-    let r₁ = past (mid d) (when-false (c .before .before .before .before .before .before .before .before .before .before .any-byte .ensures) (c .before .before .before .before .before .before .before .before .before .if3 .left)) in
-    let r₂ = past r₁ (when-false (above (c .before .before .before .before .before .before)) (c .before .before .before .before .before .if4 .left)) in
+    let r₁ = past (mid d) (when-false (above (c .before .before .before .before .before .before .before .before)) (c .before .before .before .before .before .before .before .if3 .left)) in
+    let r₂ = past r₁ (when-false (c .before .before .before .before .before .before .any-byte .ensures) (c .before .before .before .before .before .if4 .left)) in
     let r₃ = past r₂ (when-false (here (c .before .before .before)) (c .before .before .if5 .left)) in
     let e = part-rest (end-key d) 1 in
     exactly-map (c .match-range-end .result) (r₃ .1) (r₃ .0) (rw (c .before .before .before .before .accept2 .ensures .0, e) at (c .match-range-end .ensures))
@@ -175,16 +175,16 @@ match-between-spec =
     element-copy-out-if2
     cast-if2
     returns-2
-    cast-any-byte
-    add-any-byte
-    cast-any-byte-2
-    any-byte-requires
-    returns-3
     accept-requires
     sub-match-range-start
     part-match-range-start-start
     part-match-range-start-end
     match-range-start-requires
+    returns-3
+    cast-any-byte
+    add-any-byte
+    cast-any-byte-2
+    any-byte-requires
     returns-4
     accept-requires-2
     is-match-requires
