@@ -23,17 +23,13 @@ impl Numbers {
     }
 }
 
+/// Kinds of keys.
 #[derive(Clone, Copy, Debug, PartialEq, Eq)]
 pub enum Keys {
-    /// 8 random bytes
     Short,
-    /// 100 letters that all share, 8 digits, 0 to 91 times m, z
     Shared,
-    /// 8 digits, 91 to 191 times m, z
     Early,
-    /// 1,000 letters that all share, 8 digits, 15 times m, z
     SharedLongest,
-    /// 8 digits, 1,015 times m, z
     EarlyLongest,
 }
 
@@ -53,6 +49,17 @@ impl Keys {
             Keys::Early => "long-early",
             Keys::SharedLongest => "1024-shared",
             Keys::EarlyLongest => "1024-early",
+        }
+    }
+
+    /// How the keys are made, for the document.
+    pub fn story(self) -> &'static str {
+        match self {
+            Keys::Short => "8 random bytes, sorted",
+            Keys::Shared => "100 letters that all keys share, 8 digits that count, 0 to 91 times m at random, z",
+            Keys::Early => "8 digits that count, 91 to 191 times m at random, z",
+            Keys::SharedLongest => "1,000 letters that all keys share, 8 digits that count, 15 times m, z",
+            Keys::EarlyLongest => "8 digits that count, 1,015 times m, z",
         }
     }
 

@@ -7,31 +7,36 @@ use tantivy_sstable::access;
 use crate::ffi;
 use crate::inputs::{Input, Keys, Numbers, theirs};
 use crate::measure::side;
-use crate::report::{Bar, Report, Row};
+use crate::report::{Report, Row};
 
-const QUERIES: usize = 4_096;
+/// Questions in one piece of work, made beforehand.
+const QUESTIONS: usize = 4_096;
 
-fn row(what: &'static str, input: &Input, bar: Bar) -> Row {
-    Row {
-        what,
-        load: input.kind.name().to_string(),
-        n: input.n,
-        sides: Vec::new(),
-        unit: "call",
-        bytes: None,
-        bar,
-        note: String::new(),
+pub fn measure(report: &mut Report, input: &Input) {
+    // ids and ordinals don't look at keys
+    if input.kind == Keys::Short {
+        by_id(report, input);
+        by_ordinal(report, input);
     }
+    locate_by_key(report, input);
+    by_key(report, input);
 }
 
-/// Random ids, all of them there.
-pub fn by_id(report: &mut Report, input: &Input) {
-    let what = "get by id";
-    if !report.wants(what, input.kind.name(), input.n) {
+/// The store of the index, open on the Rust's side.
+fn store(input: &Input) -> access::Store {
+    let end = input.index.len() - 8;
+    access::Store::open(&input.index[input.opened[2] as usize..end])
+}
+
+fn by_id(report: &mut Report, input: &Input) {
+    let row = Row::new("get by id", input.kind.name(), input.n).held(1.0);
+    if !report.wants(row.what, &row.load, row.n) {
         return;
     }
     let mut numbers = Numbers(1);
-    let ids: Vec<u64> = (0..QUERIES).map(|_| numbers.below(input.n) as u64).collect();
+    let ids: Vec<u64> = (0..QUESTIONS)
+        .map(|_| numbers.below(input.n) as u64)
+        .collect();
     let store = store(input);
     for &id in &ids {
         let ours = ffi::get_block(&input.index, &input.opened, id).unwrap();
@@ -49,23 +54,20 @@ pub fn by_id(report: &mut Report, input: &Input) {
             black_box(store.get(id));
         }
     });
-    report.measure(row(what, input, Bar::AtMost(1.0)), &["ours", "rust"], vec![ours, rust], QUERIES);
+    report.measure(row, vec![("ours", ours), ("Rust", rust)], QUESTIONS);
 }
 
-fn store(input: &Input) -> access::Store {
-    let end = input.index.len() - 8;
-    access::Store::open(&input.index[input.opened[2] as usize..end])
-}
-
-/// Random ordinals up to the last block's first.
-pub fn by_ordinal(report: &mut Report, input: &Input) {
-    let what = "get by ordinal";
-    if !report.wants(what, input.kind.name(), input.n) {
+/// Ordinals up to 99 behind the last block's first.
+fn by_ordinal(report: &mut Report, input: &Input) {
+    let row = Row::new("get by ordinal", input.kind.name(), input.n).held(1.0);
+    if !report.wants(row.what, &row.load, row.n) {
         return;
     }
     let mut numbers = Numbers(2);
     let last = input.blocks[input.n - 1].first_ordinal as usize;
-    let ords: Vec<u64> = (0..QUERIES).map(|_| numbers.below(last + 100) as u64).collect();
+    let ords: Vec<u64> = (0..QUESTIONS)
+        .map(|_| numbers.below(last + 100) as u64)
+        .collect();
     let store = store(input);
     for &ord in &ords {
         let (id, block) = ffi::locate_with_ord(&input.index, &input.opened, ord).unwrap();
@@ -83,33 +85,24 @@ pub fn by_ordinal(report: &mut Report, input: &Input) {
             black_box(store.binary_search_ord(ord));
         }
     });
-    report.measure(row(what, input, Bar::AtMost(1.0)), &["ours", "rust"], vec![ours, rust], QUERIES);
+    report.measure(row, vec![("ours", ours), ("Rust", rust)], QUESTIONS);
 }
 
-/// Keys that some block holds: half of them are separators, half lie right behind one.
+/// Keys that some block may hold: separators, and every other one right behind a separator.
 fn wanted(input: &Input) -> Vec<Vec<u8>> {
     let mut numbers = Numbers(3);
-    (0..QUERIES)
-        .map(|i| {
-            let id = numbers.below(input.n);
-            if i % 2 == 0 || id == 0 {
-                input.keys[id].clone()
-            } else {
-                [&input.keys[id - 1][..], &[0]].concat()
-            }
+    (0..QUESTIONS)
+        .map(|i| match numbers.below(input.n) {
+            id if i % 2 == 0 || id == 0 => input.keys[id].clone(),
+            id => [&input.keys[id - 1][..], &[0]].concat(),
         })
         .collect()
 }
 
-pub fn by_key(report: &mut Report, input: &Input) {
-    locate(report, input);
-    with_address(report, input);
-}
-
-/// The id alone.
-fn locate(report: &mut Report, input: &Input) {
-    let what = "locate by key";
-    if !report.wants(what, input.kind.name(), input.n) {
+/// The id alone, beside three sorted lists of the same keys: the stand-in's, one of vectors, one of slices.
+fn locate_by_key(report: &mut Report, input: &Input) {
+    let row = Row::new("locate by key", input.kind.name(), input.n).held(1.0);
+    if !report.wants(row.what, &row.load, row.n) {
         return;
     }
     let keys = wanted(input);
@@ -118,7 +111,8 @@ fn locate(report: &mut Report, input: &Input) {
     for key in &keys {
         let id = ffi::locate_with_key(&input.index, &input.opened, key).unwrap();
         assert_eq!(rust_index.locate_with_key(key), Some(id));
-        assert_eq!(parts.partition_point(|part| part < &&key[..]), id as usize);
+        let place = parts.binary_search(&&key[..]).unwrap_or_else(|place| place);
+        assert_eq!(place as u64, id);
     }
     let ours = side(|| {
         let (index, opened) = black_box((&input.index[..], &input.opened));
@@ -132,30 +126,31 @@ fn locate(report: &mut Report, input: &Input) {
             black_box(index.locate_with_key(key));
         }
     });
-    let owned = side(|| {
+    let vectors = side(|| {
         let list = black_box(&input.keys[..]);
         for key in &keys {
             let _ = black_box(list.binary_search_by(|one| one[..].cmp(&key[..])));
         }
     });
-    let lent = side(|| {
+    let slices = side(|| {
         let list = black_box(&parts[..]);
         for key in &keys {
             let _ = black_box(list.binary_search_by(|one| (*one).cmp(&key[..])));
         }
     });
-    report.measure(
-        row(what, input, Bar::AtMost(1.0)),
-        &["ours", "rust", "Vec<Vec<u8>>", "Vec<&[u8]>"],
-        vec![ours, rust, owned, lent],
-        QUERIES,
-    );
+    let sides = vec![
+        ("ours", ours),
+        ("Rust", rust),
+        ("Vec<Vec<u8>>", vectors),
+        ("Vec<&[u8]>", slices),
+    ];
+    report.measure(row, sides, QUESTIONS);
 }
 
 /// The id and the address.
-fn with_address(report: &mut Report, input: &Input) {
-    let what = "get by key";
-    if !report.wants(what, input.kind.name(), input.n) {
+fn by_key(report: &mut Report, input: &Input) {
+    let row = Row::new("get by key", input.kind.name(), input.n).held(1.0);
+    if !report.wants(row.what, &row.load, row.n) {
         return;
     }
     let keys = wanted(input);
@@ -176,13 +171,5 @@ fn with_address(report: &mut Report, input: &Input) {
             black_box(index.get_block_with_key(key));
         }
     });
-    report.measure(row(what, input, Bar::AtMost(1.0)), &["ours", "rust"], vec![ours, rust], QUERIES);
-}
-
-pub fn all(report: &mut Report, input: &Input) {
-    if input.kind == Keys::Short {
-        by_id(report, input);
-        by_ordinal(report, input);
-    }
-    by_key(report, input);
+    report.measure(row, vec![("ours", ours), ("Rust", rust)], QUESTIONS);
 }

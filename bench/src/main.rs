@@ -1,39 +1,91 @@
-//! Times of the archive beside those of the crate's Rust.
+//! The driver: times of all rows, the table of ratios, and the document.
 
-#[allow(dead_code)]
-#[path = "../../bindings/rust/src/ffi.rs"]
-mod ffi;
-mod inputs;
-mod listing;
-mod lookups;
-mod measure;
-mod opening;
-mod patterns;
-mod report;
-mod writing;
+use std::env;
+use std::error::Error;
+use std::path::Path;
+use std::process::{Command, ExitCode};
 
-use rosmarel::{BlockAddr, Refusal};
-
-use inputs::{Input, Keys};
-use report::Report;
+use rosmarel_bench::inputs::{Input, Keys};
+use rosmarel_bench::report::{Options, Report, head};
+use rosmarel_bench::{document, listing, lookups, opening, writing};
 
 const SIZES: [usize; 8] = [2, 16, 128, 129, 1_000, 4_096, 16_384, 65_536];
 
-fn main() {
-    let mut words: Vec<String> = std::env::args().skip(1).collect();
-    let quick = words.iter().any(|word| word == "--quick");
-    words.retain(|word| word != "--quick");
-    let mut report = Report::new(quick, words);
+const USAGE: &str = "\
+bench/run [--repeat K]                      all rows; writes docs/BENCHMARKS.md and docs/plots
+bench/run --quick [--repeat K] [WORD...]    rows whose name has each word (as `listing`, `long-shared`, n=1000); writes nothing
+--repeat K gives each row K times as long; --plain also times listings of the Rust with a plainly built table";
+
+fn options() -> Option<Options> {
+    let mut options = Options {
+        quick: false,
+        plain: false,
+        repeat: 1,
+        words: Vec::new(),
+    };
+    let mut words = env::args().skip(1);
+    while let Some(word) = words.next() {
+        match word.as_str() {
+            "--quick" => options.quick = true,
+            "--plain" => options.plain = true,
+            "--repeat" => options.repeat = words.next()?.parse().ok()?,
+            _ if word.starts_with("--") => return None,
+            _ => options.words.push(word),
+        }
+    }
+    // the document has all rows
+    (options.quick || options.words.is_empty()).then_some(options)
+}
+
+fn measure(report: &mut Report) {
+    println!("{}", head());
     for kind in Keys::ALL {
         for n in SIZES {
-            if quick && !report.wants_some(kind, n) {
-                continue;
+            if report.wants_keys(kind, n) {
+                let input = Input::new(kind, n);
+                writing::measure(report, &input);
+                opening::measure(report, &input);
+                lookups::measure(report, &input);
+                listing::measure(report, &input);
             }
-            let input = Input::new(kind, n);
-            writing::all(&mut report, &input);
-            opening::all(&mut report, &input);
-            lookups::all(&mut report, &input);
-            listing::all(&mut report, &input);
+        }
+    }
+    let (held, over) = report.verdict();
+    println!("{held} ratios held to a bar, {over} over it");
+}
+
+/// What the program `memory` beside this one says.
+fn memory() -> Result<String, Box<dyn Error>> {
+    let program = env::current_exe()?.with_file_name("memory");
+    let ran = Command::new(program).output()?;
+    if !ran.status.success() {
+        return Err(String::from_utf8_lossy(&ran.stderr).into());
+    }
+    Ok(String::from_utf8(ran.stdout)?)
+}
+
+fn run(options: Options) -> Result<(), Box<dyn Error>> {
+    let quick = options.quick;
+    let mut report = Report::new(options);
+    measure(&mut report);
+    if !quick {
+        let docs = Path::new(env!("CARGO_MANIFEST_DIR")).join("../docs");
+        let archive = env::var("ROSMAREL_LIB_DIR").map(|folder| folder + "/librosmarel.a");
+        document::write(&report, &memory()?, archive.ok().as_deref(), &docs)?;
+    }
+    Ok(())
+}
+
+fn main() -> ExitCode {
+    let Some(options) = options() else {
+        eprintln!("{USAGE}");
+        return ExitCode::from(2);
+    };
+    match run(options) {
+        Ok(()) => ExitCode::SUCCESS,
+        Err(why) => {
+            eprintln!("bench: {why}");
+            ExitCode::FAILURE
         }
     }
 }

@@ -8,9 +8,9 @@ use tantivy_sstable::access;
 use crate::ffi;
 use crate::inputs::Input;
 use crate::measure::side;
-use crate::report::{Bar, Report, Row};
+use crate::report::{Report, Row};
 
-/// The sum of all bytes. The compiler vectorises a sum of 32 bits, one of 64 it doesn't.
+/// The sum of all bytes. The compiler vectorises a sum of 32 bits; one of 64 it doesn't, for this processor.
 #[inline(never)]
 fn sum(bytes: &[u8]) -> u64 {
     let part = |part: &[u8]| part.iter().map(|&byte| u32::from(byte)).sum::<u32>();
@@ -23,25 +23,26 @@ fn scalar_sum(bytes: &[u8]) -> u64 {
     bytes.iter().map(|&byte| u64::from(byte)).sum()
 }
 
-pub fn all(report: &mut Report, input: &Input) {
-    let what = "opening";
-    if !report.wants(what, input.kind.name(), input.n) {
+pub fn measure(report: &mut Report, input: &Input) {
+    let mut row = Row::new("opening", input.kind.name(), input.n).sized(input.index.len());
+    if !report.wants(row.what, &row.load, row.n) {
         return;
     }
+    // half the speed of the pass
+    if input.kind.long() {
+        row = row.held(2.0);
+    }
+    assert_eq!(sum(&input.index), scalar_sum(&input.index));
     let shared = OwnedBytes::new(input.index.clone());
     let ours = side(|| ffi::open(black_box(&input.index)).unwrap());
     let pass = side(|| sum(black_box(&input.index)));
     let scalar = side(|| scalar_sum(black_box(&input.index)));
     let rust = side(|| access::Index::load(black_box(&shared).clone()));
-    let row = Row {
-        what,
-        load: input.kind.name().to_string(),
-        n: input.n,
-        sides: Vec::new(),
-        unit: "index",
-        bytes: Some(input.index.len()),
-        bar: if input.kind.long() { Bar::AtMost(2.0) } else { Bar::None },
-        note: String::new(),
-    };
-    report.measure(row, &["ours", "plain pass", "scalar pass", "rust load"], vec![ours, pass, scalar, rust], 1);
+    let sides = vec![
+        ("ours", ours),
+        ("plain pass", pass),
+        ("scalar pass", scalar),
+        ("Rust's load", rust),
+    ];
+    report.measure(row, sides, 1);
 }

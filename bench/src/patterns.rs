@@ -132,8 +132,9 @@ impl<'a> Table<'a> {
         Some(Table { flags, next, live })
     }
 
-    pub fn is_live(&self, state: u8) -> bool {
-        self.live >> state & 1 == 1
+    pub fn accepts(&self, key: &[u8]) -> bool {
+        let last = key.iter().fold(0, |state, &byte| self.accept(&state, byte));
+        self.is_match(&last)
     }
 }
 
@@ -172,7 +173,7 @@ impl Automaton for Table<'_> {
     }
 
     fn can_match(&self, state: &u8) -> bool {
-        self.is_live(*state)
+        self.live >> state & 1 == 1
     }
 
     fn accept(&self, state: &u8, byte: u8) -> u8 {
@@ -226,29 +227,47 @@ impl Automaton for Plain {
     }
 }
 
-/// Counts the steps that start from a state that can match.
-pub struct Counting<'a> {
-    pub inner: Table<'a>,
-    pub steps: Cell<u64>,
+/// A table that notes how many bytes of a key a search reads from states that can match.
+pub struct Depth<'a> {
+    inner: Table<'a>,
+    most: Cell<usize>,
 }
 
-impl Automaton for Counting<'_> {
-    type State = u8;
-
-    fn start(&self) -> u8 {
-        0
+impl<'a> Depth<'a> {
+    pub fn new(inner: Table<'a>) -> Depth<'a> {
+        let most = Cell::new(0);
+        Depth { inner, most }
     }
 
-    fn is_match(&self, state: &u8) -> bool {
+    pub fn forget(&self) {
+        self.most.set(0);
+    }
+
+    pub fn most(&self) -> usize {
+        self.most.get()
+    }
+}
+
+/// A state goes on only by bytes of the keys; what is tried beside them isn't gone on from.
+impl Automaton for Depth<'_> {
+    type State = (u8, usize);
+
+    fn start(&self) -> (u8, usize) {
+        (0, 0)
+    }
+
+    fn is_match(&self, (state, _): &(u8, usize)) -> bool {
         self.inner.is_match(state)
     }
 
-    fn can_match(&self, state: &u8) -> bool {
+    fn can_match(&self, (state, _): &(u8, usize)) -> bool {
         self.inner.can_match(state)
     }
 
-    fn accept(&self, state: &u8, byte: u8) -> u8 {
-        self.steps.set(self.steps.get() + u64::from(self.inner.is_live(*state)));
-        self.inner.accept(state, byte)
+    fn accept(&self, (state, read): &(u8, usize), byte: u8) -> (u8, usize) {
+        if self.inner.can_match(state) {
+            self.most.set(self.most.get().max(*read));
+        }
+        (self.inner.accept(state, byte), read + 1)
     }
 }

@@ -3,28 +3,25 @@
 use std::hint::black_box;
 use std::time::{Duration, Instant};
 
+use rosmarel::BlockAddr;
 use tantivy_sstable::access;
 
 use crate::ffi;
 use crate::inputs::{Input, Keys, theirs};
 use crate::measure::{Side, side};
-use crate::report::{Bar, Report, Row};
+use crate::report::{Report, Row};
 
-fn row(what: &'static str, input: &Input, unit: &'static str, bytes: Option<usize>) -> Row {
-    Row {
-        what,
-        load: input.kind.name().to_string(),
-        n: input.n,
-        sides: Vec::new(),
-        unit,
-        bytes,
-        bar: Bar::AtMost(1.0),
-        note: String::new(),
+pub fn measure(report: &mut Report, input: &Input) {
+    finish(report, input);
+    // a store has no keys
+    if input.kind == Keys::Short {
+        store(report, input);
     }
+    shorten(report, input);
 }
 
 /// The builder's two areas with all blocks in them.
-fn areas(input: &Input) -> (Vec<u64>, Vec<u8>) {
+pub fn areas(input: &Input) -> (Vec<u64>, Vec<u8>) {
     let mut blocks = vec![0; 5 * input.n];
     let mut keys = vec![0; input.key_bytes()];
     let mut n = 0;
@@ -34,7 +31,8 @@ fn areas(input: &Input) -> (Vec<u64>, Vec<u8>) {
     (blocks, keys)
 }
 
-fn builder(input: &Input) -> access::Builder {
+/// The Rust's builder with all blocks in it.
+pub fn builder(input: &Input) -> access::Builder {
     let mut builder = access::Builder::default();
     for (key, &block) in input.keys.iter().zip(&input.blocks) {
         builder.add_block(key, theirs(block));
@@ -42,9 +40,11 @@ fn builder(input: &Input) -> access::Builder {
     builder
 }
 
-pub fn finish(report: &mut Report, input: &Input) {
-    let what = "finish";
-    if !report.wants(what, input.kind.name(), input.n) {
+fn finish(report: &mut Report, input: &Input) {
+    let row = Row::new("finish", input.kind.name(), input.n)
+        .held(1.0)
+        .sized(input.index.len());
+    if !report.wants(row.what, &row.load, row.n) {
         return;
     }
     let (blocks, keys) = areas(input);
@@ -64,17 +64,18 @@ pub fn finish(report: &mut Report, input: &Input) {
         bytes.extend_from_slice(&footer.to_le_bytes());
         black_box(&mut bytes);
     });
-    let row = row(what, input, "index", Some(input.index.len()));
-    report.measure(row, &["ours", "rust"], vec![ours, rust], 1);
+    report.measure(row, vec![("ours", ours), ("Rust", rust)], 1);
 }
 
-pub fn store(report: &mut Report, input: &Input) {
-    let what = "store from a slice";
-    if input.kind != Keys::Short || !report.wants(what, input.kind.name(), input.n) {
-        return;
-    }
+fn store(report: &mut Report, input: &Input) {
     let rust_blocks: Vec<access::Block> = input.blocks.iter().map(|&block| theirs(block)).collect();
     let stored = access::write_store(&rust_blocks);
+    let row = Row::new("store from a slice", "blocks", input.n)
+        .held(1.0)
+        .sized(stored.len());
+    if !report.wants(row.what, &row.load, row.n) {
+        return;
+    }
     let mut out = vec![0; stored.len()];
     ffi::store(&input.blocks, &mut out).unwrap();
     assert!(out == stored);
@@ -85,82 +86,98 @@ pub fn store(report: &mut Report, input: &Input) {
         access::append_store(black_box(&rust_blocks), &mut bytes);
         black_box(&mut bytes);
     });
-    let row = row(what, input, "store", Some(stored.len()));
-    report.measure(row, &["ours", "rust"], vec![ours, rust], 1);
+    report.measure(row, vec![("ours", ours), ("Rust", rust)], 1);
 }
 
-/// So many builders are shortened in a run of a side; they are set back between runs, outside the time.
+/// So many builders are shortened before they are set back. They are few enough for the processor's second cache.
 const PAIRS: usize = 256;
 
-pub fn shorten(report: &mut Report, input: &Input) {
-    let what = "shorten";
-    if !report.wants(what, input.kind.name(), input.n) {
-        return;
-    }
-    // pairs of neighbours over the whole list, each key the only one of its builder
-    let pairs: Vec<(&[u8], &[u8])> = (0..PAIRS)
-        .map(|i| {
-            let at = i * (input.n - 1) / PAIRS;
-            (&input.keys[at][..], &input.keys[at + 1][..])
-        })
-        .collect();
-    let block = input.blocks[0];
-    let mut ours_made: Vec<([u64; 5], Vec<u8>)> = Vec::new();
-    let mut rust_made: Vec<access::Builder> = Vec::new();
-    for (left, _) in &pairs {
-        let mut made = ([0; 5], vec![0; left.len()]);
-        ffi::add(&mut 0, &mut made.0, &mut made.1, left, block).unwrap();
-        ours_made.push(made);
-        let mut builder = access::Builder::default();
-        builder.add_block(left, theirs(block));
-        rust_made.push(builder);
-    }
-    let mut check_ours = ours_made.clone();
-    for (i, (left, right)) in pairs.iter().enumerate() {
-        let (blocks, keys) = &mut check_ours[i];
-        ffi::shorten(1, blocks, keys, right).unwrap();
-        rust_made[i].shorten_last_block_key_given_next_key(right);
-        assert_eq!(rust_made[i].last_key().unwrap()[..], keys[..blocks[4] as usize]);
-        assert_eq!(blocks[3], 0);
-        assert!(blocks[4] as usize <= left.len());
-    }
-    let ours: Side = Box::new(|times| {
-        let mut all = Duration::ZERO;
-        for _ in 0..times {
-            for ((blocks, keys), (left, _)) in ours_made.iter_mut().zip(&pairs) {
-                keys.copy_from_slice(left);
-                blocks[4] = left.len() as u64;
-            }
-            let begin = Instant::now();
-            for ((blocks, keys), (_, right)) in ours_made.iter_mut().zip(&pairs) {
-                let _ = black_box(ffi::shorten(1, blocks, keys, right));
-            }
-            all += begin.elapsed();
-        }
-        all
-    });
-    let rust: Side = Box::new(|times| {
-        let mut all = Duration::ZERO;
-        for _ in 0..times {
-            for (builder, (left, _)) in rust_made.iter_mut().zip(&pairs) {
-                let key = builder.last_key().unwrap();
-                key.clear();
-                key.extend_from_slice(left);
-            }
-            let begin = Instant::now();
-            for (builder, (_, right)) in rust_made.iter_mut().zip(&pairs) {
-                builder.shorten_last_block_key_given_next_key(right);
-                black_box(&builder);
-            }
-            all += begin.elapsed();
-        }
-        all
-    });
-    report.measure(row(what, input, "call", None), &["ours", "rust"], vec![ours, rust], PAIRS);
+/// A builder with one block: its areas, and the Rust's.
+struct OneBlock {
+    blocks: [u64; 5],
+    keys: Vec<u8>,
+    rust: access::Builder,
 }
 
-pub fn all(report: &mut Report, input: &Input) {
-    finish(report, input);
-    store(report, input);
-    shorten(report, input);
+impl OneBlock {
+    fn new(key: &[u8], block: BlockAddr) -> OneBlock {
+        let mut made = OneBlock {
+            blocks: [0; 5],
+            keys: vec![0; key.len()],
+            rust: access::Builder::default(),
+        };
+        ffi::add(&mut 0, &mut made.blocks, &mut made.keys, key, block).unwrap();
+        made.rust.add_block(key, theirs(block));
+        made
+    }
+
+    fn set_back(&mut self, key: &[u8]) {
+        self.keys.copy_from_slice(key);
+        self.blocks[4] = key.len() as u64;
+        let rust = self.rust.last_key().unwrap();
+        rust.clear();
+        rust.extend_from_slice(key);
+    }
+
+    /// Both sides' key is the same.
+    fn check(&mut self) {
+        let len = self.blocks[4] as usize;
+        assert_eq!(self.rust.last_key().unwrap()[..], self.keys[..len]);
+    }
+}
+
+/// Neighbours among the keys, the lower one the only key of its builder.
+fn shorten(report: &mut Report, input: &Input) {
+    let row = Row::new("shorten", input.kind.name(), input.n).held(1.0);
+    if !report.wants(row.what, &row.load, row.n) {
+        return;
+    }
+    let places: Vec<usize> = (0..PAIRS).map(|i| i * (input.n - 1) / PAIRS).collect();
+    let pairs: Vec<(&[u8], &[u8])> = places
+        .iter()
+        .map(|&at| (&input.keys[at][..], &input.keys[at + 1][..]))
+        .collect();
+    let mut made: Vec<OneBlock> = places
+        .iter()
+        .map(|&at| OneBlock::new(&input.keys[at], input.blocks[at]))
+        .collect();
+    for (one, (_, next)) in made.iter_mut().zip(&pairs) {
+        ffi::shorten(1, &mut one.blocks, &mut one.keys, next).unwrap();
+        one.rust.shorten_last_block_key_given_next_key(next);
+        one.check();
+    }
+    let mut others: Vec<OneBlock> = places
+        .iter()
+        .map(|&at| OneBlock::new(&input.keys[at], input.blocks[at]))
+        .collect();
+    let ours = set_back_between(&mut made, &pairs, |one, next| {
+        let _ = black_box(ffi::shorten(1, &mut one.blocks, &mut one.keys, next));
+    });
+    let rust = set_back_between(&mut others, &pairs, |one, next| {
+        one.rust.shorten_last_block_key_given_next_key(next);
+        black_box(&mut one.rust);
+    });
+    report.measure(row, vec![("ours", ours), ("Rust", rust)], PAIRS);
+}
+
+/// A side over all pairs; setting the builders back isn't in its time.
+fn set_back_between<'a>(
+    made: &'a mut [OneBlock],
+    pairs: &'a [(&[u8], &[u8])],
+    work: impl Fn(&mut OneBlock, &[u8]) + 'a,
+) -> Side<'a> {
+    Box::new(move |times| {
+        let mut all = Duration::ZERO;
+        for _ in 0..times {
+            for (one, (key, _)) in made.iter_mut().zip(pairs) {
+                one.set_back(key);
+            }
+            let begin = Instant::now();
+            for (one, (_, next)) in made.iter_mut().zip(pairs) {
+                work(one, black_box(next));
+            }
+            all += begin.elapsed();
+        }
+        all
+    })
 }
