@@ -70,7 +70,7 @@ pub fn write(report: &Report, memory: &str, archive: Option<&str>, docs: &Path) 
     fs::create_dir_all(&plots)?;
     let mut text = String::new();
     text += &front(report);
-    text += &method();
+    text += &method(report);
     for call in &CALLS {
         text += &section(report, call, &plots)?;
     }
@@ -152,7 +152,8 @@ fn ratio(row: &Row) -> String {
 }
 
 fn speed(row: &Row, ns: f64) -> String {
-    row.bytes.map_or_else(|| time(ns), |bytes| format!("{:.2}", bytes as f64 / ns))
+    row.bytes
+        .map_or_else(|| time(ns), |bytes| format!("{:.2}", bytes as f64 / ns))
 }
 
 fn front(report: &Report) -> String {
@@ -160,12 +161,26 @@ fn front(report: &Report) -> String {
     let mut out = format!(
         "# Benchmarks\n\n`bench/run` writes this file and the plots: the exported functions of `librosmarel.a` beside the Rust of \
          tantivy-sstable 0.27.0, as oracle/README.md puts it together. A ratio is ours / the Rust's; below 1 ours is \
-         faster. Of {held} ratios that are held to a bar, {over} are over it; those are bold.\n\n## The bars\n\n"
+         faster. Of {held} ratios that are held to a bar, {over} are over it; those are bold.\n\n"
     );
-    let head = ["call", "bar", "ratios held", "over", "highest ratio", "lowest ratio"];
+    if report.options.quick {
+        out += "**A draft: these figures are from a quick run, on a machine that was busy. `bench/run` takes them anew.**\n\n";
+    }
+    out += "## The bars\n\n";
+    let head = [
+        "call",
+        "bar",
+        "ratios held",
+        "over",
+        "highest ratio",
+        "lowest ratio",
+    ];
     out += &table_head(&head.map(str::to_string));
     for call in &CALLS {
-        let mut bars: Vec<f64> = rows(report, call.what).iter().filter_map(|row| row.bar).collect();
+        let mut bars: Vec<f64> = rows(report, call.what)
+            .iter()
+            .filter_map(|row| row.bar)
+            .collect();
         bars.sort_by(f64::total_cmp);
         bars.dedup();
         for bar in bars.into_iter().rev() {
@@ -224,7 +239,7 @@ fn linear(report: &Report) -> String {
     out + "\n"
 }
 
-fn method() -> String {
+fn method(report: &Report) -> String {
     let mut out = String::from("## The machine\n\n");
     out += &table_head(&["", ""].map(str::to_string));
     for (name, value) in machine::lines() {
@@ -233,6 +248,7 @@ fn method() -> String {
     out += "\nIt is a virtual machine that other work shares, so the tables show the least of many runs, on both sides, and the ratio \
 of these; the driver's own table has the ratio of the medians too.\n\n";
     out += METHOD;
+    out += &runs(report);
     out += "\n## The keys\n\n";
     out += &table_head(&["name", "how they were made"].map(str::to_string));
     for kind in Keys::ALL {
@@ -248,8 +264,6 @@ const METHOD: &str = "## How it was measured
 - The archive is what `rt staticlib rosmarel` writes: for x86-64 without extensions. The Rust is built for the same, with `opt-level = 3`, \
 `codegen-units = 1` and `lto = \"fat\"`: its calls may be inlined into the driver, those of the archive can't. Its comparisons of keys are \
 calls of the C library's `memcmp`, which at run time takes the widest vectors that the processor has.
-- A run repeats a call until 0.3 ms are over. Runs of the sides alternate, every other round backwards, for 0.6 s a row and five rounds or more. \
-A row that is over its bar is measured up to three times more, and all its runs count, on both sides. Inputs and answers go through `black_box`.
 - Buffers aren't cleared: finish, store and listing write into one buffer that is used again and again, and that is warm. The Rust writes into a `Vec` \
 that keeps its room. For a listing the Rust gives ids, which the driver sets as marks; it clears the marks for that inside the time.
 - Lookups: 4,096 questions made beforehand, spread over the whole index at random. Ids are all there; ordinals reach from 0 to 99 behind the last \
@@ -287,15 +301,42 @@ its lower key and has no match |
 
 ";
 
+/// How long and how often.
+fn runs(report: &Report) -> String {
+    let effort = report.effort();
+    let mut out = format!(
+        "- A run repeats a call until {} µs are over. Runs of the sides alternate, every other round backwards, for {:.1} s a row and {} rounds or \
+         more. Inputs and answers go through `black_box`.\n",
+        effort.run.as_micros(),
+        effort.budget.as_secs_f64(),
+        effort.least_runs
+    );
+    if report.rounds() > 1 {
+        out += &format!(
+            "- A row that is over its bar is measured up to {} times in all, and all its runs count, on both sides.\n",
+            report.rounds()
+        );
+    }
+    out
+}
+
 fn section(report: &Report, call: &Call, plots: &Path) -> io::Result<String> {
     let rows = rows(report, call.what);
     if rows.is_empty() {
         return Ok(String::new());
     }
-    let mut out = format!("## {}\n\nThe ratio is taken with {}.\n\n", capital(call.what), call.with);
+    let mut out = format!(
+        "## {}\n\nThe ratio is taken with {}.\n\n",
+        capital(call.what),
+        call.with
+    );
     out += &by_size(&rows, ratio);
     let names: Vec<&str> = rows[0].sides.iter().map(|(name, _)| *name).collect();
-    let unit = if call.scale == Scale::Speed { "GB/s" } else { "Time of a call" };
+    let unit = if call.scale == Scale::Speed {
+        "GB/s"
+    } else {
+        "Time of a call"
+    };
     out += &format!("{unit}: {}.\n\n", names.join(" / "));
     out += &by_size(&rows, |row| {
         let figures: Vec<String> = row
@@ -333,7 +374,11 @@ fn pictures(rows: &[&Row], call: &Call) -> Vec<(String, String, Vec<Panel>)> {
         .iter()
         .map(|kind| {
             let front = format!("{}, ", kind.name());
-            let of_kind: Vec<&Row> = rows.iter().copied().filter(|row| row.load.starts_with(&front)).collect();
+            let of_kind: Vec<&Row> = rows
+                .iter()
+                .copied()
+                .filter(|row| row.load.starts_with(&front))
+                .collect();
             (
                 format!("{file}-{}.svg", kind.name()),
                 format!("{title}, keys {}", kind.name()),
@@ -348,11 +393,18 @@ fn panels(rows: &[&Row], scale: Scale, front: &str) -> Vec<Panel> {
     loads(rows)
         .into_iter()
         .map(|load| {
-            let of_load: Vec<&Row> = rows.iter().copied().filter(|row| row.load == load).collect();
+            let of_load: Vec<&Row> = rows
+                .iter()
+                .copied()
+                .filter(|row| row.load == load)
+                .collect();
             let lines = (0..of_load[0].sides.len())
                 .map(|side| Line {
                     name: of_load[0].sides[side].0.to_string(),
-                    points: of_load.iter().map(|row| (row.n as f64, point(row, side, scale))).collect(),
+                    points: of_load
+                        .iter()
+                        .map(|row| (row.n as f64, point(row, side, scale)))
+                        .collect(),
                 })
                 .collect();
             Panel {
@@ -385,7 +437,11 @@ fn examples(report: &Report, plots: &Path) -> io::Result<String> {
         .iter()
         .map(|kind| {
             let front = format!("{}, ", kind.name());
-            let of_kind: Vec<&Row> = rows.iter().copied().filter(|row| row.load.starts_with(&front)).collect();
+            let of_kind: Vec<&Row> = rows
+                .iter()
+                .copied()
+                .filter(|row| row.load.starts_with(&front))
+                .collect();
             let lines = loads(&of_kind)
                 .into_iter()
                 .map(|load| Line {
@@ -403,7 +459,10 @@ fn examples(report: &Report, plots: &Path) -> io::Result<String> {
             }
         })
         .collect();
-    fs::write(plots.join("example.svg"), plot::svg("Example: time of a call", Scale::Time, &panels))?;
+    fs::write(
+        plots.join("example.svg"),
+        plot::svg("Example: time of a call", Scale::Time, &panels),
+    )?;
     Ok(out + "![Example: time of a call](plots/example.svg)\n\n")
 }
 
@@ -418,7 +477,10 @@ fn memory_section(memory: &str, archive: Option<&str>) -> String {
     }
     out += "Its stack was measured by painting one of 4 MB, on which each call ran, over the keys long-shared and the pattern \"follows half (64)\": \
 the bytes from the top to the deepest one that the call changed. Beside it what the Rust's counterpart allocates in one call.\n\n";
-    let lines: Vec<Vec<&str>> = memory.lines().map(|line| line.split('\t').collect()).collect();
+    let lines: Vec<Vec<&str>> = memory
+        .lines()
+        .map(|line| line.split('\t').collect())
+        .collect();
     let mut calls: Vec<&str> = Vec::new();
     for line in &lines {
         if !calls.contains(&line[0]) {
@@ -430,7 +492,11 @@ the bytes from the top to the deepest one that the call changed. Beside it what 
     let number = |text: &str| thousands(text.parse().unwrap_or(0));
     let mut head = vec!["call".to_string()];
     head.extend(sizes.iter().map(|n| format!("stack, n = {}", number(n))));
-    head.extend(sizes.iter().map(|n| format!("Rust allocates, n = {}", number(n))));
+    head.extend(
+        sizes
+            .iter()
+            .map(|n| format!("Rust allocates, n = {}", number(n))),
+    );
     out += &table_head(&head);
     for call in calls {
         let of_call: Vec<&Vec<&str>> = lines.iter().filter(|line| line[0] == call).collect();
@@ -442,6 +508,13 @@ the bytes from the top to the deepest one that the call changed. Beside it what 
         }));
         out += &table_line(&cells);
     }
-    out += "\nFor `rosmarel_list` and `rosmarel_can_block_match` the Rust's part has the table's words in it.\n";
+    if let Some(deepest) = lines.iter().max_by_key(|line| line[2].parse().unwrap_or(0)) {
+        out += &format!(
+            "\nThe deepest is `{}`: {} bytes.",
+            deepest[0],
+            number(deepest[2])
+        );
+    }
+    out += " For `rosmarel_list` and `rosmarel_can_block_match` the Rust's part has the table's words in it.\n";
     out
 }

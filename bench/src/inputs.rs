@@ -56,9 +56,13 @@ impl Keys {
     pub fn story(self) -> &'static str {
         match self {
             Keys::Short => "8 random bytes, sorted",
-            Keys::Shared => "100 letters that all keys share, 8 digits that count, 0 to 91 times m at random, z",
+            Keys::Shared => {
+                "100 letters that all keys share, 8 digits that count, 0 to 91 times m at random, z"
+            }
             Keys::Early => "8 digits that count, 91 to 191 times m at random, z",
-            Keys::SharedLongest => "1,000 letters that all keys share, 8 digits that count, 15 times m, z",
+            Keys::SharedLongest => {
+                "1,000 letters that all keys share, 8 digits that count, 15 times m, z"
+            }
             Keys::EarlyLongest => "8 digits that count, 1,015 times m, z",
         }
     }

@@ -2,10 +2,11 @@
 
 // the declarations that the binding's own test compares with the archive
 #[allow(dead_code)]
+#[rustfmt::skip]
 #[path = "../../bindings/rust/src/ffi.rs"]
 pub mod ffi;
-pub mod document;
 
+pub mod document;
 pub mod inputs;
 pub mod listing;
 pub mod lookups;

@@ -47,7 +47,10 @@ pub fn patterns_for(input: &Input) -> Vec<(&'static str, Vec<u8>)> {
     let digits = format!("{:08}", input.n / 3);
     let early: Vec<u8> = [&input.keys[0][..61], b"!"].concat();
     patterns.push(("contains (2)", patterns::contains(b'7')));
-    patterns.push(("number (9)", patterns::letters_then(&digits.as_bytes()[..7])));
+    patterns.push((
+        "number (9)",
+        patterns::letters_then(&digits.as_bytes()[..7]),
+    ));
     patterns.push(("ends early (64)", patterns::begins(&early)));
     patterns.push(("follows (3)", patterns::follow_few()));
     patterns.push(("follows half (11)", patterns::follow(1)));

@@ -57,13 +57,30 @@ pub fn lines() -> Vec<(&'static str, String)> {
         ("processor", cpu("model name")),
         (
             "family, model, stepping",
-            format!("{}, {}, {}", cpu("cpu family"), cpu("model"), cpu("stepping")),
+            format!(
+                "{}, {}, {}",
+                cpu("cpu family"),
+                cpu("model"),
+                cpu("stepping")
+            ),
         ),
         ("cores at hand", cores),
         ("caches", caches().unwrap_or_else(unknown)),
-        ("memory", value("/proc/meminfo", "MemTotal").unwrap_or_else(unknown)),
-        ("kernel", read("/proc/sys/kernel/osrelease").unwrap_or_else(unknown)),
-        ("rustc", said("rustc", &["--version"]).unwrap_or_else(unknown)),
-        ("Rattle toolchain", said("rt", &["version"]).unwrap_or_else(unknown)),
+        (
+            "memory",
+            value("/proc/meminfo", "MemTotal").unwrap_or_else(unknown),
+        ),
+        (
+            "kernel",
+            read("/proc/sys/kernel/osrelease").unwrap_or_else(unknown),
+        ),
+        (
+            "rustc",
+            said("rustc", &["--version"]).unwrap_or_else(unknown),
+        ),
+        (
+            "Rattle toolchain",
+            said("rt", &["version"]).unwrap_or_else(unknown),
+        ),
     ]
 }

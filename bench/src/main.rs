@@ -14,13 +14,15 @@ const SIZES: [usize; 8] = [2, 16, 128, 129, 1_000, 4_096, 16_384, 65_536];
 const USAGE: &str = "\
 bench/run [--repeat K]                      all rows; writes docs/BENCHMARKS.md and docs/plots
 bench/run --quick [--repeat K] [WORD...]    rows whose name has each word (as `listing`, `long-shared`, n=1000); writes nothing
---repeat K gives each row K times as long; --plain also times listings of the Rust with a plainly built table";
+--repeat K gives each row K times as long (0: five runs); --out DIR writes the document there, with --quick too
+--plain also times listings of the Rust with a plainly built table";
 
 fn options() -> Option<Options> {
     let mut options = Options {
         quick: false,
         plain: false,
         repeat: 1,
+        out: None,
         words: Vec::new(),
     };
     let mut words = env::args().skip(1);
@@ -28,6 +30,7 @@ fn options() -> Option<Options> {
         match word.as_str() {
             "--quick" => options.quick = true,
             "--plain" => options.plain = true,
+            "--out" => options.out = Some(words.next()?.into()),
             "--repeat" => options.repeat = words.next()?.parse().ok()?,
             _ if word.starts_with("--") => return None,
             _ => options.words.push(word),
@@ -65,13 +68,16 @@ fn memory() -> Result<String, Box<dyn Error>> {
 }
 
 fn run(options: Options) -> Result<(), Box<dyn Error>> {
-    let quick = options.quick;
+    let docs = Path::new(env!("CARGO_MANIFEST_DIR")).join("../docs");
+    let out = match &options.out {
+        Some(out) => Some(out.clone()),
+        None => (!options.quick).then_some(docs),
+    };
     let mut report = Report::new(options);
     measure(&mut report);
-    if !quick {
-        let docs = Path::new(env!("CARGO_MANIFEST_DIR")).join("../docs");
+    if let Some(out) = out {
         let archive = env::var("ROSMAREL_LIB_DIR").map(|folder| folder + "/librosmarel.a");
-        document::write(&report, &memory()?, archive.ok().as_deref(), &docs)?;
+        document::write(&report, &memory()?, archive.ok().as_deref(), &out)?;
     }
     Ok(())
 }

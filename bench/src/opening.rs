@@ -14,7 +14,10 @@ use crate::report::{Report, Row};
 #[inline(never)]
 fn sum(bytes: &[u8]) -> u64 {
     let part = |part: &[u8]| part.iter().map(|&byte| u32::from(byte)).sum::<u32>();
-    bytes.chunks(65_536).map(|bytes| u64::from(part(bytes))).sum()
+    bytes
+        .chunks(65_536)
+        .map(|bytes| u64::from(part(bytes)))
+        .sum()
 }
 
 /// The same, a byte at a time.

@@ -26,7 +26,9 @@ pub fn all() -> Vec<u8> {
 
 /// Keys that have the byte somewhere: two states.
 pub fn contains(wanted: u8) -> Vec<u8> {
-    table(&[0, 1], |state, byte| usize::from(state == 1 || byte == wanted))
+    table(&[0, 1], |state, byte| {
+        usize::from(state == 1 || byte == wanted)
+    })
 }
 
 /// Keys that begin with these bytes.
@@ -43,7 +45,11 @@ pub fn begins(with: &[u8]) -> Vec<u8> {
 pub fn exactly(key: &[u8]) -> Vec<u8> {
     let (all, lost) = (key.len(), key.len() + 1);
     table(&flags(lost + 1, all), |state, byte| {
-        if key.get(state) == Some(&byte) { state + 1 } else { lost }
+        if key.get(state) == Some(&byte) {
+            state + 1
+        } else {
+            lost
+        }
     })
 }
 
@@ -101,7 +107,9 @@ pub fn words_64(words: &[&[u8]]) -> Vec<u8> {
         .map(|state| u8::from(fronts.get(state).is_some_and(|front| words.contains(front))))
         .collect();
     table(&accepting, |state, byte| {
-        fronts.get(state).map_or(63, |front| place(&[front, &[byte][..]].concat()))
+        fronts
+            .get(state)
+            .map_or(63, |front| place(&[front, &[byte][..]].concat()))
     })
 }
 

@@ -62,7 +62,10 @@ pub fn svg(title: &str, scale: Scale, panels: &[Panel]) -> String {
     for (i, panel) in panels.iter().enumerate() {
         let x = (i % COLUMNS) as f64 * WIDTH;
         let y = HEAD + (i / COLUMNS) as f64 * height;
-        out += &format!("<g transform=\"translate({x} {y})\">\n{}</g>\n", draw(panel, scale));
+        out += &format!(
+            "<g transform=\"translate({x} {y})\">\n{}</g>\n",
+            draw(panel, scale)
+        );
     }
     out + "</svg>\n"
 }
@@ -88,19 +91,40 @@ fn across(n: f64) -> f64 {
 
 /// The values that the axis shows: from, to, and the ones that are written beside it.
 fn axis(lines: &[Line]) -> (f64, f64, Vec<f64>) {
-    let values = || lines.iter().flat_map(|line| line.points.iter().map(|point| point.1));
+    let values = || {
+        lines
+            .iter()
+            .flat_map(|line| line.points.iter().map(|point| point.1))
+    };
     let least = values().fold(f64::INFINITY, f64::min);
     let most = values().fold(f64::MIN_POSITIVE, f64::max);
     let decades = |steps: &[f64]| -> Vec<f64> {
         let powers = (least.log10().floor() as i32 - 1)..=(most.log10().ceil() as i32 + 1);
-        powers.flat_map(|power| steps.iter().map(move |step| step * 10f64.powi(power))).collect()
+        powers
+            .flat_map(|power| steps.iter().map(move |step| step * 10f64.powi(power)))
+            .collect()
     };
     // few decades: more marks, so that there are three or more
-    let steps: &[f64] = if most / least < 100.0 { &[1.0, 2.0, 5.0] } else { &[1.0] };
+    let steps: &[f64] = if most / least < 100.0 {
+        &[1.0, 2.0, 5.0]
+    } else {
+        &[1.0]
+    };
     let marks = decades(steps);
-    let from = marks.iter().copied().filter(|mark| *mark <= least * 0.97).fold(marks[0], f64::max);
-    let to = marks.iter().copied().filter(|mark| *mark >= most * 1.03).fold(f64::INFINITY, f64::min);
-    let shown = marks.into_iter().filter(|mark| (from..=to).contains(mark)).collect();
+    let from = marks
+        .iter()
+        .copied()
+        .filter(|mark| *mark <= least * 0.97)
+        .fold(marks[0], f64::max);
+    let to = marks
+        .iter()
+        .copied()
+        .filter(|mark| *mark >= most * 1.03)
+        .fold(f64::INFINITY, f64::min);
+    let shown = marks
+        .into_iter()
+        .filter(|mark| (from..=to).contains(mark))
+        .collect();
     (from, to, shown)
 }
 
@@ -133,19 +157,21 @@ fn draw(panel: &Panel, scale: Scale) -> String {
     }
     out += &stroke(LEFT, TOP, LEFT, bottom, "#444444");
     out += &stroke(LEFT, bottom, WIDTH - RIGHT, bottom, "#444444");
-    out += &text((LEFT + WIDTH - RIGHT) / 2.0, bottom + 28.0, "middle", 10, "blocks n");
+    out += &text(
+        (LEFT + WIDTH - RIGHT) / 2.0,
+        bottom + 28.0,
+        "middle",
+        10,
+        "blocks n",
+    );
     // ours is drawn last, over the others
     for (i, line) in panel.lines.iter().enumerate().rev() {
         out += &curve(line, i, &up);
     }
     for (i, line) in panel.lines.iter().enumerate() {
-        let x = LEFT + (i % LEGEND_COLUMNS) as f64 * 125.0;
+        let x = LEFT + (i % LEGEND_COLUMNS) as f64 * 128.0;
         let y = bottom + BELOW + (i / LEGEND_COLUMNS) as f64 * LEGEND_ROW;
-        out += &format!(
-            "<path d=\"M{:.1} {y:.1} h20\" {}/>\n",
-            x - 26.0 + 26.0,
-            style(i)
-        );
+        out += &format!("<path d=\"M{x:.1} {y:.1} h20\" {}/>\n", style(i));
         out += &text(x + 25.0, y + 4.0, "start", 11, &line.name);
     }
     out
@@ -166,8 +192,15 @@ fn style(i: usize) -> String {
 }
 
 fn curve(line: &Line, i: usize, up: &impl Fn(f64) -> f64) -> String {
-    let places: Vec<(f64, f64)> = line.points.iter().map(|&(n, value)| (across(n), up(value))).collect();
-    let path: Vec<String> = places.iter().map(|(x, y)| format!("{x:.1},{y:.1}")).collect();
+    let places: Vec<(f64, f64)> = line
+        .points
+        .iter()
+        .map(|&(n, value)| (across(n), up(value)))
+        .collect();
+    let path: Vec<String> = places
+        .iter()
+        .map(|(x, y)| format!("{x:.1},{y:.1}"))
+        .collect();
     let mut out = format!("<polyline points=\"{}\" {}/>\n", path.join(" "), style(i));
     for (x, y) in places {
         let colour = COLOURS[i % COLOURS.len()];

@@ -1,11 +1,12 @@
 //! The rows that were measured, and the table of them.
 
+use std::path::PathBuf;
 use std::time::Duration;
 
 use crate::inputs::Keys;
 use crate::measure::{Effort, Race, Side, Times};
 
-/// How often a row that is over its bar is measured again; the runs of all rounds count, on all sides.
+/// The runs of all rounds count, on all sides.
 const ROUNDS: usize = 4;
 
 /// Sizes that are looked at in quick runs, unless one is named.
@@ -17,6 +18,8 @@ pub struct Options {
     pub plain: bool,
     /// Multiplies the time for a row.
     pub repeat: u32,
+    /// Where the document goes, if not to `docs`.
+    pub out: Option<PathBuf>,
     /// Words that a row's name has to have.
     pub words: Vec<String>,
 }
@@ -93,12 +96,21 @@ impl Report {
     /// Whether a row was asked for.
     pub fn wants(&self, what: &str, load: &str, n: usize) -> bool {
         let name = format!("{what} {load}");
-        let mut names = self.options.words.iter().filter(|word| size(word).is_none());
+        let mut names = self
+            .options
+            .words
+            .iter()
+            .filter(|word| size(word).is_none());
         self.wants_size(n) && names.all(|word| name.contains(word.as_str()))
     }
 
     fn wants_size(&self, n: usize) -> bool {
-        let sizes: Vec<usize> = self.options.words.iter().filter_map(|word| size(word)).collect();
+        let sizes: Vec<usize> = self
+            .options
+            .words
+            .iter()
+            .filter_map(|word| size(word))
+            .collect();
         if sizes.is_empty() {
             !self.options.quick || QUICK_SIZES.contains(&n)
         } else {
@@ -108,13 +120,21 @@ impl Report {
 
     /// Whether keys of a kind may be asked for: inputs aren't made in vain.
     pub fn wants_keys(&self, kind: Keys, n: usize) -> bool {
-        let of_kind = |word: &&String| Keys::ALL.iter().any(|kind| kind.name().contains(word.as_str()));
+        let of_kind = |word: &&String| {
+            Keys::ALL
+                .iter()
+                .any(|kind| kind.name().contains(word.as_str()))
+        };
         let mut named = self.options.words.iter().filter(of_kind);
         self.wants_size(n) && named.all(|word| kind.name().contains(word.as_str()))
     }
 
-    fn effort(&self) -> Effort {
-        let (budget, run) = if self.options.quick { (250, 150) } else { (600, 300) };
+    pub fn effort(&self) -> Effort {
+        let (budget, run) = if self.options.quick {
+            (250, 150)
+        } else {
+            (600, 300)
+        };
         Effort {
             budget: Duration::from_millis(budget) * self.options.repeat,
             run: Duration::from_micros(run),
@@ -122,11 +142,16 @@ impl Report {
         }
     }
 
+    /// How often a row that stays over its bar is measured.
+    pub fn rounds(&self) -> usize {
+        if self.options.quick { 1 } else { ROUNDS }
+    }
+
     /// Measures a row's sides and prints it.
     pub fn measure(&mut self, mut row: Row, sides: Vec<(&'static str, Side)>, units: usize) {
         let (names, sides): (Vec<_>, Vec<_>) = sides.into_iter().unzip();
         let mut race = Race::new(sides, units, self.effort());
-        for _ in 0..if self.options.quick { 1 } else { ROUNDS } {
+        for _ in 0..self.rounds() {
             race.go_on();
             row.sides = names.iter().copied().zip(race.times()).collect();
             if !row.over() {

@@ -204,8 +204,14 @@ fn matching(input: &Input) {
     });
     line("rosmarel_can_block_match", input.n, taken, of_rust);
     let mut out = vec![0; 1_024 + 64];
+    let (before, example_end) = match input.keys.get(2) {
+        Some(end) => (Some(&input.keys[1][..]), &end[..]),
+        None => (None, start),
+    };
     let taken = stack(|| {
         ffi::example(None, start, &table, &mut out).unwrap();
+        // a block whose lower key is odd has an example
+        ffi::example(before, example_end, &table, &mut out).unwrap();
     });
     line("rosmarel_example", input.n, taken, None);
     let taken = stack(|| {
