@@ -143,3 +143,54 @@ impl Index {
             .collect()
     }
 }
+
+/// A builder that is kept between calls.
+#[derive(Default)]
+pub struct Builder(SSTableIndexBuilder);
+
+impl Builder {
+    pub fn add_block(&mut self, key: &[u8], block: Block) {
+        let addr = BlockAddr::from(block);
+        self.0.add_block(key, addr.byte_range, addr.first_ordinal);
+    }
+
+    pub fn shorten_last_block_key_given_next_key(&mut self, next_key: &[u8]) {
+        self.0.shorten_last_block_key_given_next_key(next_key);
+    }
+
+    pub fn last_key(&mut self) -> Option<&mut Vec<u8>> {
+        let last = self.0.blocks.last_mut();
+        last.map(|block| &mut block.last_key_or_greater)
+    }
+
+    /// Appends the index without its footer, and gives the footer's number.
+    pub fn serialize(&self, bytes: &mut Vec<u8>) -> u64 {
+        self.0.serialize(bytes).unwrap()
+    }
+}
+
+/// Appends the store of the blocks.
+pub fn append_store(blocks: &[Block], bytes: &mut Vec<u8>) {
+    let mut writer = BlockAddrStoreWriter::new();
+    for &block in blocks {
+        writer.write_block_meta(block.into()).unwrap();
+    }
+    writer.serialize(bytes).unwrap();
+}
+
+impl Index {
+    /// Opens shared bytes, which aren't copied.
+    pub fn load(bytes: OwnedBytes) -> Index {
+        Index(SSTableIndex::open(3, 0, bytes).unwrap())
+    }
+
+    /// The blocks that may hold an accepted key.
+    pub fn blocks_for_automaton<'a>(
+        &'a self,
+        automaton: &'a impl Automaton,
+    ) -> impl Iterator<Item = (u64, Block)> + 'a {
+        self.0
+            .get_block_for_automaton(automaton)
+            .map(|(id, addr)| (id, addr.into()))
+    }
+}
