@@ -9,7 +9,7 @@ use lib.ListN.{length, getD}
 use Rattle.automaton.specs.Bits.{bit}
 use Rattle.automaton.specs.Table.{WellFormed, states, next}
 use Rattle.automaton.specs.Words.{CanMatch, Reach}
-use Rattle.automaton.specs.Live.{Live, liveBit, LiveByte, First, End}
+use Rattle.automaton.specs.Live.{Live, liveBit, LiveByte, FirstLive, EndLive}
 use Rattle.automaton.proofs.Exact.{lt-or-le, exactly-ltb, exactly-map}
 use Rattle.automaton.proofs.Word.{bit-zero}
 
@@ -60,17 +60,17 @@ module _ (t : List ℕ) (s : ℕ) where
   pub dead-both : (lo mid hi : ℕ) → Dead t s lo mid → Dead t s mid hi → Dead t s lo hi
   dead-both lo mid hi f g k h₁ h₂ m = ⊎-elim (λ h. f k h₁ h m) (λ h. g k h h₂ m) (lt-or-le k mid)
 
-  pub first-at : (first : ℕ) → (first < 256 → CanMatch t (next t s first)) → Dead t s 0 first → First t s first
+  pub first-at : (first : ℕ) → (first < 256 → CanMatch t (next t s first)) → Dead t s 0 first → FirstLive t s first
   first-at first m d hi h =
       exactly-map (ltb first hi)
       (λ (g : first < hi). record { byte = first; low = zero-le; high = g; rest = m (omega arith) })
       (λ y. ⊎-elim (λ g. g) (λ g. absurd (d (y .byte) zero-le (omega (arith, y .high)) (y .rest))) (lt-or-le first hi))
       (exactly-ltb first hi)
 
-  pub end-none : Dead t s 0 256 → End t s 0
+  pub end-none : Dead t s 0 256 → EndLive t s 0
   end-none d lo = exactly-map (ltb lo 0) (λ (g : lo < 0). absurd (omega arith)) (λ y. absurd (d (y .byte) zero-le (y .high) (y .rest))) (exactly-ltb lo 0)
 
-  pub end-at : (last : ℕ) → last < 256 → CanMatch t (next t s last) → Dead t s (last + 1) 256 → End t s (last + 1)
+  pub end-at : (last : ℕ) → last < 256 → CanMatch t (next t s last) → Dead t s (last + 1) 256 → EndLive t s (last + 1)
   end-at last h m d lo =
       exactly-map (ltb lo (last + 1))
       (λ (g : lo < last + 1). record { byte = last; low = omega arith; high = h; rest = m })
@@ -88,12 +88,12 @@ module _ {t live : List ℕ} (l : Live t live) (s i : ℕ) (hs : s < states t) (
   pub dead-word : getD live (4 * s + i) 0 ≡ 0 → Dead t s (i * 64) (i * 64 + 64)
   dead-word e k h₁ h₂ = dead-bits 0 64 (omega arith) (λ k₁ h h₃. rw e (bit-zero k₁)) k (omega arith) h₂
 
-  pub first-in : (low : ℕ) → low < 64 → bit (getD live (4 * s + i) 0) low ≡ 1 → ((k : ℕ) → k < low → bit (getD live (4 * s + i) 0) k ≡ 0) → Dead t s 0 (i * 64) → First t s (i * 64 + low)
+  pub first-in : (low : ℕ) → low < 64 → bit (getD live (4 * s + i) 0) low ≡ 1 → ((k : ℕ) → k < low → bit (getD live (4 * s + i) 0) k ≡ 0) → Dead t s 0 (i * 64) → FirstLive t s (i * 64 + low)
   first-in low h b z d =
       first-at t s (i * 64 + low) (λ g. look-up l s i hs low h g b)
       (dead-both t s 0 (i * 64) (i * 64 + low) d (λ k h₁. dead-bits 0 low (omega arith) (λ k₁ h₂. z k₁) k (omega arith)))
 
-  pub end-in : (high : ℕ) → high < 64 → bit (getD live (4 * s + i) 0) high ≡ 1 → ((k : ℕ) → high < k → bit (getD live (4 * s + i) 0) k ≡ 0) → Dead t s (i * 64 + 64) 256 → End t s (i * 64 + high + 1)
+  pub end-in : (high : ℕ) → high < 64 → bit (getD live (4 * s + i) 0) high ≡ 1 → ((k : ℕ) → high < k → bit (getD live (4 * s + i) 0) k ≡ 0) → Dead t s (i * 64 + 64) 256 → EndLive t s (i * 64 + high + 1)
   end-in high h b z d =
       end-at t s (i * 64 + high) (omega arith) (look-up l s i hs high h (omega arith) b)
       (dead-both t s (i * 64 + high + 1) (i * 64 + 64) 256 (λ k h₁ h₂. dead-bits (high + 1) 64 (omega arith) (λ k₁ h₃ h₄. z k₁ (omega arith)) k (omega arith) (omega arith)) d)

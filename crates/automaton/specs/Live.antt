@@ -26,19 +26,19 @@ pub record LiveByte (t : List ℕ) (s lo hi : ℕ) : Type 0 where
   pub rest : CanMatch t (next t s byte)
 
 -- the lowest byte that leads on from s, 256 where none does
-abbrev pub First : List ℕ → ℕ → ℕ → Type 0
-First t s first = (hi : ℕ) → hi ≤ 256 → Exactly (ltb first hi) (LiveByte t s 0 hi)
+abbrev pub FirstLive : List ℕ → ℕ → ℕ → Type 0
+FirstLive t s first = (hi : ℕ) → hi ≤ 256 → Exactly (ltb first hi) (LiveByte t s 0 hi)
 
 -- one more than the highest byte that leads on from s, 0 where none does
-abbrev pub End : List ℕ → ℕ → ℕ → Type 0
-End t s end = (lo : ℕ) → Exactly (ltb lo end) (LiveByte t s lo 256)
+abbrev pub EndLive : List ℕ → ℕ → ℕ → Type 0
+EndLive t s end = (lo : ℕ) → Exactly (ltb lo end) (LiveByte t s lo 256)
 
 -- for each state the lowest
 pub record Firsts (t firsts : List ℕ) : Type 0 where
   pub long : length firsts ≡ 64
-  pub each : (s : ℕ) → s < states t → First t s (getD firsts s 0)
+  pub each : (s : ℕ) → s < states t → FirstLive t s (getD firsts s 0)
 
 -- for each state one more than the highest
 pub record Ends (t ends : List ℕ) : Type 0 where
   pub long : length ends ≡ 64
-  pub each : (s : ℕ) → s < states t → End t s (getD ends s 0)
+  pub each : (s : ℕ) → s < states t → EndLive t s (getD ends s 0)

@@ -8,7 +8,7 @@ ghost use lib.ListN.{length, getD};
 ghost use Rattle.automaton.specs.Bits.{bit, Exactly};
 ghost use Rattle.automaton.specs.Table.{WellFormed, states};
 ghost use Rattle.automaton.specs.Words.{Reach};
-ghost use Rattle.automaton.specs.Live.{Live, LiveByte, First, End, Firsts, Ends};
+ghost use Rattle.automaton.specs.Live.{Live, LiveByte, FirstLive, EndLive, Firsts, Ends};
 
 // Of the eight next states from `at` on, the bits of those that can match: the last one's first.
 fn live_bits(table: &[u8], reach: u64, at: usize) -> u64
@@ -83,7 +83,7 @@ pub fn any_byte(table: &[u8], live: &[u64; 256], state: usize, lo: usize, hi: us
 // The table is there for the contract alone.
 fn first(table: &[u8], live: &[u64; 256], state: usize) -> u16
     requires { ⌜ WellFormed (now table) × Live (now table) (now live) × (state < states (now table)) ⌝ }
-    ensures { λ r. ⌜ First (now (table .entry)) state r ⌝ }
+    ensures { λ r. ⌜ FirstLive (now (table .entry)) state r ⌝ }
 {
     let mut i: usize = 0;
     while i < 4 {
@@ -100,7 +100,7 @@ fn first(table: &[u8], live: &[u64; 256], state: usize) -> u16
 // The table is there for the contract alone.
 fn end(table: &[u8], live: &[u64; 256], state: usize) -> u16
     requires { ⌜ WellFormed (now table) × Live (now table) (now live) × (state < states (now table)) ⌝ }
-    ensures { λ r. ⌜ End (now (table .entry)) state r ⌝ }
+    ensures { λ r. ⌜ EndLive (now (table .entry)) state r ⌝ }
 {
     let mut i: usize = 4;
     while i > 0 {

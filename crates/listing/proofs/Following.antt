@@ -12,7 +12,7 @@ use Rattle.keys.specs.Order.{commonPrefixLen}
 use Rattle.keys.proofs.Order.{by-test, commonPrefixLen-take}
 use Rattle.automaton.specs.Table.{WellFormed, states, next}
 use Rattle.automaton.specs.Words.{Bytes, run}
-use Rattle.automaton.specs.Live.{End, Ends}
+use Rattle.automaton.specs.Live.{EndLive, Ends}
 use Rattle.automaton.proofs.Exact.{same-or}
 use Rattle.automaton.proofs.Strings.{run-more, run-states, bytes-take}
 use Rattle.pruning.specs.Interval.{MatchBetween}
@@ -64,5 +64,5 @@ followed-next t a b kept known f h = record { long = f .long; each = λ j g. f .
 pub followed-dead : (t a b kept ends : List ℕ) (known : ℕ) → WellFormed t → Ends t ends → Bytes a → Followed t a kept known → getD ends (getD kept known 0) 0 ≡ 0 → known ≤ commonPrefixLen a b → MatchBetween t 0 a b → ⊥
 followed-dead t a b kept ends known w e bytes f z h =
     let s = followed-state t a kept known known f w bytes (le-refl known) in
-    let d : End t (getD kept known 0) 0 = subst (End t (getD kept known 0)) z (e .each (getD kept known 0) s) in
-    shared-dead t a b known (same-front a b known h) bytes (subst (λ (x : ℕ). End t x 0) (f .each known (le-refl known)) d)
+    let d : EndLive t (getD kept known 0) 0 = subst (EndLive t (getD kept known 0)) z (e .each (getD kept known 0) s) in
+    shared-dead t a b known (same-front a b known h) bytes (subst (λ (x : ℕ). EndLive t x 0) (f .each known (le-refl known)) d)

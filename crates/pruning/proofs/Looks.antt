@@ -12,7 +12,7 @@ use Rattle.keys.specs.Order.{_≺_, _≼_}
 use Rattle.automaton.specs.Bits.{Exactly}
 use Rattle.automaton.specs.Table.{flag, next}
 use Rattle.automaton.specs.Words.{Bytes, run, CanMatch}
-use Rattle.automaton.specs.Live.{LiveByte, First, End}
+use Rattle.automaton.specs.Live.{LiveByte, FirstLive, EndLive}
 use Rattle.automaton.proofs.Exact.{when-true, exactly-map}
 use Rattle.automaton.proofs.Strings.{word-any, word-cases, can-match-hits}
 use Rattle.pruning.specs.Interval.{MatchAbove, MatchBetween}
@@ -32,7 +32,7 @@ upto-can : (t : List ℕ) (s : ℕ) (b : List ℕ) → (flag t s ≡ 1) ⊎ Matc
 upto-can t s b m = word-any _ (upto-split t s b .1 m)
 
 -- ---- by the highest
-module _ (t : List ℕ) (s : ℕ) (end : ℕ) (e : End t s end) where
+module _ (t : List ℕ) (s : ℕ) (end : ℕ) (e : EndLive t s end) where
   pub end-above : (lo : ℕ) → LiveByte t s lo 256 → lo < end
   end-above lo y = ltb-true lo end (is-so (ltb lo end) (e lo) y)
 
@@ -53,7 +53,7 @@ module _ (t : List ℕ) (s : ℕ) (end : ℕ) (e : End t s end) where
   after-next k ks h q = past (after-cons t s k ks h) (λ y. let g = end-above (k + 1) y in omega arith)
 
 -- ---- by the lowest
-module _ (t : List ℕ) (s : ℕ) (first : ℕ) (f : First t s first) where
+module _ (t : List ℕ) (s : ℕ) (first : ℕ) (f : FirstLive t s first) where
   pub first-below : (hi : ℕ) → hi ≤ 256 → LiveByte t s 0 hi → first < hi
   first-below hi h y = ltb-true first hi (is-so (ltb first hi) (f hi h) y)
 
@@ -83,13 +83,13 @@ module _ (t : List ℕ) (s x y : ℕ) (a b : List ℕ) (l : x < y) (h : y < 256)
       (λ m. record { byte = m .byte; low = omega (arith, m .low); high = omega (arith, m .high); rest = m .rest })
       (λ m. byte-at y x (y + 1) (omega arith) (omega arith) (upto-can t (next t s y) b m)))
 
-  pub parted-low : (end : ℕ) → End t s end → end ≤ x → Parted t s x y a b → ⊥
+  pub parted-low : (end : ℕ) → EndLive t s end → end ≤ x → Parted t s x y a b → ⊥
   parted-low end e g p =
       let m = parted-byte p in
       let k = end-above t s end e x (record { byte = m .byte; low = m .low; high = omega (arith, m .high); rest = m .rest }) in
       omega arith
 
-  pub parted-high : (first : ℕ) → First t s first → y < first → Parted t s x y a b → ⊥
+  pub parted-high : (first : ℕ) → FirstLive t s first → y < first → Parted t s x y a b → ⊥
   parted-high first f g p =
       let m = parted-byte p in
       let k = first-below t s first f (y + 1) (omega arith) (record { byte = m .byte; low = zero-le; high = m .high; rest = m .rest }) in
@@ -97,25 +97,25 @@ module _ (t : List ℕ) (s x y : ℕ) (a b : List ℕ) (l : x < y) (h : y < 256)
 
 -- ---- a key from its byte i on
 module _ (key : List ℕ) (i : ℕ) (h : i < length key) (g : getD key i 0 < 256) where
-  pub after-decided-at : (t : List ℕ) (s end : ℕ) → End t s end → (end ≡ getD key i 0 + 1 → ⊥) → Exactly (ltb (getD key i 0 + 1) end) (MatchAbove t s (drop i key))
+  pub after-decided-at : (t : List ℕ) (s end : ℕ) → EndLive t s end → (end ≡ getD key i 0 + 1 → ⊥) → Exactly (ltb (getD key i 0 + 1) end) (MatchAbove t s (drop i key))
   after-decided-at t s end e n = rw (drop-byte key i h) (after-decided t s end e (getD key i 0) (drop (i + 1) key) g n)
 
-  pub after-next-at : (t : List ℕ) (s end : ℕ) → End t s end → end ≡ getD key i 0 + 1 → MatchAbove t s (drop i key) ↔ MatchAbove t (next t s (getD key i 0)) (drop (i + 1) key)
+  pub after-next-at : (t : List ℕ) (s end : ℕ) → EndLive t s end → end ≡ getD key i 0 + 1 → MatchAbove t s (drop i key) ↔ MatchAbove t (next t s (getD key i 0)) (drop (i + 1) key)
   after-next-at t s end e q = rw (drop-byte key i h) (after-next t s end e (getD key i 0) (drop (i + 1) key) g q)
 
-  pub upto-decided-at : (t : List ℕ) (s first : ℕ) → First t s first → (first ≡ getD key i 0 → ⊥) → Exactly (ltb first (getD key i 0)) (MatchBetween t s [] (drop i key))
+  pub upto-decided-at : (t : List ℕ) (s first : ℕ) → FirstLive t s first → (first ≡ getD key i 0 → ⊥) → Exactly (ltb first (getD key i 0)) (MatchBetween t s [] (drop i key))
   upto-decided-at t s first f n = rw (drop-byte key i h) (upto-decided t s first f (getD key i 0) (drop (i + 1) key) g n)
 
-  pub upto-next-at : (t : List ℕ) (s first : ℕ) → First t s first → first ≡ getD key i 0
+  pub upto-next-at : (t : List ℕ) (s first : ℕ) → FirstLive t s first → first ≡ getD key i 0
       → MatchBetween t s [] (drop i key) ↔ ((flag t (next t s (getD key i 0)) ≡ 1) ⊎ MatchBetween t (next t s (getD key i 0)) [] (drop (i + 1) key))
   upto-next-at t s first f q = rw (drop-byte key i h) (upto-next t s first f (getD key i 0) (drop (i + 1) key) g q)
 
 -- ---- keys that share n bytes, where no byte leads on behind them
-between-dead : (t : List ℕ) (s : ℕ) (a b : List ℕ) → End t s 0 → MatchBetween t s a b → ⊥
+between-dead : (t : List ℕ) (s : ℕ) (a b : List ℕ) → EndLive t s 0 → MatchBetween t s a b → ⊥
 between-dead t s a b e =
     word-cases (λ w. (a ≺ w) × (w ≼ b)) ⊥
     (λ f p. not-≺-nil a (p .0))
     (λ c w h i p. let g = end-above t s 0 e 0 (byte-at c 0 256 zero-le h (can-match-hits i)) in omega arith)
 
-pub shared-dead : (t a b : List ℕ) (n : ℕ) → take n a ≡ take n b → Bytes a → End t (run t 0 (take n a)) 0 → MatchBetween t 0 a b → ⊥
+pub shared-dead : (t a b : List ℕ) (n : ℕ) → take n a ≡ take n b → Bytes a → EndLive t (run t 0 (take n a)) 0 → MatchBetween t 0 a b → ⊥
 shared-dead t a b n same bytes e m = between-dead t (run t 0 (take n a)) (drop n a) (drop n b) e (shared-run t 0 a b n same bytes refl .0 m)
