@@ -385,6 +385,7 @@ fn pictures(rows: &[&Row], call: &Call) -> Vec<(String, String, Vec<Panel>)> {
                 panels(&of_kind, call.scale, &front),
             )
         })
+        .filter(|(_, _, panels)| !panels.is_empty())
         .collect()
 }
 
@@ -458,6 +459,7 @@ fn examples(report: &Report, plots: &Path) -> io::Result<String> {
                 lines,
             }
         })
+        .filter(|panel| !panel.lines.is_empty())
         .collect();
     fs::write(
         plots.join("example.svg"),
@@ -466,7 +468,30 @@ fn examples(report: &Report, plots: &Path) -> io::Result<String> {
     Ok(out + "![Example: time of a call](plots/example.svg)\n\n")
 }
 
-/// The lines of the program `memory`: call, n, stack, and the Rust's allocations and their bytes.
+/// A line of the program `memory`: call, n, stack, and the Rust's allocations and their bytes, if there is a counterpart.
+struct Taken<'a> {
+    call: &'a str,
+    n: usize,
+    stack: usize,
+    rust: Option<(usize, usize)>,
+}
+
+impl<'a> Taken<'a> {
+    fn read(line: &'a str) -> Option<Taken<'a>> {
+        let mut parts = line.split('\t');
+        let call = parts.next()?;
+        let mut number = || parts.next()?.parse().ok();
+        let (n, stack) = (number()?, number()?);
+        let rust = number().zip(number());
+        Some(Taken {
+            call,
+            n,
+            stack,
+            rust,
+        })
+    }
+}
+
 fn memory_section(memory: &str, archive: Option<&str>) -> String {
     let mut out = String::from("## Memory\n\n");
     if let Some(names) = archive.and_then(machine::undefined) {
@@ -475,46 +500,43 @@ fn memory_section(memory: &str, archive: Option<&str>) -> String {
             names.join("`, `")
         );
     }
-    out += "Its stack was measured by painting one of 4 MB, on which each call ran, over the keys long-shared and the pattern \"follows half (64)\": \
-the bytes from the top to the deepest one that the call changed. Beside it what the Rust's counterpart allocates in one call.\n\n";
-    let lines: Vec<Vec<&str>> = memory
-        .lines()
-        .map(|line| line.split('\t').collect())
-        .collect();
-    let mut calls: Vec<&str> = Vec::new();
-    for line in &lines {
-        if !calls.contains(&line[0]) {
-            calls.push(line[0]);
-        }
+    let all: Vec<Taken> = memory.lines().filter_map(Taken::read).collect();
+    if let Some(deepest) = all.iter().max_by_key(|taken| taken.stack) {
+        out += &format!(
+            "Its deepest stack is that of `{}`, {} bytes. ",
+            deepest.call,
+            thousands(deepest.stack)
+        );
     }
-    let mut sizes: Vec<&str> = lines.iter().map(|line| line[1]).collect();
+    out + STACK + &memory_table(&all)
+}
+
+const STACK: &str = "Stacks were measured by painting one of 4 MB, on which each call ran, over the keys long-shared and the pattern \"follows half \
+(64)\": the bytes from the top to the deepest one that the call changed. Beside them what the Rust's counterpart allocates in one call; for a listing and \
+for `rosmarel_can_block_match` the words of the table are in it.\n\n";
+
+fn memory_table(all: &[Taken]) -> String {
+    let mut sizes: Vec<usize> = all.iter().map(|taken| taken.n).collect();
     sizes.dedup();
-    let number = |text: &str| thousands(text.parse().unwrap_or(0));
     let mut head = vec!["call".to_string()];
-    head.extend(sizes.iter().map(|n| format!("stack, n = {}", number(n))));
-    head.extend(
-        sizes
-            .iter()
-            .map(|n| format!("Rust allocates, n = {}", number(n))),
-    );
-    out += &table_head(&head);
-    for call in calls {
-        let of_call: Vec<&Vec<&str>> = lines.iter().filter(|line| line[0] == call).collect();
-        let mut cells = vec![format!("`{call}`")];
-        cells.extend(of_call.iter().map(|line| number(line[2])));
-        cells.extend(of_call.iter().map(|line| match (line[3], line[4]) {
-            ("-", _) => String::new(),
-            (count, bytes) => format!("{} times, {} bytes", number(count), number(bytes)),
+    let per_size = |what: &'static str| {
+        let name = move |n: &usize| format!("{what}, n = {}", thousands(*n));
+        sizes.iter().map(name).collect::<Vec<String>>()
+    };
+    head.extend(per_size("stack"));
+    head.extend(per_size("Rust allocates"));
+    let mut out = table_head(&head);
+    let first = sizes.first().copied();
+    for taken in all.iter().filter(|taken| Some(taken.n) == first) {
+        let of_call = || all.iter().filter(|one| one.call == taken.call);
+        let mut cells = vec![format!("`{}`", taken.call)];
+        cells.extend(of_call().map(|one| thousands(one.stack)));
+        cells.extend(of_call().map(|one| match one.rust {
+            Some((0, _)) => "nothing".to_string(),
+            Some((count, bytes)) => format!("{} bytes in {}", thousands(bytes), thousands(count)),
+            None => String::new(),
         }));
         out += &table_line(&cells);
     }
-    if let Some(deepest) = lines.iter().max_by_key(|line| line[2].parse().unwrap_or(0)) {
-        out += &format!(
-            "\nThe deepest is `{}`: {} bytes.",
-            deepest[0],
-            number(deepest[2])
-        );
-    }
-    out += " For `rosmarel_list` and `rosmarel_can_block_match` the Rust's part has the table's words in it.\n";
     out
 }
