@@ -389,6 +389,7 @@ fn pictures(rows: &[&Row], call: &Call) -> Vec<(String, String, Vec<Panel>)> {
                 panels(&of_kind, call.scale, &front),
             )
         })
+        .filter(|(_, _, panels)| !panels.is_empty())
         .collect()
 }
 
@@ -462,6 +463,7 @@ fn examples(report: &Report, plots: &Path) -> io::Result<String> {
                 lines,
             }
         })
+        .filter(|panel| !panel.lines.is_empty())
         .collect();
     fs::write(
         plots.join("example.svg"),
