@@ -244,6 +244,20 @@ less-end-right (x ∷ xs) (y ∷ ys) h =
     (λ e. let g : suc (length ys) ≤ suc (commonPrefixLen xs ys) = simp e at h in simp e (less-end-right xs ys (omega arith)))
     (λ e. let g : suc (length ys) ≤ 0 = simp e at h in absurd (omega arith))
 
+-- a byte string that is in common as a whole isn't above
+pub ≼-whole : (a b : List ℕ) → length a ≤ commonPrefixLen a b → a ≼ b
+unfolding less commonPrefixLen
+≼-whole [] [] h = refl
+≼-whole [] (y ∷ ys) h = refl
+≼-whole (x ∷ xs) [] h = absurd (omega arith)
+≼-whole (x ∷ xs) (y ∷ ys) h =
+    by-test (eqb x y)
+    (λ e.
+    let g : suc (length xs) ≤ suc (commonPrefixLen xs ys) = simp e at h in
+    let f : eqb y x ≡ true = eq-eqb y x (sym (eqb-true x y e)) in
+    simp f (≼-whole xs ys (omega arith)))
+    (λ e. let g : suc (length xs) ≤ 0 = simp e at h in absurd (omega arith))
+
 pub less-end-left : (a b : List ℕ) → length a ≤ commonPrefixLen a b → commonPrefixLen a b < length b → less a b ≡ true
 unfolding less commonPrefixLen
 less-end-left [] [] h k = absurd (omega arith)

@@ -1,15 +1,16 @@
 -- Laws of the common prefix by words: the trailing zero bits of two words' exclusive or count the bytes that they have in common.
 use Prim.Native.Nat.{ℕ, zero, suc, _+_, _*_, _/_, _%_, _^_, _≤_, _<_, min}
 use mathlib.Core.Path.{_≡_, refl, sym, ap, _∙_}
+use mathlib.Core.Bool.{false, not, _||_}
 use mathlib.Core.List.{List, [], _∷_}
 use native.Mathlib.Nat.{pow-suc, mul-one, suc-add, zero-add, lt-of-not-le}
 use native.Mathlib.Omega.{arith}
-use lib.Dec.{eqb}
+use lib.Dec.{eqb, ltb}
 use lib.Bits.{bitXor, and-le-l, and-le-r, xor-add-and, xor-self, xor-lt, xor-block, block-half, block-odd, shifted-half, shifted-even}
 use lib.Count.{trailingZeros, under, trailing-of-zero}
 use lib.ListN.{length, take, drop, getD, length-drop}
-use lib.Seq.{take-take}
-use borrow.Author.Tests.{eqb-true, eqb-false}
+use lib.Seq.{take-take, getD-drop}
+use borrow.Author.Tests.{eqb-true, eqb-false, lt-ltb, le-ltb, ltb-true, ltb-false}
 use Rattle.serialize.specs.Digits.{ofDigits, leVal, Below}
 use Rattle.serialize.proofs.Digits.{below-drop}
 use Rattle.keys.specs.Order.{commonPrefixLen}
@@ -51,6 +52,31 @@ same-byte a b i h k l e = omega (arith, commonPrefixLen-behind i a b l, commonPr
 
 pub other-byte : (a b : List ℕ) (i : ℕ) → i < length a → i < length b → i ≤ commonPrefixLen a b → (getD a i 0 ≡ getD b i 0 → ⊥) → i ≡ commonPrefixLen a b
 other-byte a b i h k l e = omega (arith, commonPrefixLen-behind i a b l, commonPrefixLen-other a b i h k e)
+
+-- ---- a run of bytes, each compared
+
+-- fewer than n + 1 are in common: fewer than n, or the byte at n differs
+run-step : (a b : List ℕ) (n : ℕ) → n < length a → n < length b
+    → ltb (commonPrefixLen a b) n || not (eqb (getD a n 0) (getD b n 0)) ≡ ltb (commonPrefixLen a b) (n + 1)
+run-step a b n h k =
+    by-test (ltb (commonPrefixLen a b) n)
+    (λ e. rw (e, lt-ltb (commonPrefixLen a b) (n + 1) (omega (arith, ltb-true))))
+    (λ e.
+    let l : n ≤ commonPrefixLen a b = ltb-false (commonPrefixLen a b) n e in
+    by-test (eqb (getD a n 0) (getD b n 0))
+    (λ f. rw (e, f, le-ltb (commonPrefixLen a b) (n + 1) (omega (arith, same-byte a b n h k l (eqb-true (getD a n 0) (getD b n 0) f)))))
+    (λ f. rw (e, f, lt-ltb (commonPrefixLen a b) (n + 1) (omega (arith, other-byte a b n h k l (eqb-false (getD a n 0) (getD b n 0) f))))))
+
+-- the same, n bytes from the place `at` on
+pub run-step-at : (a b : List ℕ) (at n : ℕ) → at + n < length a → at + n < length b
+    → ltb (commonPrefixLen (drop at a) (drop at b)) n || not (eqb (getD a (at + n) 0) (getD b (at + n) 0)) ≡ ltb (commonPrefixLen (drop at a) (drop at b)) (n + 1)
+run-step-at a b at n h k =
+    rw (← (getD-drop at a n 0), ← (getD-drop at b n 0))
+    (run-step (drop at a) (drop at b) n (omega (arith, length-drop at a)) (omega (arith, length-drop at b)))
+
+-- a run that is in common
+pub same-run : (a b : List ℕ) (at n : ℕ) → at ≤ commonPrefixLen a b → ltb (commonPrefixLen (drop at a) (drop at b)) n ≡ false → at + n ≤ commonPrefixLen a b
+same-run a b at n l e = omega (arith, commonPrefixLen-behind at a b l, ltb-false (commonPrefixLen (drop at a) (drop at b)) n e)
 
 -- ---- trailing zeros
 

@@ -3,6 +3,7 @@ ghost use mathlib.Core.Path.{_≡_};
 ghost use Prim.Native.Nat.{ℕ, _+_, _≤_, _<_, min};
 ghost use mathlib.Core.List.{List};
 ghost use lib.ListN.{length, take, drop, getD};
+ghost use lib.Dec.{ltb};
 ghost use lib.Seq.{sets};
 ghost use Rattle.keys.specs.Order.{less, commonPrefixLen};
 ghost use Rattle.keys.specs.Shorten.{shorten};
@@ -59,6 +60,39 @@ fn first_other_word(left: &[u8], right: &[u8], from: usize, last: usize) -> usiz
     last
 }
 
+// Whether one of the 64 bytes from `at` on differs. It looks at all of them, so that the loop takes many at once.
+fn differs(left: &[u8], right: &[u8], at: usize) -> bool
+    requires { ⌜ (at + 64 ≤ length (now left)) × (at + 64 ≤ length (now right)) ⌝ }
+    ensures { λ r. ⌜ r ≡ ltb (commonPrefixLen (drop at (now (left .entry))) (drop at (now (right .entry)))) 64 ⌝ }
+{
+    let mut found = false;
+    let mut i: usize = 0;
+    while i < 64 {
+        found = found | (left[at + i] != right[at + i]);
+        i += 1;
+    }
+    found
+}
+
+// The place of the first 64 bytes from `from` on, in steps of 64, that aren't all in common; the last 64 may overlap those before them.
+// Where all are, the shorter key's length.
+fn first_other_run(left: &[u8], right: &[u8], from: usize, last: usize) -> usize
+    requires { ⌜ last + 64 ≡ min (length (now left)) (length (now right)) ⌝ }
+    ensures { λ r. ⌜ (from ≤ commonPrefixLen (now (left .entry)) (now (right .entry)) → r ≤ commonPrefixLen (now (left .entry)) (now (right .entry))) ⌝ }
+{
+    let mut at = from;
+    while at < last {
+        if differs(left, right, at) {
+            return at;
+        }
+        at += 64;
+    }
+    if differs(left, right, last) {
+        return last;
+    }
+    last + 64
+}
+
 // How many bytes the keys have in common at the front, if the first `from` are. The last word may overlap the one before it.
 pub fn common_prefix_len_from(left: &[u8], right: &[u8], from: usize) -> usize
     ensures { λ r. ⌜ (from ≤ commonPrefixLen (now (left .entry)) (now (right .entry)) → r ≡ commonPrefixLen (now (left .entry)) (now (right .entry))) ⌝ }
@@ -67,7 +101,12 @@ pub fn common_prefix_len_from(left: &[u8], right: &[u8], from: usize) -> usize
     if short < 8 {
         return common_bytes(left, right, short);
     }
-    let at = first_other_word(left, right, from, short - 8);
+    let behind = if short < 64 {
+        from
+    } else {
+        first_other_run(left, right, from, short - 64)
+    };
+    let at = first_other_word(left, right, behind, short - 8);
     at + common_of_word(left, right, at)
 }
 
