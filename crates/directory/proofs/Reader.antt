@@ -7,7 +7,7 @@ use Prim.Native.Nat.{ℕ, zero, suc, _+_, _*_, _≤_, _<_}
 use native.Mathlib.Nat.{eq-or-lt-of-le, le-of-suc-le-suc, lt-of-not-le}
 use native.Mathlib.Omega.{arith}
 use Rattle.keys.specs.Order.{less, _≺_, _≼_, commonPrefixLen}
-use Rattle.keys.proofs.Order.{less-trans, less-asym, commonPrefixLen-below, commonPrefixLen-above}
+use Rattle.keys.proofs.Order.{less-trans, less-asym, ≺-≼-trans, commonPrefixLen-below, commonPrefixLen-above}
 use Rattle.directory.specs.Read.{keyOf, Sorted, First}
 
 -- ---- keys that rise
@@ -30,6 +30,10 @@ module _ (d : List ℕ) (n : ℕ) (sorted : Sorted d n) where
       (λ (e : i ≡ m). rw e p)
       (λ (g : i < m). less-trans (keyOf d n i) (keyOf d n m) key (keys-rise i m g l) p)
       (eq-or-lt-of-le h′)
+
+  -- with key m not above a key, all before it are below the key
+  pub all-before : (m : ℕ) (key : List ℕ) → m < n → keyOf d n m ≼ key → (i : ℕ) → i < m → keyOf d n i ≺ key
+  all-before m key l p i h = ≺-≼-trans (keyOf d n i) (keyOf d n m) key (keys-rise i m h l) p
 
   -- above key m, up to a key, no fewer bytes are in common with the key; below key m, down to the key, as well
   pub shared-below : (m : ℕ) (key : List ℕ) → (i : ℕ) → m + 1 ≤ i → i < n → keyOf d n i ≼ key → commonPrefixLen (keyOf d n m) key ≤ commonPrefixLen (keyOf d n i) key

@@ -152,6 +152,7 @@ fn below(at: &[u8], key: &[u8], shared: usize) -> bool
 
 // The first of n keys that isn't below `key`: a binary search. The key before `left` and the key at `right` share
 // `left_shared` and `right_shared` bytes with `key`; where keys rise, those between them share at least the lesser of the two.
+// A key that isn't below `key` and has no byte beyond the shared ones is equal to it: the search ends there.
 pub fn locate_with_key(directory: &[u8], n: usize, key: &[u8]) -> Found
     requires { ⌜ (1 ≤ n) × (n ≤ 65536) ⌝ }
     ensures { λ r. ⌜ FoundIn n r ⌝ }
@@ -171,6 +172,8 @@ pub fn locate_with_key(directory: &[u8], n: usize, key: &[u8]) -> Found
         if below(at, key, shared) {
             left = mid + 1;
             left_shared = shared;
+        } else if shared >= at.len() {
+            return Found::At(mid);
         } else {
             right = mid;
             right_shared = shared;

@@ -6,10 +6,11 @@ use mathlib.Core.Bool.{Bool, true≢false}
 use mathlib.Core.List.{List}
 use Prim.Native.Nat.{ℕ, _+_, _-_, _/_, _≤_, _<_, min}
 use native.Mathlib.Omega.{arith}
+use lib.ListN.{length}
 use Rattle.keys.specs.Order.{less, _≺_, _≼_, commonPrefixLen}
-use Rattle.keys.proofs.Order.{by-test, less-asym}
+use Rattle.keys.proofs.Order.{by-test, less-asym, ≼-whole}
 use Rattle.directory.specs.Read.{keyOf, Sorted, First, FoundIn, FoundAs}
-use Rattle.directory.proofs.Reader.{all-below, shared-below, shared-above}
+use Rattle.directory.proofs.Reader.{all-below, all-before, shared-below, shared-above}
 use Rattle.directory.proofs.read.locate_with_key.Statement.{statement}
 use Rattle.directory.proofs.read.locate_with_key.Tie as tie
 
@@ -46,6 +47,9 @@ module _ {x k : List ℕ} (key : List ℕ) (e : x ≡ k) where
 
   tested : {t b : Bool} (shared : ℕ) → shared ≡ commonPrefixLen k key → (shared ≡ commonPrefixLen x key → t ≡ less x key) → t ≡ b → less k key ≡ b
   tested shared h p q = sym (rw e at p h) ∙ q
+
+  whole : (shared : ℕ) → shared ≡ commonPrefixLen k key → length x ≤ shared → k ≼ key
+  whole shared h l = ≼-whole k key (omega (arith, ap length e))
 
 loop-holds : tie.Need-loop-holds Inv-loop μ-loop
 loop-holds c = (
@@ -121,12 +125,32 @@ loop-again c =
       l .loop .inv .5,
     )
 
+-- the key in the middle is the key looked for
+returns-2 : tie.Need-returns-2 Inv-loop μ-loop
+unfolding FoundIn FoundAs
+returns-2 c =
+    let b = c .before .before in
+    let f = b .before in
+    let k = f .before .before in
+    let l = k .before .before .before .before in
+    let a = l .before .before .before .args in
+    let mid = middle (l .loop .left) (l .loop .right) in
+    let within : mid < a .n = omega arith in (
+      within,
+      λ sorted. record {
+        inside = within;
+        not-below = tested (a .key .now) (k .key .ensures) (f .common-prefix-len-from .result) (shared-is f sorted) (b .below .ensures) (c .before .if2 .left);
+        earlier = all-before (a .directory .now) (a .n) sorted mid (a .key .now) within (whole (a .key .now) (k .key .ensures) (f .common-prefix-len-from .result) (shared-is f sorted) (c .if3 .taken));
+      },
+    )
+
 loop-less-2 : tie.Need-loop-less-2 Inv-loop μ-loop
 loop-less-2 c = search needs
 
 loop-again-2 : tie.Need-loop-again-2 Inv-loop μ-loop
 loop-again-2 c =
-    let f = c .before .before in
+    let b = c .before .before in
+    let f = b .before in
     let k = f .before .before in
     let l = k .before .before .before .before in
     let a = l .before .before .before .args in
@@ -134,20 +158,20 @@ loop-again-2 c =
       omega arith,
       omega arith,
       l .loop .inv .2,
-      λ sorted h. tested (a .key .now) (k .key .ensures) (f .common-prefix-len-from .result) (shared-is f sorted) (c .before .below .ensures) (c .if2 .left),
+      λ sorted h. tested (a .key .now) (k .key .ensures) (f .common-prefix-len-from .result) (shared-is f sorted) (b .below .ensures) (c .before .if2 .left),
       l .loop .inv .4,
       λ sorted i h r. rw (shared-is f sorted) (shared-above (a .directory .now) (a .n) sorted mid (a .key .now) (omega arith) i h r),
     )
 
-returns-2 : tie.Need-returns-2 Inv-loop μ-loop
-unfolding FoundIn FoundAs
-returns-2 c =
-    let l = c .before .before in
-    (tt, λ sorted i h. l .loop .inv .2 sorted i (omega arith))
-
 returns-3 : tie.Need-returns-3 Inv-loop μ-loop
 unfolding FoundIn FoundAs
 returns-3 c =
+    let l = c .before .before in
+    (tt, λ sorted i h. l .loop .inv .2 sorted i (omega arith))
+
+returns-4 : tie.Need-returns-4 Inv-loop μ-loop
+unfolding FoundIn FoundAs
+returns-4 c =
     let l = c .before .before in
     let a = l .before .before .before .args in
     let e : l .loop .right ≡ l .loop .left = omega arith in
@@ -178,7 +202,8 @@ locate-with-key-spec =
     add-left
     loop-less
     loop-again
+    returns-2
     loop-less-2
     loop-again-2
-    returns-2
-    returns-3)
+    returns-3
+    returns-4)
