@@ -152,7 +152,7 @@ fn below(at: &[u8], key: &[u8], shared: usize) -> bool
 
 // The first of n keys that isn't below `key`: a binary search. The key before `left` and the key at `right` share
 // `left_shared` and `right_shared` bytes with `key`; where keys rise, those between them share at least the lesser of the two.
-// A key that isn't below `key` and has no byte beyond the shared ones is equal to it: the search ends there.
+// The search ends at a key equal to `key`: neither has a byte behind the shared ones.
 pub fn locate_with_key(directory: &[u8], n: usize, key: &[u8]) -> Found
     requires { ⌜ (1 ≤ n) × (n ≤ 65536) ⌝ }
     ensures { λ r. ⌜ FoundIn n r ⌝ }
@@ -169,11 +169,15 @@ pub fn locate_with_key(directory: &[u8], n: usize, key: &[u8]) -> Found
         }
         let at = self::key(directory, n, mid);
         let shared = keys::common_prefix_len_from(at, key, lesser(left_shared, right_shared));
-        if below(at, key, shared) {
+        if shared >= key.len() {
+            if shared >= at.len() {
+                return Found::At(mid);
+            }
+            right = mid;
+            right_shared = shared;
+        } else if below(at, key, shared) {
             left = mid + 1;
             left_shared = shared;
-        } else if shared >= at.len() {
-            return Found::At(mid);
         } else {
             right = mid;
             right_shared = shared;

@@ -8,7 +8,7 @@ use Prim.Native.Nat.{ℕ, _+_, _-_, _/_, _≤_, _<_, min}
 use native.Mathlib.Omega.{arith}
 use lib.ListN.{length}
 use Rattle.keys.specs.Order.{less, _≺_, _≼_, commonPrefixLen}
-use Rattle.keys.proofs.Order.{by-test, less-asym, ≼-whole}
+use Rattle.keys.proofs.Order.{by-test, less-asym, less-end-right, ≼-whole}
 use Rattle.directory.specs.Read.{keyOf, Sorted, First, FoundIn, FoundAs}
 use Rattle.directory.proofs.Reader.{all-below, all-before, shared-below, shared-above}
 use Rattle.directory.proofs.read.locate_with_key.Statement.{statement}
@@ -86,15 +86,6 @@ lesser-requires c κs = search needs
 common-prefix-len-from-requires : tie.Need-common-prefix-len-from-requires Inv-loop μ-loop
 common-prefix-len-from-requires c κs = search needs
 
-below-requires : tie.Need-below-requires Inv-loop μ-loop
-below-requires c κs = search needs
-
-add-left : tie.Need-add-left Inv-loop μ-loop
-add-left c = search needs
-
-loop-less : tie.Need-loop-less Inv-loop μ-loop
-loop-less c = search needs
-
 -- where keys rise, what the code counts is what the key in the middle shares
 shared-is : (c : tie.After-common-prefix-len-from Inv-loop μ-loop) →
     let l = c .before .before .before .before .before .before in
@@ -110,27 +101,40 @@ shared-is c sorted =
     lesser-shared (keyOf (a .directory .now) (a .n) mid) (a .key .now) (l .loop .left-shared) (l .loop .right-shared) (l .loop .inv .4 sorted mid (omega arith) (omega arith)) (l .loop .inv .5 sorted mid (omega arith)) in
     counted (a .key .now) (k .key .ensures) (c .before .lesser .result) (c .common-prefix-len-from .result) (omega arith) (c .common-prefix-len-from .ensures)
 
-loop-again : tie.Need-loop-again Inv-loop μ-loop
-loop-again c =
-    let f = c .before .before in
-    let k = f .before .before in
-    let l = k .before .before .before .before in
+-- with the key in the middle not below the key, the middle is the new right bound
+turned-right : (c : tie.After-common-prefix-len-from Inv-loop μ-loop) →
+    let l = c .before .before .before .before .before .before in
+    let a = l .before .before .before .args in
+    let mid = middle (l .loop .left) (l .loop .right) in
+    (Sorted (a .directory .now) (a .n) → a .key .now ≼ keyOf (a .directory .now) (a .n) mid)
+    → Inv-loop (a .directory .now) (a .n) (a .key .now) 0 (a .n) 0 0 (l .loop .left) mid (l .loop .left-shared) (c .common-prefix-len-from .result)
+turned-right c p =
+    let l = c .before .before .before .before .before .before in
     let a = l .before .before .before .args in
     let mid = middle (l .loop .left) (l .loop .right) in (
       omega arith,
-      l .loop .inv .1,
-      λ sorted. all-below (a .directory .now) (a .n) sorted mid (a .key .now) (omega arith) (tested (a .key .now) (k .key .ensures) (f .common-prefix-len-from .result) (shared-is f sorted) (c .before .below .ensures) (c .if2 .taken)),
-      l .loop .inv .3,
-      λ sorted i h g r. rw (shared-is f sorted) (shared-below (a .directory .now) (a .n) sorted mid (a .key .now) i h g r),
-      l .loop .inv .5,
+      omega arith,
+      l .loop .inv .2,
+      λ sorted h. p sorted,
+      l .loop .inv .4,
+      λ sorted i h r. rw (shared-is c sorted) (shared-above (a .directory .now) (a .n) sorted mid (a .key .now) (omega arith) i h r),
     )
+
+-- with all of the key shared, the key in the middle isn't below it
+not-below-shared : (c : tie.Then2 Inv-loop μ-loop) →
+    let l = c .before .before .before .before .before .before .before in
+    let a = l .before .before .before .args in
+    Sorted (a .directory .now) (a .n) → a .key .now ≼ keyOf (a .directory .now) (a .n) (middle (l .loop .left) (l .loop .right))
+not-below-shared c sorted =
+    let l = c .before .before .before .before .before .before .before in
+    let a = l .before .before .before .args in
+    less-end-right (keyOf (a .directory .now) (a .n) (middle (l .loop .left) (l .loop .right))) (a .key .now) (omega (arith, shared-is (c .before) sorted))
 
 -- the key in the middle is the key looked for
 returns-2 : tie.Need-returns-2 Inv-loop μ-loop
 unfolding FoundIn FoundAs
 returns-2 c =
-    let b = c .before .before in
-    let f = b .before in
+    let f = c .before .before in
     let k = f .before .before in
     let l = k .before .before .before .before in
     let a = l .before .before .before .args in
@@ -139,29 +143,51 @@ returns-2 c =
       within,
       λ sorted. record {
         inside = within;
-        not-below = tested (a .key .now) (k .key .ensures) (f .common-prefix-len-from .result) (shared-is f sorted) (b .below .ensures) (c .before .if2 .left);
+        not-below = not-below-shared (c .before) sorted;
         earlier = all-before (a .directory .now) (a .n) sorted mid (a .key .now) within (whole (a .key .now) (k .key .ensures) (f .common-prefix-len-from .result) (shared-is f sorted) (c .if3 .taken));
       },
     )
+
+loop-less : tie.Need-loop-less Inv-loop μ-loop
+loop-less c = search needs
+
+loop-again : tie.Need-loop-again Inv-loop μ-loop
+loop-again c = turned-right (c .before .before) (not-below-shared (c .before))
+
+below-requires : tie.Need-below-requires Inv-loop μ-loop
+below-requires c κs = search needs
+
+add-left : tie.Need-add-left Inv-loop μ-loop
+add-left c = search needs
 
 loop-less-2 : tie.Need-loop-less-2 Inv-loop μ-loop
 loop-less-2 c = search needs
 
 loop-again-2 : tie.Need-loop-again-2 Inv-loop μ-loop
 loop-again-2 c =
-    let b = c .before .before in
-    let f = b .before in
+    let f = c .before .before .before in
     let k = f .before .before in
     let l = k .before .before .before .before in
     let a = l .before .before .before .args in
     let mid = middle (l .loop .left) (l .loop .right) in (
       omega arith,
-      omega arith,
-      l .loop .inv .2,
-      λ sorted h. tested (a .key .now) (k .key .ensures) (f .common-prefix-len-from .result) (shared-is f sorted) (b .below .ensures) (c .before .if2 .left),
-      l .loop .inv .4,
-      λ sorted i h r. rw (shared-is f sorted) (shared-above (a .directory .now) (a .n) sorted mid (a .key .now) (omega arith) i h r),
+      l .loop .inv .1,
+      λ sorted. all-below (a .directory .now) (a .n) sorted mid (a .key .now) (omega arith) (tested (a .key .now) (k .key .ensures) (f .common-prefix-len-from .result) (shared-is f sorted) (c .before .below .ensures) (c .if4 .taken)),
+      l .loop .inv .3,
+      λ sorted i h g r. rw (shared-is f sorted) (shared-below (a .directory .now) (a .n) sorted mid (a .key .now) i h g r),
+      l .loop .inv .5,
     )
+
+loop-less-3 : tie.Need-loop-less-3 Inv-loop μ-loop
+loop-less-3 c = search needs
+
+loop-again-3 : tie.Need-loop-again-3 Inv-loop μ-loop
+loop-again-3 c =
+    let f = c .before .before .before in
+    let k = f .before .before in
+    let a = k .before .before .before .before .before .before .before .args in
+    turned-right f
+    (λ sorted. tested (a .key .now) (k .key .ensures) (f .common-prefix-len-from .result) (shared-is f sorted) (c .before .below .ensures) (c .if4 .left))
 
 returns-3 : tie.Need-returns-3 Inv-loop μ-loop
 unfolding FoundIn FoundAs
@@ -198,12 +224,14 @@ locate-with-key-spec =
     key-requires
     lesser-requires
     common-prefix-len-from-requires
-    below-requires
-    add-left
+    returns-2
     loop-less
     loop-again
-    returns-2
+    below-requires
+    add-left
     loop-less-2
     loop-again-2
+    loop-less-3
+    loop-again-3
     returns-3
     returns-4)
