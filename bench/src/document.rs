@@ -293,6 +293,7 @@ The number of states is in brackets.
 |---|---|
 | all (1) | every key |
 | any length (64) | keys with 63, 127, 191, .. bytes: from each state every byte leads on |
+| dense (64) | from each state the bytes lead to all states as if at random; one accepts |
 | contains (2) | keys that have one byte (37, or the digit 7) somewhere |
 | begins (4) | keys that begin with two bytes of one of the keys |
 | one key (10) | one of the keys |

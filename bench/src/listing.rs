@@ -33,6 +33,7 @@ pub fn patterns_for(input: &Input) -> Vec<(&'static str, Vec<u8>)> {
     let mut patterns = vec![
         ("all (1)", patterns::all()),
         ("any length (64)", patterns::length_64()),
+        ("dense (64)", patterns::dense_64()),
     ];
     if input.kind == Keys::Short {
         let words: Vec<&[u8]> = (0..7)

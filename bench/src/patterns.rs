@@ -58,6 +58,14 @@ pub fn length_64() -> Vec<u8> {
     table(&flags(64, 63), |state, _| (state + 1) % 64)
 }
 
+/// From each of 64 states the bytes lead to all states as if at random; one of them accepts.
+pub fn dense_64() -> Vec<u8> {
+    let mixed = |place: usize| (place as u32).wrapping_mul(0x9E37_79B1) >> 26;
+    table(&flags(64, 63), |state, byte| {
+        mixed(state * 256 + usize::from(byte) + 1) as usize
+    })
+}
+
 /// Letters, and then digits that begin so.
 pub fn letters_then(digits: &[u8]) -> Vec<u8> {
     let (all, lost) = (digits.len(), digits.len() + 1);

@@ -14,6 +14,9 @@ fn patterns_accept_what_they_say() {
     assert!(accepts(&follow_few(), b"ab12m!") && !accepts(&follow_few(), b"ab12m"));
     assert!(accepts(&follow(2), b"a00000002mm!") && !accepts(&follow(2), b"a00000002m!"));
     assert!(!accepts(&follow(2), b"a00000003mm!") && follow(54)[0] == 64);
+    let dense = dense_64();
+    let each_state = |row: &[u8]| (0..64).all(|state| row.contains(&state));
+    assert!(dense[0] == 64 && dense[65..].chunks(256).all(each_state));
     let words = words_64(&[b"ab", b"ac", b"b"]);
     assert!(words[0] == 64 && accepts(&words, b"ac") && !accepts(&words, b"a"));
 }
@@ -24,6 +27,7 @@ fn both_builders_find_the_same_states() {
         all(),
         begins(b"ab"),
         length_64(),
+        dense_64(),
         follow(54),
         words_64(&[b"ab", b"c"]),
     ] {
