@@ -60,3 +60,17 @@ module _ {t : List ℕ} (small : Below 8 t) (at : ℕ) where
       holds = holds-or 8 v (i .holds) (holds-same (place t at n) h);
       in-last = λ j l. subst (λ (x : ℕ). bit (bitOr w v) x ≡ 1) (sym (byte-is j l ∙ sym (place t at n j))) (bit-or w v (getD t (at + n + j) 0) ∙ omega (arith, h .has j l, bit-lt w (getD t (at + n + j) 0)));
     })
+
+-- ---- eight bytes whose bits are clear in the word of reach
+abbrev pub Blank : (reach eight : ℕ) → Type 0
+Blank reach eight = (j : ℕ) → j < 8 → bit reach (byteOf eight j) ≡ 0
+
+module _ (t : List ℕ) (small : Below 8 t) (reach at eight : ℕ) (is : eight ≡ eightAt t at) where
+  byte-bit : (j : ℕ) → j < 8 → bit reach (byteOf eight j) ≡ bit reach (getD t (at + j) 0)
+  byte-bit j l = ap (bit reach) (ap (λ (x : ℕ). byteOf x j) is ∙ byte-at t small at j l)
+
+  pub blank-new : ((j : ℕ) → j < 8 → bit reach (getD t (at + j) 0) ≡ 0) → Blank reach eight
+  blank-new f j l = byte-bit j l ∙ f j l
+
+  pub blank-used : Blank reach eight → (j : ℕ) → j < 8 → bit reach (getD t (at + j) 0) ≡ 0
+  blank-used f j l = sym (byte-bit j l) ∙ f j l

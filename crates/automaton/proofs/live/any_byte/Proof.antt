@@ -2,7 +2,10 @@
 use Prim.Native.Nat.{_+_, _-_, _≤_, _<_}
 use native.Mathlib.Omega.{arith}
 use borrow.Author.Needs.{needs}
-use Rattle.automaton.proofs.LiveBytes.{Dead, dead-both, look-live, look-dead}
+use Rattle.automaton.specs.Table.{next}
+use Rattle.automaton.proofs.Exact.{when-true, when-false}
+use Rattle.automaton.proofs.Word.{bit-off}
+use Rattle.automaton.proofs.LiveBytes.{Nowhere, Dead, all-up, leads-on, leads-nowhere}
 use Rattle.automaton.proofs.live.any_byte.Statement.{statement}
 use Rattle.automaton.proofs.live.any_byte.Tie as tie
 
@@ -53,7 +56,7 @@ returns c =
     let a = c .before .before .before .before .before .before .before .args in
     let p = c .before .before .before .before .before .before .before .pre in
     let l = c .before .before .before .before .loop in
-    record { byte = l .b; low = l .inv .0; high = omega arith; rest = look-live (p .0) (p .1) (a .state) (l .b) (p .2) (omega arith) (c .before .is-set .ensures) (c .if1 .taken) }
+    record { byte = l .b; low = l .inv .0; high = omega arith; rest = leads-on (p .0) (p .1) (a .state) (p .2) (l .b) (omega arith) (when-true (c .before .is-set .ensures) (c .if1 .taken)) }
 
 add-b : tie.Need-add-b Inv-loop μ-loop
 add-b c = search needs
@@ -66,7 +69,8 @@ loop-again c =
     let a = c .before .before .before .before .before .before .before .args in
     let p = c .before .before .before .before .before .before .before .pre in
     let l = c .before .before .before .before .loop in
-    (omega arith, dead-both (a .table .now) (a .state) (a .lo) (l .b) (l .b + 1) (l .inv .1) (look-dead (p .0) (p .1) (a .state) (l .b) (p .2) (omega arith) (c .before .is-set .ensures) (c .if1 .left)))
+    let off = bit-off (a .reach) (next (a .table .now) (a .state) (l .b)) (when-false (c .before .is-set .ensures) (c .if1 .left)) in
+    (omega arith, all-up (Nowhere (a .table .now) (a .state)) (a .lo) (l .b) (l .inv .1) (leads-nowhere (p .0) (p .1) (a .state) (p .2) (l .b) (omega arith) off))
 
 returns-2 : tie.Need-returns-2 Inv-loop μ-loop
 returns-2 c = λ y. c .before .loop .inv .1 (y .byte) (y .low) (omega (arith, y .high)) (y .rest)
