@@ -11,7 +11,7 @@ use Rattle.serialize.specs.Digits.{Below}
 use Rattle.automaton.specs.Bits.{bit}
 use Rattle.automaton.specs.Table.{WellFormed, states, next}
 use Rattle.automaton.specs.Words.{CanMatch, Reach}
-use Rattle.automaton.specs.Live.{LiveByte, FirstLive, EndLive}
+use Rattle.automaton.specs.Live.{FirstLive, EndLive}
 use Rattle.automaton.proofs.Exact.{same-or, lt-or-le, exactly-ltb, exactly-map}
 use Rattle.automaton.proofs.Eights.{eightAt, Blank, blank-used}
 

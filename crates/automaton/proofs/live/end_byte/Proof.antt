@@ -1,6 +1,6 @@
 -- The loop keeps: no byte passed leads on, nor one of the eight that were looked at last.
-use Prim.Native.Nat.{ℕ, _+_, _-_, _*_, _%_, _≤_, _<_}
-use mathlib.Core.Path.{_≡_, sym, _∙_, subst}
+use Prim.Native.Nat.{_+_, _-_, _*_, _%_, _≤_}
+use mathlib.Core.Path.{_≡_, sym, subst}
 use native.Mathlib.Omega.{arith}
 use borrow.Author.Needs.{needs}
 use Rattle.serialize.specs.Digits.{Below}

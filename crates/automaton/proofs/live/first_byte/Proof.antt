@@ -1,5 +1,5 @@
 -- The loop keeps: no byte passed leads on, nor one of the eight that were looked at last.
-use Prim.Native.Nat.{ℕ, _+_, _-_, _*_, _%_, _≤_, _<_}
+use Prim.Native.Nat.{_+_, _-_, _*_, _%_, _≤_}
 use mathlib.Core.Path.{_≡_, sym, _∙_, subst}
 use mathlib.Core.Logic.{⊎-elim}
 use native.Mathlib.Omega.{arith}
@@ -112,10 +112,10 @@ loop-again c =
     let small : Below 8 (a .table .now) = λ i. omega (arith, c .before .before .before .before .before .before .before .before .shared-slice-known .given i) in
     let eight = c .before .deserialize-u642 in
     let d : Blank (a .reach) (eight .result) =
-        ⊎-elim
-        (λ w. blank-new (a .table .now) small (a .reach) (row + l .b) (eight .result) (eight .ensures) (λ j h. w .1 .ensures .0 j h (omega (arith, w))))
-        (λ w. subst (Blank (a .reach)) (sym (w .0 .left)) (l .inv .2))
-        (c .if2 .came) in
+    ⊎-elim
+    (λ w. blank-new (a .table .now) small (a .reach) (row + l .b) (eight .result) (eight .ensures) (λ j h. w .1 .ensures .0 j h (omega (arith, w))))
+    (λ w. subst (Blank (a .reach)) (sym (w .0 .left)) (l .inv .2))
+    (c .if2 .came) in
     let e : c .if2 .dead ≡ eight .result = ⊎-elim (λ w. w .3) (λ w. w .1 ∙ sym (w .0 .left)) (c .if2 .came) in
     (omega arith, omega arith, subst (Blank (a .reach)) (sym e) d, all-both (Nowhere (a .table .now) (a .state)) 0 (l .b) (l .b + 8) (l .inv .3) (eight-passed (p .0) (p .1) (a .state) (p .2) (row + l .b) (l .b) (omega arith) (omega arith) small (eight .result) (eight .ensures) d))
 
