@@ -2,18 +2,17 @@
 use mathlib.Core.Path.{_≡_, sym, ap, _∙_, subst}
 use mathlib.Core.List.{List}
 use mathlib.Core.Logic.{⊎-elim}
-use Prim.Native.Nat.{ℕ, zero, suc, _+_, _-_, _*_, _/_, _%_, _^_, _≤_, _<_}
-use native.Mathlib.Nat.{pow-suc, le-refl, zero-mul, lt-of-lt-of-le}
+use Prim.Native.Nat.{ℕ, zero, suc, _+_, _-_, _*_, _/_, _%_, _^_, _<_}
+use native.Mathlib.Nat.{pow-suc, le-refl, zero-mul}
 use native.Mathlib.Numerals.{add-one}
 use native.Mathlib.Omega.{arith}
 use lib.Dec.{lit<}
-use lib.Pow.{pow-mono, pow-add}
 use lib.Bits.{bitAnd, bitOr, or-zero-r}
 use lib.ListN.{length, getD, set}
 use lib.Seq.{getD-set-same, getD-set-other}
 use Rattle.automaton.specs.Bits.{bit}
 use Rattle.automaton.proofs.Exact.{same-or, lt-or-le}
-use Rattle.automaton.proofs.Word.{bit-lt, bit-zero, bit-top, bit-set, bit-set-other, bit-pow, bit-pow-other, bit-test, bit-or, bit-mod, bit-shift, or-set, shl-bit, shl-one}
+use Rattle.automaton.proofs.Word.{bit-lt, bit-zero, bit-top, bit-set, bit-set-other, bit-pow, bit-pow-other, bit-test, bit-or, or-set, shl-bit, shl-one}
 
 -- ---- w has n bits, and bit k is f k
 pub record Filled (f : ℕ → ℕ) (n w : ℕ) : Type 0 where
@@ -53,43 +52,6 @@ module _ {f : ℕ → ℕ} {n w : ℕ} (i : Filled f n w) where
   -- `w | (((v >> s) & 1) << n)`
   pub filled-bit : (v s : ℕ) → bit v s ≡ f n → n < 64 → Filled f (n + 1) (bitOr w ((bitAnd (v / 2 ^ s) 1 * 2 ^ n) % 2 ^ 64))
   filled-bit v s e l = rw bit-test (filled-more (bit v s) e (bit-lt v s) l)
-
--- a bit put below the others
-pub filled-below : (f : ℕ → ℕ) (j n w x : ℕ) → Filled (λ k. f (j + 1 + k)) n w → x ≡ f j → x < 2 → Filled (λ k. f (j + k)) (n + 1) (w * 2 + x)
-unfolding bit
-filled-below f j n w x i e h = record { small = rw (add-one, pow-suc) (omega (arith, i .small)); at = go }
-  where
-    go : (k : ℕ) → k < n + 1 → bit (w * 2 + x) k ≡ f (j + k)
-    go zero l = let q : (w * 2 + x) % 2 ≡ x = omega arith in q ∙ e ∙ ap f (omega arith)
-    go (suc k) l =
-        let q : (w * 2 + x) / 2 ≡ w = omega arith in
-        ap (λ (v : ℕ). bit v k) q ∙ i .at k (omega arith) ∙ ap f (omega arith)
-
--- eight bits put below the others
-pub filled-eight : (f : ℕ → ℕ) (j n w x : ℕ) → Filled (λ k. f (j + 8 + k)) n w → Filled (λ k. f (j + k)) 8 x → Filled (λ k. f (j + k)) (n + 8) (w * 256 + x)
-filled-eight f j n w x i h = record { small = let p = pow-add 2 n 8 in omega (arith, p, i .small, h .small); at = λ k l. ⊎-elim (low k) (high k l) (lt-or-le k 8) }
-  where
-    low : (k : ℕ) → k < 8 → bit (w * 256 + x) k ≡ f (j + k)
-    low k g =
-        let q : (w * 256 + x) % 2 ^ 8 ≡ x = omega (arith, h .small) in
-        sym (bit-mod 8 (w * 256 + x) k g) ∙ ap (λ (v : ℕ). bit v k) q ∙ h .at k g
-
-    high : (k : ℕ) → k < n + 8 → 8 ≤ k → bit (w * 256 + x) k ≡ f (j + k)
-    high k l g =
-        let q : (w * 256 + x) / 2 ^ 8 ≡ w = omega (arith, h .small) in
-        let e₁ : k ≡ 8 + (k - 8) = omega arith in
-        let e₂ : j + 8 + (k - 8) ≡ j + k = omega arith in
-        ap (bit (w * 256 + x)) e₁ ∙ sym (bit-shift (w * 256 + x) 8 (k - 8)) ∙ ap (λ (v : ℕ). bit v (k - 8)) q ∙ i .at (k - 8) (omega arith) ∙ ap f e₂
-
--- the same bits said in another way
-pub filled-same : {f g : ℕ → ℕ} {n w : ℕ} → ((k : ℕ) → k < n → f k ≡ g k) → Filled f n w → Filled g n w
-filled-same e i = record { small = i .small; at = λ k l. i .at k l ∙ e k l }
-
-pub filled-under : {f : ℕ → ℕ} {n w : ℕ} → Filled f n w → n ≤ 56 → w < 2 ^ 56
-filled-under i h = lt-of-lt-of-le (i .small) (pow-mono h)
-
-pub filled-fits : {f : ℕ → ℕ} {n w : ℕ} → Filled f n w → n < 64 → w < 2 ^ 63
-filled-fits {f} {n} {w} i h = let l : n ≤ 63 = omega arith in lt-of-lt-of-le (i .small) (pow-mono l)
 
 -- ---- the bits of w are f 0 to f (n - 1) and no others
 pub record Holds (f : ℕ → ℕ) (n w : ℕ) : Type 0 where

@@ -1,18 +1,15 @@
 -- The bits of a word under `+`, `-`, `|`, `&`, `!` and shifts.
-use mathlib.Core.Path.{_≡_, refl, sym, ap, _∙_, subst}
+use mathlib.Core.Path.{_≡_, refl, sym, ap, _∙_}
 use mathlib.Core.Logic.{_≢_}
 use Prim.Native.Nat.{ℕ, zero, suc, _+_, _-_, _*_, _/_, _%_, _^_, _≤_, _<_, min, max}
-use native.Mathlib.Nat.{pow-suc, zero-add, one-mul, lt-of-not-le, mod-lt}
-use native.Mathlib.Numerals.{add-one, one-add}
+use native.Mathlib.Nat.{pow-suc, zero-add, one-mul, lt-of-not-le}
+use native.Mathlib.Numerals.{one-add}
 use native.Mathlib.Omega.{arith}
-use mathlib.Core.Bool.{not}
-use lib.Dec.{lit<, eqb}
-use lib.Arith.{le-zero}
-use lib.Pow.{pow-pos, shr-le, shr-shr, shl-shr, shl-exact, field, mod-mod-pow}
+use lib.Dec.{lit<}
+use lib.Pow.{shr-shr, shl-exact}
 use lib.Bits.{bitAnd, bitOr, and-step, or-step, and-mask, and-self, or-zero-r}
-use lib.Count.{trailingZeros, under, leadingZeros, leading-top}
-use Rattle.automaton.specs.Bits.{bit, Exactly}
-use Rattle.automaton.proofs.Exact.{exactly-eqb, exactly-not}
+use lib.Count.{trailingZeros, under}
+use Rattle.automaton.specs.Bits.{bit}
 
 pub bit-lt : (w s : ℕ) → bit w s < 2
 unfolding bit
@@ -117,24 +114,6 @@ bit-under (suc k) w s h = go (w % 2) refl s h (λ j. bit-under k (w / 2) j)
     go zero e (suc j) h f = f j (omega arith)
     go (suc r) e j h f = absurd (omega arith)
 
--- ---- the highest set bit
-pub bit-high : (j w : ℕ) → 2 ^ j ≤ w → w < 2 ^ suc j → bit w j ≡ 1
-unfolding bit
-bit-high zero w l h = omega arith
-bit-high (suc j) w l h =
-    let p = pow-suc 2 j in
-    let q = pow-suc 2 (suc j) in
-    bit-high j (w / 2) (omega (arith, p)) (omega (arith, p, q))
-
-abbrev pub Highest : ℕ → ℕ → ℕ → Type 0
-Highest k w r = (r < k) × (bit w r ≡ 1) × ((s : ℕ) → r < s → bit w s ≡ 0)
-
-pub bit-leading : (k w r : ℕ) → 0 < w → w < 2 ^ k → leadingZeros k w + suc r ≡ k → Highest k w r
-bit-leading k w r p h e =
-    let (j, q, l, g) = leading-top k w p h in
-    let s : j ≡ r = omega arith in
-    subst (Highest k w) s (omega arith, bit-high j w l g, λ s d. bit-top (suc j) w s g (omega arith))
-
 -- `w & (w - 1)` clears the lowest
 pub and-pred : (k w : ℕ) → 0 < w → w < 2 ^ k → bitAnd w (w - 1) ≡ w - 2 ^ trailingZeros k w
 unfolding trailingZeros
@@ -198,50 +177,3 @@ bits-zero (suc k) w h f =
     let i = bits-zero k (w / 2) (let e = pow-suc 2 k in omega (arith, e)) (λ s. f (suc s)) in
     let z = f 0 in
     omega (arith, i, z)
-
--- ---- the bits from lo on and below hi
-pub bit-shift : (w k s : ℕ) → bit (w / 2 ^ k) s ≡ bit w (k + s)
-bit-shift w k s = sym (bit-shr (w / 2 ^ k) s) ∙ ap (λ (x : ℕ). x % 2) (shr-shr w k s) ∙ bit-shr w (k + s)
-
-pub bit-mod : (k w s : ℕ) → s < k → bit (w % 2 ^ k) s ≡ bit w s
-unfolding bit
-bit-mod zero w s l = absurd (omega arith)
-bit-mod (suc k) w zero l = ap (λ (n : ℕ). w % 2 ^ n % 2) (sym (add-one k)) ∙ mod-mod-pow w k 1
-bit-mod (suc k) w (suc s) l =
-    ap (λ (n : ℕ). bit (w % 2 ^ n / 2) s) (sym (add-one k)) ∙ ap (λ (x : ℕ). bit x s) (field w k 1) ∙ bit-mod k (w / 2) s (omega arith)
-
-shifted-out : (w lo hi : ℕ) → hi ≤ 64 → (w * 2 ^ (64 - hi)) % 2 ^ 64 / 2 ^ (64 - hi + lo) ≡ w % 2 ^ hi / 2 ^ lo
-shifted-out w lo hi h =
-    let k = 64 - hi in
-    let e : 64 ≡ hi + k = omega arith in
-    sym (shr-shr ((w * 2 ^ k) % 2 ^ 64) k lo)
-    ∙ ap (λ (n : ℕ). (w * 2 ^ k) % 2 ^ n / 2 ^ k / 2 ^ lo) e
-    ∙ ap (λ (x : ℕ). x / 2 ^ lo) (field (w * 2 ^ k) hi k ∙ ap (λ (x : ℕ). x % 2 ^ hi) (shl-shr w k))
-
-abbrev SetIn : ℕ → ℕ → ℕ → Type 0
-SetIn w lo hi = (s : ℕ) × (lo ≤ s) × (s < hi) × (bit w s ≡ 1)
-
-set-in : (w lo hi : ℕ) → 0 < w % 2 ^ hi / 2 ^ lo → SetIn w lo hi
-set-in w lo hi h =
-    let x = w % 2 ^ hi / 2 ^ lo in
-    let t = trailingZeros hi x in
-    let small : w % 2 ^ hi < 2 ^ hi = mod-lt w (pow-pos hi) in
-    let b : bit x t ≡ 1 = bit-trailing hi x h (omega (arith, shr-le (w % 2 ^ hi) lo, small)) in
-    let b′ : bit (w % 2 ^ hi) (lo + t) ≡ 1 = sym (bit-shift (w % 2 ^ hi) lo t) ∙ b in
-    let l = bit-below hi (w % 2 ^ hi) (lo + t) small b′ in
-    (lo + t, omega arith, l, sym (bit-mod hi w (lo + t) l) ∙ b′)
-
-set-in-pos : (w lo hi : ℕ) → SetIn w lo hi → 0 < w % 2 ^ hi / 2 ^ lo
-set-in-pos w lo hi (s, l, h, e) =
-    let x = w % 2 ^ hi / 2 ^ lo in
-    let q : lo + (s - lo) ≡ s = omega arith in
-    let b : bit x (s - lo) ≡ 1 = bit-shift (w % 2 ^ hi) lo (s - lo) ∙ ap (bit (w % 2 ^ hi)) q ∙ bit-mod hi w s h ∙ e in
-    lt-of-not-le (λ z. let y : bit x (s - lo) ≡ 0 = ap (λ (v : ℕ). bit v (s - lo)) (le-zero z) ∙ bit-zero (s - lo) in omega arith)
-
--- `(w << (64 - hi)) >> (64 - hi + lo) != 0`
-pub exactly-set : (w lo hi : ℕ) → hi ≤ 64 → Exactly (not (eqb ((w * 2 ^ (64 - hi)) % 2 ^ 64 / 2 ^ (64 - hi + lo)) 0)) (SetIn w lo hi)
-exactly-set w lo hi h =
-    rw shifted-out
-    (exactly-not (eqb (w % 2 ^ hi / 2 ^ lo) 0) (exactly-eqb (w % 2 ^ hi / 2 ^ lo) 0)
-    (λ n. set-in w lo hi (omega arith))
-    (λ x e. let p = set-in-pos w lo hi x in omega arith))
