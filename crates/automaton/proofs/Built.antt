@@ -7,12 +7,12 @@ use native.Mathlib.Nat.{pow-suc, le-refl, zero-mul}
 use native.Mathlib.Numerals.{add-one}
 use native.Mathlib.Omega.{arith}
 use lib.Dec.{lit<}
-use lib.Bits.{bitAnd, bitOr, or-zero-r}
+use lib.Bits.{bitOr, or-zero-r}
 use lib.ListN.{length, getD, set}
 use lib.Seq.{getD-set-same, getD-set-other}
 use Rattle.automaton.specs.Bits.{bit}
 use Rattle.automaton.proofs.Exact.{same-or, lt-or-le}
-use Rattle.automaton.proofs.Word.{bit-lt, bit-zero, bit-top, bit-set, bit-set-other, bit-pow, bit-pow-other, bit-test, bit-or, or-set, shl-bit, shl-one}
+use Rattle.automaton.proofs.Word.{bit-lt, bit-zero, bit-top, bit-set, bit-set-other, bit-pow, bit-pow-other, bit-or, or-set, shl-bit, shl-one}
 
 -- ---- w has n bits, and bit k is f k
 pub record Filled (f : ℕ → ℕ) (n w : ℕ) : Type 0 where
@@ -42,16 +42,13 @@ module _ {f : ℕ → ℕ} {n w : ℕ} (i : Filled f n w) where
   }
 
   -- `w | (x << n)`
-  filled-more : (x : ℕ) → x ≡ f n → x < 2 → n < 64 → Filled f (n + 1) (bitOr w ((x * 2 ^ n) % 2 ^ 64))
+  pub filled-more : (x : ℕ) → x ≡ f n → x < 2 → n < 64 → Filled f (n + 1) (bitOr w ((x * 2 ^ n) % 2 ^ 64))
   filled-more zero e h l =
       subst (λ (v : ℕ). Filled f (n + 1) v) (sym (ap (bitOr w) (shl-bit 0 n h l ∙ zero-mul (2 ^ n)) ∙ or-zero-r w)) (filled-zero (sym e))
   filled-more (suc zero) e h l =
       subst (λ (v : ℕ). Filled f (n + 1) v) (sym (ap (bitOr w) (shl-one n l) ∙ or-set w n filled-clear)) (filled-one (sym e))
   filled-more (suc (suc x)) e h l = absurd (omega arith)
 
-  -- `w | (((v >> s) & 1) << n)`
-  pub filled-bit : (v s : ℕ) → bit v s ≡ f n → n < 64 → Filled f (n + 1) (bitOr w ((bitAnd (v / 2 ^ s) 1 * 2 ^ n) % 2 ^ 64))
-  filled-bit v s e l = rw bit-test (filled-more (bit v s) e (bit-lt v s) l)
 
 -- ---- the bits of w are f 0 to f (n - 1) and no others
 pub record Holds (f : ℕ → ℕ) (n w : ℕ) : Type 0 where

@@ -5,4 +5,5 @@ pub mod Eights
 pub mod Refusal
 pub mod Strings
 pub mod Worklist
+pub mod Predecessors
 pub mod LiveBytes

@@ -1,15 +1,16 @@
 -- The bits of a word under `+`, `-`, `|`, `&`, `!` and shifts.
 use mathlib.Core.Path.{_≡_, refl, sym, ap, _∙_}
-use mathlib.Core.Logic.{_≢_}
+use mathlib.Core.Logic.{_≢_, ⊎-elim}
 use Prim.Native.Nat.{ℕ, zero, suc, _+_, _-_, _*_, _/_, _%_, _^_, _≤_, _<_, min, max}
-use native.Mathlib.Nat.{pow-suc, zero-add, one-mul, lt-of-not-le}
-use native.Mathlib.Numerals.{one-add}
+use native.Mathlib.Nat.{pow-suc, zero-add, one-mul, lt-of-not-le, mod-lt}
+use native.Mathlib.Numerals.{add-one, one-add}
 use native.Mathlib.Omega.{arith}
 use lib.Dec.{lit<}
-use lib.Pow.{shr-shr, shl-exact}
+use lib.Pow.{pow-pos, shr-shr, shl-shr, shl-exact, field, mod-mod-pow}
 use lib.Bits.{bitAnd, bitOr, and-step, or-step, and-mask, and-self, or-zero-r}
 use lib.Count.{trailingZeros, under}
 use Rattle.automaton.specs.Bits.{bit}
+use Rattle.automaton.proofs.Exact.{same-or}
 
 pub bit-lt : (w s : ℕ) → bit w s < 2
 unfolding bit
@@ -92,6 +93,15 @@ bit-clear-other w zero zero e n = absurd (n refl)
 bit-clear-other w zero (suc t) e n = ap (λ (x : ℕ). bit x t) (omega arith)
 bit-clear-other w (suc s) zero e n = let p = bit-has w (suc s) e in let q = pow-suc 2 s in omega (arith, p, q)
 bit-clear-other w (suc s) (suc t) e n = rw half-sub (bit-clear-other (w / 2) s t e (λ q. n (ap suc q)))
+
+pub bit-clear : (w s : ℕ) → bit w s ≡ 1 → bit (w - 2 ^ s) s ≡ 0
+unfolding bit
+bit-clear w zero e = omega arith
+bit-clear w (suc s) e = rw half-sub (bit-clear (w / 2) s e)
+
+-- what is left was there
+pub bit-cleared : (w s t : ℕ) → bit w s ≡ 1 → bit (w - 2 ^ s) t ≡ 1 → bit w t ≡ 1
+bit-cleared w s t e l = ⊎-elim (λ q. ap (bit w) q ∙ e) (λ n. sym (bit-clear-other w s t e n) ∙ l) (same-or t s)
 
 -- ---- the lowest set bit
 pub bit-trailing : (k w : ℕ) → 0 < w → w < 2 ^ k → bit w (trailingZeros k w) ≡ 1
@@ -177,3 +187,27 @@ bits-zero (suc k) w h f =
     let i = bits-zero k (w / 2) (let e = pow-suc 2 k in omega (arith, e)) (λ s. f (suc s)) in
     let z = f 0 in
     omega (arith, i, z)
+
+-- ---- the bits below m
+pub bit-mod : (k w s : ℕ) → s < k → bit (w % 2 ^ k) s ≡ bit w s
+unfolding bit
+bit-mod zero w s l = absurd (omega arith)
+bit-mod (suc k) w zero l = ap (λ (n : ℕ). w % 2 ^ n % 2) (sym (add-one k)) ∙ mod-mod-pow w k 1
+bit-mod (suc k) w (suc s) l =
+    ap (λ (n : ℕ). bit (w % 2 ^ n / 2) s) (sym (add-one k)) ∙ ap (λ (x : ℕ). bit x s) (field w k 1) ∙ bit-mod k (w / 2) s (omega arith)
+
+-- `(w << (64 - m)) >> (64 - m)`
+pub shifted-back : (w m : ℕ) → m ≤ 64 → (w * 2 ^ (64 - m)) % 2 ^ 64 / 2 ^ (64 - m) ≡ w % 2 ^ m
+shifted-back w m h =
+    let k = 64 - m in
+    let e : 64 ≡ m + k = omega arith in
+    ap (λ (n : ℕ). (w * 2 ^ k) % 2 ^ n / 2 ^ k) e ∙ field (w * 2 ^ k) m k ∙ ap (λ (x : ℕ). x % 2 ^ m) (shl-shr w k)
+
+-- `(!w << (64 - m)) >> (64 - m)`: the bits below m that w has not
+abbrev pub Others : (m w r : ℕ) → Type 0
+Others m w r = (r < 2 ^ m) × ((s : ℕ) → s < m → bit r s ≡ 1 - bit w s)
+
+pub others : (m w : ℕ) → m ≤ 64 → w < 2 ^ 64 → Others m w (((2 ^ 64 - 1 - w) * 2 ^ (64 - m)) % 2 ^ 64 / 2 ^ (64 - m))
+others m w h l =
+    rw shifted-back
+    (mod-lt (2 ^ 64 - 1 - w) (pow-pos m), λ s g. bit-mod m (2 ^ 64 - 1 - w) s g ∙ bit-not 64 w s l (omega arith))

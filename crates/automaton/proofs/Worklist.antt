@@ -10,7 +10,7 @@ use Rattle.automaton.specs.Bits.{bit}
 use Rattle.automaton.specs.Table.{WellFormed, states, flag, next}
 use Rattle.automaton.specs.Words.{Bytes, run, CanMatch, Reach}
 use Rattle.automaton.proofs.Exact.{same-or}
-use Rattle.automaton.proofs.Word.{bit-lt, bit-off, bit-zero, bit-below, bit-has, bit-clear-other, bit-or, bit-and, bit-not, bits-zero}
+use Rattle.automaton.proofs.Word.{bit-lt, bit-off, bit-zero, bit-below, bit-has, bit-clear-other, bit-cleared, bit-or, bit-and, bit-not, bits-zero}
 use Rattle.automaton.proofs.Strings.{can-match-here, can-match-step}
 
 pub record Work (t : List ℕ) (f w : ℕ) : Type 0 where
@@ -61,15 +61,15 @@ module _ {t : List ℕ} where
   fits : {f : ℕ} → WellFormed t → f < 2 ^ states t → f < 2 ^ 64
   fits wf h = let g : 2 ^ states t ≤ 2 ^ 64 = pow-mono {i = states t} {j = 64} (wf .few) in omega arith
 
-  -- one turn: s no longer waits, and the states of l, which lead to s, are added
+  -- one turn: s no longer waits, and the states of l, which lead to s, are added: all that do so and are not found are in it
   module _ {f w : ℕ} (wf : WellFormed t) (i : Work t f w) (s : ℕ) (hs : bit w s ≡ 1) (l : ℕ) (hl : l < 2 ^ states t)
-      (from : (q b : ℕ) → q < states t → b < 256 → next t q b ≡ s → bit l q ≡ 1)
+      (from : (q b : ℕ) → q < states t → bit f q ≡ 0 → b < 256 → next t q b ≡ s → bit l q ≡ 1)
       (to : (q : ℕ) → bit l q ≡ 1 → (b : ℕ) × (b < 256) × (next t q b ≡ s)) where
     added-small : added l f < 2 ^ states t
     added-small = omega (arith, and-le-l l (2 ^ 64 - 1 - f))
 
     left-waits : (q : ℕ) → bit (w - 2 ^ s) q ≡ 1 → bit w q ≡ 1
-    left-waits q e = ⊎-elim (λ z. subst (λ (x : ℕ). bit w x ≡ 1) (sym z) hs) (λ n. sym (bit-clear-other w s q hs n) ∙ e) (same-or q s)
+    left-waits q = bit-cleared w s q hs
 
     new : (q : ℕ) → bit (added l f) q ≡ 1 → (bit l q ≡ 1) × (bit f q ≡ 0)
     new = added-new l f (fits wf hl) (fits wf (i .small))
@@ -77,9 +77,13 @@ module _ {t : List ℕ} where
     old-kept : (q : ℕ) → bit f q ≡ 1 → bit (bitOr f (added l f)) q ≡ 1
     old-kept q e = bit-or f (added l f) q ∙ omega (arith, bit-lt (added l f) q)
 
-    all-kept : (q : ℕ) → bit l q ≡ 1 → bit (bitOr f (added l f)) q ≡ 1
-    all-kept q e =
-        ⊎-elim (λ z. bit-or f (added l f) q ∙ omega (arith, added-all l f (fits wf hl) (fits wf (i .small)) q e z)) (λ n. old-kept q (omega (arith, bit-lt f q))) (same-or (bit f q) 0)
+    new-kept : (q : ℕ) → bit (added l f) q ≡ 1 → bit (bitOr f (added l f)) q ≡ 1
+    new-kept q e = bit-or f (added l f) q ∙ omega (arith, bit-lt f q)
+
+    -- a state that leads to s is found already, or it is added
+    from-kept : (q b : ℕ) → q < states t → b < 256 → next t q b ≡ s → bit (bitOr f (added l f)) q ≡ 1
+    from-kept q b hq hb e =
+        ⊎-elim (λ z. new-kept q (added-all l f (fits wf hl) (fits wf (i .small)) q (from q b hq z hb e) z)) (λ n. old-kept q (omega (arith, bit-lt f q))) (same-or (bit f q) 0)
 
     in-or : (a q : ℕ) (C : Type 0) → (bit a q ≡ 1 → C) → (bit (added l f) q ≡ 1 → C) → bit (bitOr a (added l f)) q ≡ 1 → C
     in-or a q C g h e = ⊎-elim g (λ n. h (omega (arith, bit-or a (added l f) q, bit-lt a q, bit-lt (added l f) q))) (same-or (bit a q) 1)
@@ -88,10 +92,10 @@ module _ {t : List ℕ} where
     work-kept = record {
       small = or-lt (states t) f (added l f) (i .small) added-small;
       small-w = or-lt (states t) (w - 2 ^ s) (added l f) (omega (arith, i .small-w)) added-small;
-      sub = λ q e. in-or (w - 2 ^ s) q (bit (bitOr f (added l f)) q ≡ 1) (λ g. old-kept q (i .sub q (left-waits q g))) (λ g. all-kept q (new q g .0)) e;
+      sub = λ q e. in-or (w - 2 ^ s) q (bit (bitOr f (added l f)) q ≡ 1) (λ g. old-kept q (i .sub q (left-waits q g))) (new-kept q) e;
       sound = λ q e. in-or f q (CanMatch t q) (i .sound q) (λ g. leads q (to q (new q g .0))) e;
       flags = λ q h e. old-kept q (i .flags q h e);
-      closed = λ q b hq hb e₁ e₀. ⊎-elim (λ z. all-kept q (from q b hq hb z)) (λ n. old-kept q (still q b hq hb n e₁ e₀)) (same-or (next t q b) s);
+      closed = λ q b hq hb e₁ e₀. ⊎-elim (from-kept q b hq hb) (λ n. old-kept q (still q b hq hb n e₁ e₀)) (same-or (next t q b) s);
     }
       where
         leads : (q : ℕ) → (b : ℕ) × (b < 256) × (next t q b ≡ s) → CanMatch t q
@@ -132,3 +136,24 @@ module _ {t : List ℕ} where
     up = λ q hq e. i .sound q e;
     down = λ q hq m. all-found wf i (m .word) q hq (m .hits .bytes) (m .hits .ends);
   }
+
+  -- ---- the accepting states, where none is there or no other
+  module _ {f : ℕ} (wf : WellFormed t) (h : f < 2 ^ states t) (g : (s : ℕ) → s < states t → bit f s ≡ flag t s) where
+    pub work-none : f ≡ 0 → Reach t f
+    work-none z = work-done wf (subst (Work t f) z (work-start h g))
+
+    pub work-all : ((q : ℕ) → q < states t → bit f q ≡ 1) → Reach t f
+    work-all all =
+        let i = work-start h g in
+        work-done wf (record {
+          small = h;
+          small-w = pow-pos (states t);
+          sub = λ q e. let z = bit-zero q in absurd (omega arith);
+          sound = i .sound;
+          flags = i .flags;
+          closed = λ q b hq hb e₁ e₀. all q hq;
+        })
+
+  -- a state that is not found does not accept
+  pub not-found : {f w : ℕ} → WellFormed t → Work t f w → (q : ℕ) → q < states t → bit f q ≡ 0 → flag t q ≡ 0
+  not-found wf i q hq z = ⊎-elim (λ e. let o = i .flags q hq e in absurd (omega arith)) (λ n. omega (arith, wf .flags q hq)) (same-or (flag t q) 1)

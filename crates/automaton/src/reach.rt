@@ -1,11 +1,10 @@
 // Which states can reach acceptance: waiting states are bits of one word, the lowest set bit next.
 use crate::bits::is_set;
 use crate::bits::lowest;
-use crate::bits::with;
 use crate::bits::without_lowest;
-use crate::table::is_match;
 ghost use mathlib.Core.Path.{_≡_};
-ghost use Prim.Native.Nat.{ℕ, _+_, _^_, _≤_, _<_};
+ghost use Prim.Native.Nat.{ℕ, _+_, _-_, _^_, _≤_, _<_};
+ghost use lib.Bits.{bitOr};
 ghost use lib.ListN.{length, getD};
 ghost use Rattle.automaton.specs.Bits.{bit, Exactly};
 ghost use Rattle.automaton.specs.Table.{WellFormed, states, flag, next};
@@ -21,9 +20,7 @@ pub fn flags(table: &[u8]) -> u64
     let mut word: u64 = 0;
     let mut s: usize = 0;
     while s < m {
-        if is_match(table, s) {
-            word = with(word, s);
-        }
+        word |= (table[1 + s] as u64) << s;
         s += 1;
     }
     word
@@ -80,35 +77,66 @@ pub fn successors(table: &[u8]) -> [u64; 64]
     words
 }
 
-// The word of the states below m from which a byte leads to s.
-fn leading_to(successors: &[u64; 64], m: usize, s: usize) -> u64
-    requires { ⌜ (m ≤ 64) × (s < 64) ⌝ }
+// The word of the states below m that a word has not: those from m on are shifted out.
+fn others(word: u64, m: usize) -> u64
+    requires { ⌜ (1 ≤ m) × (m ≤ 64) ⌝ }
     ensures { λ r. ⌜ r < 2 ^ m ⌝ }
-    ensures { λ r. ⌜ ((p : ℕ) → p < m → bit r p ≡ bit (getD (now (successors .entry)) p 0) s) ⌝ }
+    ensures { λ r. ⌜ ((s : ℕ) → s < m → bit r s ≡ 1 - bit word s) ⌝ }
 {
-    let mut word: u64 = 0;
-    let mut p: usize = 0;
-    while p < m {
-        word |= ((successors[p] >> s) & 1) << p;
-        p += 1;
-    }
-    word
+    (!word << (64 - m)) >> (64 - m)
 }
 
-// The word of the states that can match.
+// Sets bit p of the words of those states.
+fn mark(words: &mut [u64; 64], states: u64, p: usize)
+    requires { ⌜ (length (now words) ≡ 64) × (p < 64) ⌝ }
+    ensures { λ _. ⌜ length (now (words .exit)) ≡ 64 ⌝ }
+    ensures { λ _. ⌜ ((s : ℕ) → bit states s ≡ 1 → getD (now (words .exit)) s 0 ≡ bitOr (getD (now (words .entry)) s 0) (2 ^ p)) ⌝ }
+    ensures { λ _. ⌜ ((s : ℕ) → bit states s ≡ 0 → getD (now (words .exit)) s 0 ≡ getD (now (words .entry)) s 0) ⌝ }
+{
+    let mut left = states;
+    while left != 0 {
+        let s = lowest(left);
+        left = without_lowest(left);
+        words[s] |= 1u64 << p;
+    }
+}
+
+// For each state the word of the states of `unfound` from which a byte leads to it. No other state's row is looked at.
+fn predecessors(table: &[u8], unfound: u64) -> [u64; 64]
+    requires { ⌜ WellFormed (now table) × (unfound < 2 ^ states (now table)) ⌝ }
+    ensures { λ r. ⌜ ((s : ℕ) → getD r s 0 < 2 ^ states (now (table .entry))) ⌝ }
+    ensures { λ r. ⌜ ((p b : ℕ) → bit unfound p ≡ 1 → b < 256 → bit (getD r (next (now (table .entry)) p b) 0) p ≡ 1) ⌝ }
+    ensures { λ r. ⌜ ((p s : ℕ) → bit (getD r s 0) p ≡ 1 → (bit unfound p ≡ 1) × ((b : ℕ) × (b < 256) × (next (now (table .entry)) p b ≡ s))) ⌝ }
+{
+    let m = table[0] as usize;
+    let mut words: [u64; 64] = [0; 64];
+    let mut left = unfound;
+    while left != 0 {
+        let p = lowest(left);
+        left = without_lowest(left);
+        let states = next_states(table, 1 + m + p * 256);
+        mark(&mut words, states, p);
+    }
+    words
+}
+
+// The word of the states that can match. Where no state accepts, or all do, it is that of the accepting states.
 pub fn reach(table: &[u8]) -> u64
     requires { ⌜ WellFormed (now table) ⌝ }
     ensures { λ r. ⌜ Reach (now (table .entry)) r ⌝ }
     ensures { λ r. ⌜ r < 2 ^ states (now (table .entry)) ⌝ }
 {
-    let m = table[0] as usize;
-    let steps = successors(table);
     let mut found = flags(table);
+    let unfound = others(found, table[0] as usize);
+    if found == 0 || unfound == 0 {
+        return found;
+    }
+    let before = predecessors(table, unfound);
     let mut waiting = found;
     while waiting != 0 {
         let s = lowest(waiting);
         waiting = without_lowest(waiting);
-        let more = leading_to(&steps, m, s) & !found;
+        let more = before[s] & !found;
         found |= more;
         waiting |= more;
     }
