@@ -90,7 +90,7 @@ fn first_other_run(left: &[u8], right: &[u8], from: usize, last: usize) -> usize
     if differs(left, right, last) {
         return last;
     }
-    last + 64
+    64 + last
 }
 
 // How many bytes the keys have in common at the front, if the first `from` are. The last word may overlap the one before it.

@@ -52,7 +52,7 @@ returns-3 c =
     let a = l .before .before .before .args in
     λ h.
     let i = l .loop .inv h in
-    same-run (a .left .now) (a .right .now) (a .last) 64 (omega arith) (sym (c .before .differs2 .ensures) ∙ c .if2 .left)
+    omega (arith, same-run (a .left .now) (a .right .now) (a .last) 64 (omega arith) (sym (c .before .differs2 .ensures) ∙ c .if2 .left))
 
 pub first-other-run-spec : {M : Type 1} → statement M
 first-other-run-spec =
