@@ -3,10 +3,10 @@ use mathlib.Core.Path.{_≡_, refl, sym, ap, _∙_}
 use mathlib.Core.Logic.{_≢_}
 use Prim.Native.Nat.{ℕ, zero, suc, _+_, _-_, _*_, _/_, _%_, _^_, _≤_, _<_, min, max}
 use native.Mathlib.Nat.{pow-suc, zero-add, one-mul, lt-of-not-le}
-use native.Mathlib.Numerals.{one-add}
+use native.Mathlib.Numerals.{add-one, one-add}
 use native.Mathlib.Omega.{arith}
 use lib.Dec.{lit<}
-use lib.Pow.{shr-shr, shl-exact}
+use lib.Pow.{shr-shr, shl-exact, field, mod-mod-pow}
 use lib.Bits.{bitAnd, bitOr, and-step, or-step, and-mask, and-self, or-zero-r}
 use lib.Count.{trailingZeros, under}
 use Rattle.automaton.specs.Bits.{bit}
@@ -177,3 +177,11 @@ bits-zero (suc k) w h f =
     let i = bits-zero k (w / 2) (let e = pow-suc 2 k in omega (arith, e)) (λ s. f (suc s)) in
     let z = f 0 in
     omega (arith, i, z)
+
+-- ---- the lowest k bits
+pub bit-mod : (k w s : ℕ) → s < k → bit (w % 2 ^ k) s ≡ bit w s
+unfolding bit
+bit-mod zero w s l = absurd (omega arith)
+bit-mod (suc k) w zero l = ap (λ (n : ℕ). w % 2 ^ n % 2) (sym (add-one k)) ∙ mod-mod-pow w k 1
+bit-mod (suc k) w (suc s) l =
+    ap (λ (n : ℕ). bit (w % 2 ^ n / 2) s) (sym (add-one k)) ∙ ap (λ (x : ℕ). bit x s) (field w k 1) ∙ bit-mod k (w / 2) s (omega arith)
