@@ -74,38 +74,6 @@ holds-more {f} {n} {w} i h = rw (shl-one (f n) h) (record {
       (same-or s (f n));
 })
 
--- the same elements said in another way
-pub holds-same : {f g : ℕ → ℕ} {n w : ℕ} → ((k : ℕ) → f k ≡ g k) → Holds f n w → Holds g n w
-holds-same {f} {g} {n} {w} e i = record {
-  has = λ k l. subst (λ (x : ℕ). bit w x ≡ 1) (e k) (i .has k l);
-  only = λ s b. let (k, l, q) = i .only s b in (k, l, sym (e k) ∙ q);
-}
-
--- m elements more whose bits are set already
-pub holds-kept : {f : ℕ → ℕ} {n w : ℕ} (m : ℕ) → Holds f n w → ((k : ℕ) → k < m → bit w (f (n + k)) ≡ 1) → Holds f (n + m) w
-holds-kept {f} {n} {w} m i h = record {
-  has = λ k l. ⊎-elim (i .has k) (λ g. let q : n + (k - n) ≡ k = omega arith in subst (λ (x : ℕ). bit w (f x) ≡ 1) q (h (k - n) (omega arith))) (lt-or-le k n);
-  only = λ s e. let (k, l, g) = i .only s e in (k, omega arith, g);
-}
-
--- `w | v`, with the bits of m elements more in v
-pub holds-or : {f : ℕ → ℕ} {n w : ℕ} (m v : ℕ) → Holds f n w → Holds (λ k. f (n + k)) m v → Holds f (n + m) (bitOr w v)
-holds-or {f} {n} {w} m v i h = record {
-  has = λ k l. ⊎-elim
-      (λ g. bit-or w v (f k) ∙ omega (arith, i .has k g, bit-lt v (f k)))
-      (λ g.
-      let q : n + (k - n) ≡ k = omega arith in
-      subst (λ (x : ℕ). bit (bitOr w v) (f x) ≡ 1) q (bit-or w v (f (n + (k - n))) ∙ omega (arith, h .has (k - n) (omega arith), bit-lt w (f (n + (k - n))))))
-      (lt-or-le k n);
-  only = λ s e. ⊎-elim
-      (λ b. let (k, l, g) = i .only s b in (k, omega arith, g))
-      (λ d.
-      let b : bit v s ≡ 1 = omega (arith, bit-or w v s, bit-lt w s, bit-lt v s) in
-      let (k, l, g) = h .only s b in
-      (n + k, omega arith, g))
-      (same-or (bit w s) 1);
-}
-
 -- ---- elements stored one after the other
 pub stored : (P : ℕ → ℕ → Type 0) (l : List ℕ) (i v : ℕ) → i < length l → ((k : ℕ) → k < i → P k (getD l k 0)) → P i v → (k : ℕ) → k < i + 1 → P k (getD (set l i v) k 0)
 stored P l i v h f p k g =

@@ -3,9 +3,10 @@ use crate::bits::is_set;
 use crate::bits::lowest;
 use crate::bits::without_lowest;
 ghost use mathlib.Core.Path.{_≡_};
-ghost use Prim.Native.Nat.{ℕ, _+_, _-_, _^_, _≤_, _<_};
+ghost use Prim.Native.Nat.{ℕ, _+_, _-_, _*_, _^_, _≤_, _<_};
 ghost use lib.Bits.{bitOr};
 ghost use lib.ListN.{length, getD};
+ghost use Rattle.serialize.specs.Digits.{numberAt};
 ghost use Rattle.automaton.specs.Bits.{bit, Exactly};
 ghost use Rattle.automaton.specs.Table.{WellFormed, states, flag, next};
 ghost use Rattle.automaton.specs.Words.{Reach};
@@ -41,7 +42,21 @@ fn states_of(table: &[u8], at: usize) -> u64
     word
 }
 
-// The word of the next states that stand in the 256 bytes from `at` on. Eight that equal the eight before them are in it.
+// Whether eight words from `at` on all equal `last`. No early exit: the loop has no branch.
+fn repeats(table: &[u8], at: usize, last: u64) -> bool
+    requires { ⌜ at + 64 ≤ length (now table) ⌝ }
+    ensures { λ r. ⌜ Exactly r ((k : ℕ) → k < 8 → numberAt (now (table .entry)) (at + 8 * k) 8 ≡ last) ⌝ }
+{
+    let mut differ: u64 = 0;
+    let mut k: usize = 0;
+    while k < 8 {
+        differ |= serialize::deserialize_u64(table, at + 8 * k) ^ last;
+        k += 1;
+    }
+    differ == 0
+}
+
+// The word of the next states that stand in the 256 bytes from `at` on. Those that repeat the eight looked at last are in it: 64 of them are passed at once.
 fn next_states(table: &[u8], at: usize) -> u64
     requires { ⌜ (at + 256 ≤ length (now table)) × ((b : ℕ) → b < 256 → getD (now table) (at + b) 0 < 64) ⌝ }
     ensures { λ r. ⌜ ((b : ℕ) → b < 256 → bit r (getD (now (table .entry)) (at + b) 0) ≡ 1) ⌝ }
@@ -49,8 +64,12 @@ fn next_states(table: &[u8], at: usize) -> u64
 {
     let mut last = serialize::deserialize_u64(table, at);
     let mut word = states_of(table, at);
-    let mut b: usize = 8;
+    let mut b: usize = 0;
     while b < 256 {
+        if b % 64 == 0 && repeats(table, at + b, last) {
+            b += 64;
+            continue;
+        }
         let eight = serialize::deserialize_u64(table, at + b);
         if eight != last {
             word |= states_of(table, at + b);
