@@ -1,5 +1,5 @@
 -- The states along a key: one byte more, and what the next key keeps of them.
-use mathlib.Core.Path.{_≡_, refl, sym, ap, _∙_, subst}
+use mathlib.Core.Path.{_≡_, refl, sym, ap, _∙_}
 use mathlib.Core.List.{List, [], _∷_}
 use mathlib.Core.Logic.{⊎-elim}
 use Prim.Native.Nat.{ℕ, zero, suc, _+_, _≤_, _<_, zero-le, suc-le-suc}
@@ -10,13 +10,13 @@ use lib.ListN.{length, take, getD, set, length-set}
 use lib.Seq.{getD-set-same, getD-set-other, take-take}
 use Rattle.keys.specs.Order.{commonPrefixLen}
 use Rattle.keys.proofs.Order.{by-test, commonPrefixLen-take}
+use Rattle.automaton.specs.Bits.{bit}
 use Rattle.automaton.specs.Table.{WellFormed, states, next}
-use Rattle.automaton.specs.Words.{Bytes, run}
-use Rattle.automaton.specs.Live.{EndLive, Ends}
+use Rattle.automaton.specs.Words.{Bytes, run, Reach}
 use Rattle.automaton.proofs.Exact.{same-or}
-use Rattle.automaton.proofs.Strings.{run-more, run-states, bytes-take}
+use Rattle.automaton.proofs.Strings.{run-more, run-states, bytes-take, word-any}
 use Rattle.pruning.specs.Interval.{MatchBetween}
-use Rattle.pruning.proofs.Looks.{shared-dead}
+use Rattle.pruning.proofs.Intervals.{shared-run}
 use Rattle.listing.specs.Followed.{Followed}
 
 module _ (t : List ℕ) where
@@ -60,9 +60,9 @@ same-front a b j h =
 pub followed-next : (t a b kept : List ℕ) (known : ℕ) → Followed t a kept known → known ≤ commonPrefixLen a b → Followed t b kept known
 followed-next t a b kept known f h = record { long = f .long; each = λ j g. f .each j g ∙ ap (run t 0) (same-front a b j (omega arith)) }
 
--- no key between them matches where no byte leads on behind bytes that they share
-pub followed-dead : (t a b kept ends : List ℕ) (known : ℕ) → WellFormed t → Ends t ends → Bytes a → Followed t a kept known → getD ends (getD kept known 0) 0 ≡ 0 → known ≤ commonPrefixLen a b → MatchBetween t 0 a b → ⊥
-followed-dead t a b kept ends known w e bytes f z h =
+-- no key between them matches where the state behind bytes that they share can't match
+pub followed-dead : (t a b kept : List ℕ) (reach known : ℕ) → WellFormed t → Reach t reach → Bytes a → Followed t a kept known → bit reach (getD kept known 0) ≡ 0 → known ≤ commonPrefixLen a b → MatchBetween t 0 a b → ⊥
+followed-dead t a b kept reach known w r bytes f z h m =
     let s = followed-state t a kept known known f w bytes (le-refl known) in
-    let d : EndLive t (getD kept known 0) 0 = subst (EndLive t (getD kept known 0)) z (e .each (getD kept known 0) s) in
-    shared-dead t a b known (same-front a b known h) bytes (subst (λ (x : ℕ). EndLive t x 0) (f .each known (le-refl known)) d)
+    let one = r .down (getD kept known 0) s (word-any _ (shared-run t 0 a b known (same-front a b known h) bytes (f .each known (le-refl known)) .0 m)) in
+    omega (arith, z, one)

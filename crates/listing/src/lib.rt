@@ -2,17 +2,17 @@
 ghost use mathlib.Core.Path.{_≡_};
 ghost use mathlib.Core.Bool.{true, false, cond};
 ghost use Prim.Native.Nat.{_≤_, _<_};
-ghost use lib.Dec.{eqb};
 ghost use lib.ListN.{length, take, set, getD};
 ghost use Rattle.keys.specs.Order.{commonPrefixLen};
+ghost use Rattle.automaton.specs.Bits.{bit, Exactly};
 ghost use Rattle.automaton.specs.Table.{WellFormed, states as stateCount};
-ghost use Rattle.automaton.specs.Words.{run};
-ghost use Rattle.automaton.specs.Live.{Ends};
+ghost use Rattle.automaton.specs.Words.{run, Reach};
 ghost use Rattle.pruning.specs.Interval.{MatchBetween};
 ghost use Rattle.pruning.specs.Prepared.{Prepared};
 ghost use Rattle.directory.specs.Read.{keyOf};
 ghost use Rattle.listing.specs.Listing.{keysOutside, listingNo, separatorAt, Listing, listedNo, listedCount, ListingLeaves};
 ghost use Rattle.listing.specs.Followed.{Followed, Turned};
+use automaton::reach::can_match;
 use automaton::table::accept;
 use directory::read::key;
 use index::SSTableIndexV3;
@@ -49,27 +49,27 @@ fn keys_outside(directory: &[u8], n: usize) -> bool
     false
 }
 
-// Whether no byte leads on from the state behind `known` bytes.
-fn is_dead(ends: &[u16; 64], states: &[u8; 1025], known: usize) -> bool
+// Whether the state behind `known` bytes can't match.
+fn is_dead(reach: u64, states: &[u8; 1025], known: usize) -> bool
     requires { ⌜ (known ≤ 1024) × (getD (now states) known 0 < 64) ⌝ }
-    ensures { λ r. ⌜ r ≡ eqb (getD (now (ends .entry)) (getD (now (states .entry)) known 0) 0) 0 ⌝ }
+    ensures { λ r. ⌜ Exactly r (bit reach (getD (now (states .entry)) known 0) ≡ 0) ⌝ }
 {
-    ends[states[known] as usize] == 0
+    !can_match(reach, states[known] as usize)
 }
 
-// Whether no byte leads on from a state behind bytes that the keys share: then no key between them matches.
+// Whether a state behind bytes that the keys share can't match: then no key between them matches.
 fn shares_dead(
     table: &[u8],
-    ends: &[u16; 64],
+    reach: u64,
     states: &[u8; 1025],
     known: usize,
     start_key: &[u8],
     end_key: &[u8],
 ) -> bool
-    requires { ⌜ WellFormed (now table) × Ends (now table) (now ends) × Followed (now table) (now «start_key») (now states) known × ((known ≤ 1024) × (known ≤ length (now «start_key»))) ⌝ }
+    requires { ⌜ WellFormed (now table) × Reach (now table) reach × Followed (now table) (now «start_key») (now states) known × ((known ≤ 1024) × (known ≤ length (now «start_key»))) ⌝ }
     ensures { λ r. ⌜ (r ≡ true → (known ≤ commonPrefixLen (now («start_key» .entry)) (now («end_key» .entry))) × (MatchBetween (now (table .entry)) 0 (now («start_key» .entry)) (now («end_key» .entry)) → ⊥)) ⌝ }
 {
-    if !is_dead(ends, states, known) {
+    if !is_dead(reach, states, known) {
         return false;
     }
     keys::common_prefix_len(&start_key[..known], end_key) == known
@@ -79,7 +79,7 @@ fn shares_dead(
 // most `known` bytes are there. Returns how many bytes are followed.
 fn follow(
     table: &[u8],
-    ends: &[u16; 64],
+    reach: u64,
     key: &[u8],
     states: &mut [u8; 1025],
     known: usize,
@@ -92,7 +92,7 @@ fn follow(
     let mut i = if known < end { known } else { end };
     let mut state = states[i] as usize;
     while i < end {
-        if ends[state] == 0 {
+        if !can_match(reach, state) {
             return i;
         }
         state = accept(table, state, key[i]);
@@ -130,6 +130,7 @@ fn mark(marks: &mut [u8], i: usize, matches: bool) -> usize
 // along its end key.
 fn match_block(
     table: &[u8],
+    reach: u64,
     live: &[u64; 256],
     firsts: &[u16; 64],
     ends: &[u16; 64],
@@ -138,18 +139,18 @@ fn match_block(
     start_key: &[u8],
     end_key: &[u8],
 ) -> Turn
-    requires { ⌜ Prepared (now table) (now live) (now firsts) (now ends) × Followed (now table) (now «start_key») (now states) known × (known ≤ 1024) × (known ≤ length (now «start_key»)) ⌝ }
+    requires { ⌜ Prepared (now table) (now live) (now firsts) (now ends) × Reach (now table) reach × Followed (now table) (now «start_key») (now states) known × (known ≤ 1024) × (known ≤ length (now «start_key»)) ⌝ }
     ensures { λ r. ⌜ Turned (now (table .entry)) (now («start_key» .entry)) (now («end_key» .entry)) (now (states .exit)) (r .matches) (r .known) ⌝ }
 {
-    if shares_dead(table, ends, states, known, start_key, end_key) {
+    if shares_dead(table, reach, states, known, start_key, end_key) {
         return Turn {
             known: known,
             matches: false,
         };
     }
     let common = keys::common_prefix_len(start_key, end_key);
-    let behind = follow(table, ends, start_key, states, known, common);
-    if is_dead(ends, states, behind) {
+    let behind = follow(table, reach, start_key, states, known, common);
+    if is_dead(reach, states, behind) {
         return Turn {
             known: behind,
             matches: false,
@@ -183,6 +184,7 @@ fn mark_blocks(directory: &[u8], n: usize, table: &[u8], marks: &mut [u8]) -> us
         let end_key = key(directory, n, i);
         let next = match_block(
             table,
+            reach,
             &live,
             &firsts,
             &ends,

@@ -14,10 +14,10 @@ use Rattle.listing.proofs.follow.Statement.{statement}
 use Rattle.listing.proofs.follow.Tie as tie
 
 abbrev Inv-loop : tie.InvT-loop
-Inv-loop table ends key states₀ known n end i₀ state₀ states i state = (i ≤ end) × (state ≡ run table 0 (take i key)) × (state < stateCount table) × Followed table key states i
+Inv-loop table reach key states₀ known n end i₀ state₀ states i state = (i ≤ end) × (state ≡ run table 0 (take i key)) × (state < stateCount table) × Followed table key states i
 
 abbrev μ-loop : tie.MeasureT-loop
-μ-loop table ends key states₀ known n end i₀ state₀ states i state = end - i
+μ-loop table reach key states₀ known n end i₀ state₀ states i state = end - i
 
 -- where the walk ends and starts
 end-is : (c : tie.Joined1 Inv-loop μ-loop) → c .if1 .end ≡ min (c .before .before .before .args .n) 1024
@@ -50,11 +50,8 @@ loop-holds c =
     let h : j .if2 .i ≤ a .known = omega (arith, start-is j) in
     (omega (arith, start-is j), p .1 .each (j .if2 .i) h, known-state j, followed-less (a .table .now) (a .key .now) (a .states .now) (a .known) (j .if2 .i) (p .1) h)
 
-mul-if3 : tie.Need-mul-if3 Inv-loop μ-loop
-mul-if3 c = search needs
-
-element-copy-out-if3 : tie.Need-element-copy-out-if3 Inv-loop μ-loop
-element-copy-out-if3 c = omega (arith, c .before .loop .inv .2, c .before .before .before .before .before .before .before .pre .0 .few)
+can-match-requires : tie.Need-can-match-requires Inv-loop μ-loop
+can-match-requires c κs = omega (arith, c .before .loop .inv .2, c .before .before .before .before .before .before .before .pre .0 .few)
 
 returns : tie.Need-returns Inv-loop μ-loop
 returns c =
@@ -105,8 +102,7 @@ follow-spec =
     element-copy-out-state
     cast-state
     loop-holds
-    mul-if3
-    element-copy-out-if3
+    can-match-requires
     returns
     shared-slice-read-accept
     accept-requires

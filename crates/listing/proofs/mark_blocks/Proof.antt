@@ -80,7 +80,7 @@ key-requires-3 c κs =
 match-block-requires : tie.Need-match-block-requires Inv-loop μ-loop
 match-block-requires c κs =
     let l = c .before .before .before .before .before .before .before .loop in
-    (prepared (c .before .before .before .before .before .before .before .before .before .before .before .before .before .before .before .before .before), rw (c .before .before .before .before .before .key2 .ensures) (l .inv .2), l .inv .1 .0, rw (c .before .before .before .before .before .key2 .ensures) (l .inv .1 .1))
+    (prepared (c .before .before .before .before .before .before .before .before .before .before .before .before .before .before .before .before .before), c .before .before .before .before .before .before .before .before .before .before .before .before .before .before .before .before .before .before .before .before .before .before .reach .ensures .0, rw (c .before .before .before .before .before .key2 .ensures) (l .inv .2), l .inv .1 .0, rw (c .before .before .before .before .before .key2 .ensures) (l .inv .1 .1))
 
 mark-requires-2 : tie.Need-mark-requires-2 Inv-loop μ-loop
 mark-requires-2 c κs =
