@@ -3,11 +3,11 @@ use mathlib.Core.Path.{_≡_, refl, sym, ap, _∙_}
 use mathlib.Core.List.{List, [], _∷_}
 use mathlib.Core.Logic.{⊎-elim}
 use Prim.Native.Nat.{ℕ, zero, suc, _+_, _≤_, _<_, zero-le, suc-le-suc}
-use native.Mathlib.Nat.{le-refl}
+use native.Mathlib.Nat.{le-refl, add-zero}
 use native.Mathlib.Omega.{arith}
 use lib.Dec.{eqb}
-use lib.ListN.{length, take, getD, set, length-set}
-use lib.Seq.{getD-set-same, getD-set-other, take-take}
+use lib.ListN.{length, take, getD, set, length-set, replicate}
+use lib.Seq.{getD-set-same, getD-set-other, take-take, sets}
 use Rattle.keys.specs.Order.{commonPrefixLen}
 use Rattle.keys.proofs.Order.{by-test, commonPrefixLen-take}
 use Rattle.automaton.specs.Bits.{bit}
@@ -39,6 +39,17 @@ module _ (t : List ℕ) where
 
     pub followed-state : (known j : ℕ) → Followed t key kept known → WellFormed t → Bytes key → j ≤ known → getD kept j 0 < states t
     followed-state known j f w b h = rw (f .each j h) (run-states w 0 (take j key) (omega (arith, w .some)) (bytes-take j key b))
+
+  -- n bytes more that lead back to the state
+  pub followed-stay : (key kept : List ℕ) (n i v : ℕ) → Followed t key kept i → i + n ≤ 1024 → i + n ≤ length key → v ≡ run t 0 (take i key) → ((j : ℕ) → j < n → next t v (getD key (i + j) 0) ≡ v)
+      → Followed t key (sets kept (i + 1) (replicate n v)) (i + n) × (v ≡ run t 0 (take (i + n) key))
+  followed-stay key kept zero i v f h l e s = rw (add-zero i) (f, e)
+  followed-stay key kept (suc n) i v f h l e s =
+      let r : v ≡ run t 0 (take (i + 1) key) = sym (rw (add-zero i) at (s 0 (omega arith))) ∙ ap (λ (x : ℕ). next t x (getD key i 0)) e ∙ sym (run-more t 0 key i (omega arith)) in
+      let p : i + 1 + 1 ≡ suc (i + 1) = omega arith in
+      let q : i + 1 + n ≡ i + suc n = omega arith in
+      rw (p, q) at (followed-stay key (set kept (i + 1) v) n (i + 1) v (followed-more key kept i v f (omega arith) r) (omega arith) (omega arith) r
+      (λ j g. let z : i + 1 + j ≡ i + suc j = omega arith in rw z (s (suc j) (omega arith))))
 
 -- ---- what two keys share
 -- all of the first n bytes of the one

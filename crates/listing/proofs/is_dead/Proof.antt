@@ -1,9 +1,7 @@
 -- The test of the state's bit, turned round.
-use mathlib.Core.Path.{_≡_}
 use native.Mathlib.Omega.{arith}
 use borrow.Author.Needs.{needs}
 use lib.ListN.{getD}
-use Rattle.automaton.specs.Bits.{bit}
 use Rattle.automaton.proofs.Exact.{exactly-not}
 use Rattle.automaton.proofs.Word.{bit-off}
 use Rattle.listing.proofs.is_dead.Statement.{statement}
