@@ -10,7 +10,7 @@ use Rattle.serialize.specs.Digits.{leVal, Below}
 use Rattle.serialize.proofs.Digits.{ofDigits-take, ofDigits-digit, below-drop, sub-field}
 use Rattle.automaton.specs.Bits.{bit}
 use Rattle.automaton.proofs.Word.{bit-lt, bit-or}
-use Rattle.automaton.proofs.Built.{Holds, holds-same, holds-kept, holds-or, Filled, filled-same, filled-eight}
+use Rattle.automaton.proofs.Built.{Holds, holds-same, holds-kept, holds-or}
 
 -- byte j of a word
 abbrev pub byteOf : ℕ → ℕ → ℕ
@@ -60,32 +60,3 @@ module _ {t : List ℕ} (small : Below 8 t) (at : ℕ) where
       holds = holds-or 8 v (i .holds) (holds-same (place t at n) h);
       in-last = λ j l. subst (λ (x : ℕ). bit (bitOr w v) x ≡ 1) (sym (byte-is j l ∙ sym (place t at n j))) (bit-or w v (getD t (at + n + j) 0) ∙ omega (arith, h .has j l, bit-lt w (getD t (at + n + j) 0)));
     })
-
--- ---- the bits that the word of reach has for eight bytes
-abbrev pub Lit : (reach last bits : ℕ) → Type 0
-Lit reach last bits = Filled (λ k. bit reach (byteOf last k)) 8 bits
-
-module _ (t : List ℕ) (small : Below 8 t) (reach at last bits : ℕ) (is : last ≡ eightAt t at) where
-  lit-byte : (k : ℕ) → k < 8 → bit reach (byteOf last k) ≡ bit reach (getD t (at + k) 0)
-  lit-byte k l = ap (bit reach) (ap (λ (x : ℕ). byteOf x k) is ∙ byte-at t small at k l)
-
-  pub lit-new : (v : ℕ) → bits ≡ v → v < 2 ^ 8 → ((k : ℕ) → k < 8 → bit v k ≡ bit reach (getD t (at + k) 0)) → Lit reach last bits
-  lit-new v e h f = rw e (record { small = h; at = λ k l. f k l ∙ sym (lit-byte k l) })
-
-  pub lit-used : Lit reach last bits → Filled (λ k. bit reach (getD t (at + k) 0)) 8 bits
-  lit-used = filled-same lit-byte
-
-pub lit-kept : (reach last bits last′ bits′ : ℕ) → last′ ≡ last → bits′ ≡ bits → Lit reach last bits → Lit reach last′ bits′
-lit-kept reach last bits last′ bits′ e₁ e₂ i = rw (e₁, e₂) i
-
--- one turn: eight bits below those of the next states behind
-pub lit-turn : (t : List ℕ) → Below 8 t → (reach at j last bits word : ℕ) → 8 ≤ j → j ≤ 64 → last ≡ eightAt t (at + (j - 8)) → Lit reach last bits
-    → Filled (λ k. bit reach (getD t (at + (j + k)) 0)) (64 - j) word
-    → Filled (λ k. bit reach (getD t (at + (j - 8 + k)) 0)) (64 - (j - 8)) (word * 256 + bits)
-lit-turn t small reach at j last bits word l h is lit i =
-    let f : ℕ → ℕ = λ k. bit reach (getD t (at + k) 0) in
-    let e : j ≡ j - 8 + 8 = omega arith in
-    let q : 64 - j + 8 ≡ 64 - (j - 8) = omega arith in
-    let i′ = subst (λ (x : ℕ). Filled (λ k. f (x + k)) (64 - j) word) e i in
-    let b = filled-same (λ k g. ap (bit reach) (place t at (j - 8) k)) (lit-used t small reach (at + (j - 8)) last bits is lit) in
-    subst (λ (n : ℕ). Filled (λ k. f (j - 8 + k)) n (word * 256 + bits)) q (filled-eight f (j - 8) (64 - j) word bits i′ b)

@@ -5,4 +5,4 @@ pub mod Eights
 pub mod Refusal
 pub mod Strings
 pub mod Worklist
-pub mod LiveWords
+pub mod LiveBytes

@@ -1,22 +1,12 @@
--- Which bytes lead from a state to one that can match: four words of 64 bits a state, and the lowest and the highest of them.
-use Prim.Native.Nat.{ℕ, _+_, _*_, _/_, _%_, _≤_, _<_}
+-- Which bytes lead from a state to one that can match, and the lowest and the highest of them, kept from when they are first asked for.
+use Prim.Native.Nat.{ℕ, _≤_, _<_}
 use mathlib.Core.Path.{_≡_}
 use mathlib.Core.List.{List}
 use lib.Dec.{ltb}
 use lib.ListN.{length, getD}
-use Rattle.automaton.specs.Bits.{bit, Exactly}
+use Rattle.automaton.specs.Bits.{Exactly}
 use Rattle.automaton.specs.Table.{states, next}
 use Rattle.automaton.specs.Words.{CanMatch}
-
--- the bit of byte b of state s
-abbrev pub liveBit : List ℕ → ℕ → ℕ → ℕ
-liveBit live s b = bit (getD live (4 * s + b / 64) 0) (b % 64)
-
--- it is set exactly when that byte leads from s to a state that can match
-pub record Live (t live : List ℕ) : Type 0 where
-  pub long : length live ≡ 256
-  pub up : (s b : ℕ) → s < states t → b < 256 → liveBit live s b ≡ 1 → CanMatch t (next t s b)
-  pub down : (s b : ℕ) → s < states t → b < 256 → CanMatch t (next t s b) → liveBit live s b ≡ 1
 
 -- a byte from lo on and below hi leads from s to a state that can match
 pub record LiveByte (t : List ℕ) (s lo hi : ℕ) : Type 0 where
@@ -33,12 +23,12 @@ FirstLive t s first = (hi : ℕ) → hi ≤ 256 → Exactly (ltb first hi) (Live
 abbrev pub EndLive : List ℕ → ℕ → ℕ → Type 0
 EndLive t s end = (lo : ℕ) → Exactly (ltb lo end) (LiveByte t s lo 256)
 
--- for each state the lowest
+-- for each state the lowest, or 65,535 where it isn't worked out yet
 pub record Firsts (t firsts : List ℕ) : Type 0 where
   pub long : length firsts ≡ 64
-  pub each : (s : ℕ) → s < states t → FirstLive t s (getD firsts s 0)
+  pub each : (s : ℕ) → s < states t → (getD firsts s 0 ≡ 65535 → ⊥) → FirstLive t s (getD firsts s 0)
 
--- for each state one more than the highest
+-- for each state one more than the highest, or 65,535 where it isn't worked out yet
 pub record Ends (t ends : List ℕ) : Type 0 where
   pub long : length ends ≡ 64
-  pub each : (s : ℕ) → s < states t → EndLive t s (getD ends s 0)
+  pub each : (s : ℕ) → s < states t → (getD ends s 0 ≡ 65535 → ⊥) → EndLive t s (getD ends s 0)

@@ -27,26 +27,10 @@ pub fn lowest(word: u64) -> usize
     u64::trailing_zeros(word) as usize
 }
 
-// The place of the highest set bit.
-pub fn highest(word: u64) -> usize
-    requires { ⌜ 0 < word ⌝ }
-    ensures { λ r. ⌜ (r < 64) × (bit word r ≡ 1) × ((s : ℕ) → r < s → bit word s ≡ 0) ⌝ }
-{
-    63 - u64::leading_zeros(word) as usize
-}
-
 // The word without its lowest set bit.
 pub fn without_lowest(word: u64) -> u64
     requires { ⌜ 0 < word ⌝ }
     ensures { λ r. ⌜ r ≡ word - 2 ^ trailingZeros 64 word ⌝ }
 {
     word & (word - 1)
-}
-
-// Whether a bit from lo on and below hi is set: the others are shifted out.
-pub fn any_set(word: u64, lo: usize, hi: usize) -> bool
-    requires { ⌜ (lo < hi) × (hi ≤ 64) ⌝ }
-    ensures { λ r. ⌜ Exactly r ((s : ℕ) × (lo ≤ s) × (s < hi) × (bit word s ≡ 1)) ⌝ }
-{
-    (word << (64 - hi)) >> (64 - hi + lo) != 0
 }

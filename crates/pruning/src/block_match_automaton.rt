@@ -6,47 +6,63 @@ ghost use lib.ListN.{length, take, getD};
 ghost use Rattle.keys.specs.Order.{commonPrefixLen};
 ghost use Rattle.automaton.specs.Bits.{Exactly};
 ghost use Rattle.automaton.specs.Table.{WellFormed, states};
-ghost use Rattle.automaton.specs.Words.{run};
+ghost use Rattle.automaton.specs.Words.{run, Reach};
 ghost use Rattle.automaton.specs.Live.{Firsts, Ends};
 ghost use Rattle.pruning.specs.Interval.{startOf, Marked, MatchAbove, MatchBetween};
 ghost use Rattle.pruning.specs.Prepared.{Prepared};
 use automaton::live::any_byte;
+use automaton::live::end;
+use automaton::live::first;
 use automaton::table::accept;
 use automaton::table::is_match;
 
 // Whether a string above `start_key` can match from `state` on. Where the highest byte that leads on is the key's,
 // the walk goes on behind it; a higher one matches, and below it the key's own leads nowhere.
-fn match_range_start(table: &[u8], ends: &[u16; 64], start_key: &[u8], state: usize) -> bool
-    requires { ⌜ WellFormed (now table) × Ends (now table) (now ends) × (state < states (now table)) ⌝ }
+fn match_range_start(
+    table: &[u8],
+    reach: u64,
+    ends: &mut [u16; 64],
+    start_key: &[u8],
+    state: usize,
+) -> bool
+    requires { ⌜ WellFormed (now table) × Reach (now table) reach × Ends (now table) (now ends) × (state < states (now table)) ⌝ }
     ensures { λ r. ⌜ Exactly r (MatchAbove (now (table .entry)) state (now («start_key» .entry))) ⌝ }
+    ensures { λ _. ⌜ Ends (now (table .entry)) (now (ends .exit)) ⌝ }
 {
     let mut at = state;
     let mut i: usize = 0;
     while i < start_key.len() {
         let kb = start_key[i];
         let behind = kb as u16 + 1;
-        let end = ends[at];
-        if end != behind {
-            return end > behind;
+        let most = end(table, reach, ends, at);
+        if most != behind {
+            return most > behind;
         }
         at = accept(table, at, kb);
         i += 1;
     }
-    ends[at] > 0
+    end(table, reach, ends, at) > 0
 }
 
 // Whether a string that isn't empty and not above `end_key` can match from `state` on: the same by the lowest byte.
-fn match_range_end(table: &[u8], firsts: &[u16; 64], end_key: &[u8], state: usize) -> bool
-    requires { ⌜ WellFormed (now table) × Firsts (now table) (now firsts) × (state < states (now table)) ⌝ }
+fn match_range_end(
+    table: &[u8],
+    reach: u64,
+    firsts: &mut [u16; 64],
+    end_key: &[u8],
+    state: usize,
+) -> bool
+    requires { ⌜ WellFormed (now table) × Reach (now table) reach × Firsts (now table) (now firsts) × (state < states (now table)) ⌝ }
     ensures { λ r. ⌜ Exactly r (MatchBetween (now (table .entry)) state [] (now («end_key» .entry))) ⌝ }
+    ensures { λ _. ⌜ Firsts (now (table .entry)) (now (firsts .exit)) ⌝ }
 {
     let mut at = state;
     let mut i: usize = 0;
     while i < end_key.len() {
         let kb = end_key[i];
-        let first = firsts[at];
-        if first != kb as u16 {
-            return first < kb as u16;
+        let least = first(table, reach, firsts, at);
+        if least != kb as u16 {
+            return least < kb as u16;
         }
         at = accept(table, at, kb);
         if is_match(table, at) {
@@ -75,31 +91,32 @@ pub fn accept_prefix(table: &[u8], key: &[u8], n: usize) -> usize
 // is below that of the other.
 fn match_between(
     table: &[u8],
-    live: &[u64; 256],
-    firsts: &[u16; 64],
-    ends: &[u16; 64],
+    reach: u64,
+    firsts: &mut [u16; 64],
+    ends: &mut [u16; 64],
     start_key: &[u8],
     end_key: &[u8],
     state: usize,
 ) -> bool
-    requires { ⌜ Prepared (now table) (now live) (now firsts) (now ends) × (state < states (now table)) × (0 < length (now «start_key»)) × (0 < length (now «end_key»)) × (getD (now «start_key») 0 0 < getD (now «end_key») 0 0) ⌝ }
+    requires { ⌜ Prepared (now table) reach (now firsts) (now ends) × (state < states (now table)) × (0 < length (now «start_key»)) × (0 < length (now «end_key»)) × (getD (now «start_key») 0 0 < getD (now «end_key») 0 0) ⌝ }
     ensures { λ r. ⌜ Exactly r (MatchBetween (now (table .entry)) state (now («start_key» .entry)) (now («end_key» .entry))) ⌝ }
+    ensures { λ _. ⌜ Prepared (now (table .entry)) reach (now (firsts .exit)) (now (ends .exit)) ⌝ }
 {
     let start_range = start_key[0];
     let end_range = end_key[0];
-    if ends[state] <= start_range as u16 {
+    if end(table, reach, ends, state) <= start_range as u16 {
         return false;
     }
-    if firsts[state] > end_range as u16 {
+    if first(table, reach, firsts, state) > end_range as u16 {
         return false;
     }
     let start_state = accept(table, state, start_range);
-    if match_range_start(table, ends, &start_key[1..], start_state) {
+    if match_range_start(table, reach, ends, &start_key[1..], start_state) {
         return true;
     }
     if any_byte(
         table,
-        live,
+        reach,
         state,
         start_range as usize + 1,
         end_range as usize,
@@ -110,35 +127,36 @@ fn match_between(
     if is_match(table, end_state) {
         return true;
     }
-    match_range_end(table, firsts, &end_key[1..], end_state)
+    match_range_end(table, reach, firsts, &end_key[1..], end_state)
 }
 
 // Whether a key above `start_key` and not above `end_key` can match, by the state behind the n bytes that they share.
 pub fn can_block_match_from(
     table: &[u8],
-    live: &[u64; 256],
-    firsts: &[u16; 64],
-    ends: &[u16; 64],
+    reach: u64,
+    firsts: &mut [u16; 64],
+    ends: &mut [u16; 64],
     base: usize,
     n: usize,
     start_key: &[u8],
     end_key: &[u8],
 ) -> bool
-    requires { ⌜ Prepared (now table) (now live) (now firsts) (now ends) × (n ≡ commonPrefixLen (now «start_key») (now «end_key»)) × (base ≡ run (now table) 0 (take n (now «start_key»))) × (base < states (now table)) ⌝ }
+    requires { ⌜ Prepared (now table) reach (now firsts) (now ends) × (n ≡ commonPrefixLen (now «start_key») (now «end_key»)) × (base ≡ run (now table) 0 (take n (now «start_key»))) × (base < states (now table)) ⌝ }
     ensures { λ r. ⌜ Exactly r (MatchBetween (now (table .entry)) 0 (now («start_key» .entry)) (now («end_key» .entry))) ⌝ }
+    ensures { λ _. ⌜ Prepared (now (table .entry)) reach (now (firsts .exit)) (now (ends .exit)) ⌝ }
 {
     if n == end_key.len() {
         return false;
     }
     if n == start_key.len() {
-        return match_range_end(table, firsts, &end_key[n..], base);
+        return match_range_end(table, reach, firsts, &end_key[n..], base);
     }
     if end_key[n] < start_key[n] {
         return false;
     }
     match_between(
         table,
-        live,
+        reach,
         firsts,
         ends,
         &start_key[n..],
@@ -149,38 +167,40 @@ pub fn can_block_match_from(
 
 fn can_block_match_automaton_with_start(
     table: &[u8],
-    live: &[u64; 256],
-    firsts: &[u16; 64],
-    ends: &[u16; 64],
+    reach: u64,
+    firsts: &mut [u16; 64],
+    ends: &mut [u16; 64],
     start_key: &[u8],
     end_key: &[u8],
 ) -> bool
-    requires { ⌜ Prepared (now table) (now live) (now firsts) (now ends) ⌝ }
+    requires { ⌜ Prepared (now table) reach (now firsts) (now ends) ⌝ }
     ensures { λ r. ⌜ Exactly r (MatchBetween (now (table .entry)) 0 (now («start_key» .entry)) (now («end_key» .entry))) ⌝ }
+    ensures { λ _. ⌜ Prepared (now (table .entry)) reach (now (firsts .exit)) (now (ends .exit)) ⌝ }
 {
     let n = keys::common_prefix_len(start_key, end_key);
     let base = accept_prefix(table, start_key, n);
-    can_block_match_from(table, live, firsts, ends, base, n, start_key, end_key)
+    can_block_match_from(table, reach, firsts, ends, base, n, start_key, end_key)
 }
 
 // The same for the first block too, which has no start and lets the empty string in.
 pub fn can_block_match(
     table: &[u8],
-    live: &[u64; 256],
-    firsts: &[u16; 64],
-    ends: &[u16; 64],
+    reach: u64,
+    firsts: &mut [u16; 64],
+    ends: &mut [u16; 64],
     has_start: bool,
     start_key: &[u8],
     end_key: &[u8],
 ) -> bool
-    requires { ⌜ Prepared (now table) (now live) (now firsts) (now ends) ⌝ }
+    requires { ⌜ Prepared (now table) reach (now firsts) (now ends) ⌝ }
     ensures { λ r. ⌜ Exactly r (Marked (now (table .entry)) (startOf «has_start» (now («start_key» .entry))) (now («end_key» .entry))) ⌝ }
+    ensures { λ _. ⌜ Prepared (now (table .entry)) reach (now (firsts .exit)) (now (ends .exit)) ⌝ }
 {
     if has_start {
-        return can_block_match_automaton_with_start(table, live, firsts, ends, start_key, end_key);
+        return can_block_match_automaton_with_start(table, reach, firsts, ends, start_key, end_key);
     }
     if is_match(table, 0) {
         return true;
     }
-    can_block_match_automaton_with_start(table, live, firsts, ends, &end_key[..0], end_key)
+    can_block_match_automaton_with_start(table, reach, firsts, ends, &end_key[..0], end_key)
 }

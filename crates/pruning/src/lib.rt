@@ -1,6 +1,7 @@
 // Whether a block can hold a key that an automaton accepts: src/block_match_automaton.rs.
 pub mod block_match_automaton;
 
+use automaton::live::UNKNOWN;
 ghost use mathlib.Core.Path.{_≡_};
 ghost use Rattle.automaton.specs.Bits.{Exactly};
 ghost use Rattle.automaton.specs.Table.{tableNo};
@@ -28,14 +29,13 @@ pub fn can_block_match_automaton(
         return Matched::Refused(no);
     }
     let reach = automaton::reach::reach(table);
-    let live = automaton::live::live(table, reach);
-    let firsts = automaton::live::firsts(table, &live);
-    let ends = automaton::live::ends(table, &live);
+    let mut firsts: [u16; 64] = [UNKNOWN; 64];
+    let mut ends: [u16; 64] = [UNKNOWN; 64];
     Matched::Matches(block_match_automaton::can_block_match(
         table,
-        &live,
-        &firsts,
-        &ends,
+        reach,
+        &mut firsts,
+        &mut ends,
         has_start,
         start_key,
         end_key,

@@ -11,7 +11,9 @@ can-block-match-automaton-with-start-requires :
 can-block-match-automaton-with-start-requires c κs = search needs
 
 returns : tie.Need-returns
-returns c = rw (c .before .if1 .taken) (c .can-block-match-automaton-with-start .ensures)
+returns c =
+    let e = c .can-block-match-automaton-with-start .ensures in
+    (rw (c .before .before .before .if1 .taken) (e .0), e .1)
 
 is-match-requires : tie.Need-is-match-requires
 is-match-requires c κs = search needs
@@ -19,7 +21,7 @@ is-match-requires c κs = search needs
 returns-2 : tie.Need-returns-2
 returns-2 c =
     let a = c .before .before .before .before .before .before .args in
-    rw (c .before .before .if1 .left) (marked-none (a .table .now) (a .end-key .now) .1 (inl (when-true (c .before .is-match .ensures) (c .if2 .taken))))
+    (rw (c .before .before .if1 .left) (marked-none (a .table .now) (a .end-key .now) .1 (inl (when-true (c .before .is-match .ensures) (c .if2 .taken)))), c .before .before .before .before .before .before .pre)
 
 slice-aggregate-can-block-match-automaton-with-start :
     tie.Need-slice-aggregate-can-block-match-automaton-with-start
@@ -31,9 +33,10 @@ can-block-match-automaton-with-start-requires-2 c κs = search needs
 
 returns-3 : tie.Need-returns-3
 returns-3 c =
-    let a = c .before .before .before .before .before .before .before .before .args in
-    let r = past (marked-none (a .table .now) (a .end-key .now)) (when-false (c .before .before .before .is-match .ensures) (c .before .before .if2 .left)) in
-    rw (c .before .before .before .before .if1 .left) (exactly-map (c .can-block-match-automaton-with-start2 .result) (r .1) (r .0) (c .can-block-match-automaton-with-start2 .ensures))
+    let a = c .before .before .before .before .before .before .before .before .before .before .args in
+    let e = c .can-block-match-automaton-with-start2 .ensures in
+    let r = past (marked-none (a .table .now) (a .end-key .now)) (when-false (c .before .before .before .before .before .is-match .ensures) (c .before .before .before .before .if2 .left)) in
+    (rw (c .before .before .before .before .before .before .if1 .left) (exactly-map (c .can-block-match-automaton-with-start2 .result) (r .1) (r .0) (e .0)), e .1)
 
 pub can-block-match-spec : {M : Type 1} → statement M
 can-block-match-spec =

@@ -11,6 +11,7 @@ use Rattle.automaton.proofs.Exact.{exactly-map}
 use Rattle.automaton.proofs.Refusal.{part-rest}
 use Rattle.automaton.proofs.Strings.{bytes-of}
 use Rattle.pruning.proofs.Intervals.{part-some, part-first, common-none, common-above, common-below, common-run, common-end}
+use Rattle.pruning.proofs.Kept.{with-firsts}
 use Rattle.pruning.proofs.block_match_automaton.can_block_match_from.Statement.{statement}
 use Rattle.pruning.proofs.block_match_automaton.can_block_match_from.Tie as tie
 
@@ -27,13 +28,13 @@ bytes c = bytes-of (c .before .before .before .args .start-key .now) (λ i. omeg
 returns : tie.Need-returns
 returns c =
     let a = c .before .before .before .before .args in
-    common-none (a .table .now) 0 (a .start-key .now) (a .end-key .now) (c .before .before .before .before .pre .1) (omega arith)
+    (common-none (a .table .now) 0 (a .start-key .now) (a .end-key .now) (c .before .before .before .before .pre .1) (omega arith), c .before .before .before .before .pre .0)
 
 sub-match-range-end : tie.Need-sub-match-range-end
-sub-match-range-end c = within (c .before .before) .1
+sub-match-range-end c = within (c .before .before .before) .1
 
 part-match-range-end-start : tie.Need-part-match-range-end-start
-part-match-range-end-start c = within (c .before .before) .1
+part-match-range-end-start c = within (c .before .before .before) .1
 
 part-match-range-end-end : tie.Need-part-match-range-end-end
 part-match-range-end-end c = search needs
@@ -43,10 +44,10 @@ match-range-end-requires c κs = search needs
 
 returns-2 : tie.Need-returns-2
 returns-2 c =
-    let s = c .before .before .before .before .before .before .before in
+    let s = c .before .before .before .before .before .before .before .before in
     let a = s .args in
-    let i = common-end (a .table .now) 0 (a .start-key .now) (a .end-key .now) (s .pre .1) (bytes (c .before .before .before .before)) (s .pre .2) (omega arith) in
-    exactly-map (c .match-range-end .result) (i .1) (i .0) (rw (part-rest (a .end-key .now) (a .n)) at (c .match-range-end .ensures))
+    let i = common-end (a .table .now) 0 (a .start-key .now) (a .end-key .now) (s .pre .1) (bytes (c .before .before .before .before .before)) (s .pre .2) (omega arith) in
+    (exactly-map (c .match-range-end .result) (i .1) (i .0) (rw (part-rest (a .end-key .now) (a .n)) at (c .match-range-end .ensures .0)), with-firsts (s .pre .0) (c .match-range-end .ensures .1))
 
 shared-slice-read-if3 : tie.Need-shared-slice-read-if3
 shared-slice-read-if3 c = omega (arith, within (c .before .before .before))
@@ -59,31 +60,31 @@ returns-3 c =
     let s = c .before .before .before .before .before .before .before .before in
     let a = s .args in
     let w = within (c .before .before .before .before .before) in
-    common-above (a .table .now) 0 (a .start-key .now) (a .end-key .now) (s .pre .1) (omega arith) (omega arith) (c .if3 .taken)
+    (common-above (a .table .now) 0 (a .start-key .now) (a .end-key .now) (s .pre .1) (omega arith) (omega arith) (c .if3 .taken), s .pre .0)
 
 sub-match-between : tie.Need-sub-match-between
-sub-match-between c = within (c .before .before .before .before .before) .0
+sub-match-between c = within (c .before .before .before .before .before .before .before) .0
 
 part-match-between-start : tie.Need-part-match-between-start
-part-match-between-start c = within (c .before .before .before .before .before) .0
+part-match-between-start c = within (c .before .before .before .before .before .before .before) .0
 
 part-match-between-end : tie.Need-part-match-between-end
 part-match-between-end c = search needs
 
 sub-match-between-2 : tie.Need-sub-match-between-2
-sub-match-between-2 c = within (c .before .before .before .before .before .before) .1
+sub-match-between-2 c = within (c .before .before .before .before .before .before .before .before) .1
 
 part-match-between-start-2 : tie.Need-part-match-between-start-2
-part-match-between-start-2 c = within (c .before .before .before .before .before .before) .1
+part-match-between-start-2 c = within (c .before .before .before .before .before .before .before .before) .1
 
 part-match-between-end-2 : tie.Need-part-match-between-end-2
 part-match-between-end-2 c = search needs
 
 match-between-requires : tie.Need-match-between-requires
 match-between-requires c κs =
-    let s = c .before .before .before .before .before .before .before .before .before .before in
+    let s = c .before .before .before .before .before .before .before .before .before .before .before .before in
     let a = s .args in
-    let w = within (c .before .before .before .before .before .before .before) in
+    let w = within (c .before .before .before .before .before .before .before .before .before) in
     let ha : a .n < length (a .start-key .now) = omega arith in
     let hb : a .n < length (a .end-key .now) = omega arith in
     let l = common-below (a .table .now) 0 (a .start-key .now) (a .end-key .now) (s .pre .1) ha hb (omega arith) in
@@ -91,10 +92,10 @@ match-between-requires c κs =
 
 returns-4 : tie.Need-returns-4
 returns-4 c =
-    let s = c .before .before .before .before .before .before .before .before .before .before .before in
+    let s = c .before .before .before .before .before .before .before .before .before .before .before .before .before in
     let a = s .args in
-    let i = common-run (a .table .now) 0 (a .start-key .now) (a .end-key .now) (s .pre .1) (bytes (c .before .before .before .before .before .before .before .before)) (s .pre .2) in
-    exactly-map (c .match-between .result) (i .1) (i .0) (rw (part-rest (a .start-key .now) (a .n), part-rest (a .end-key .now) (a .n)) at (c .match-between .ensures))
+    let i = common-run (a .table .now) 0 (a .start-key .now) (a .end-key .now) (s .pre .1) (bytes (c .before .before .before .before .before .before .before .before .before .before)) (s .pre .2) in
+    (exactly-map (c .match-between .result) (i .1) (i .0) (rw (part-rest (a .start-key .now) (a .n), part-rest (a .end-key .now) (a .n)) at (c .match-between .ensures .0)), c .match-between .ensures .1)
 
 pub can-block-match-from-spec : {M : Type 1} → statement M
 can-block-match-from-spec =

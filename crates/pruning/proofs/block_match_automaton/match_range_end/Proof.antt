@@ -7,6 +7,7 @@ use borrow.Author.Needs.{needs}
 use lib.Dec.{ltb}
 use lib.ListN.{length, drop, getD}
 use Rattle.automaton.specs.Table.{states}
+use Rattle.automaton.specs.Live.{Firsts}
 use Rattle.automaton.proofs.Exact.{when-true, when-false, exactly-map}
 use Rattle.pruning.specs.Interval.{MatchBetween}
 use Rattle.pruning.proofs.Intervals.{past, upto-end}
@@ -15,36 +16,33 @@ use Rattle.pruning.proofs.block_match_automaton.match_range_end.Stateme
 use Rattle.pruning.proofs.block_match_automaton.match_range_end.Tie as tie
 
 abbrev Inv-loop : tie.InvT-loop
-Inv-loop table firsts end-key state at₀ i₀ at i = (at < states table) × (i ≤ length end-key) × (MatchBetween table state [] end-key ↔ MatchBetween table at [] (drop i end-key))
+Inv-loop table reach firsts₀ end-key state at₀ i₀ firsts at i = (at < states table) × (i ≤ length end-key) × Firsts table firsts × (MatchBetween table state [] end-key ↔ MatchBetween table at [] (drop i end-key))
 
 abbrev μ-loop : tie.MeasureT-loop
-μ-loop table firsts end-key state at₀ i₀ at i = length end-key - i
+μ-loop table reach firsts₀ end-key state at₀ i₀ firsts at i = length end-key - i
 
 loop-holds : tie.Need-loop-holds Inv-loop μ-loop
-loop-holds c = (search needs, search needs, Iff·rfl)
+loop-holds c = (search needs, search needs, search needs, Iff·rfl)
 
 shared-slice-read-kb : tie.Need-shared-slice-read-kb Inv-loop μ-loop
 shared-slice-read-kb c = search needs
 
-mul-first : tie.Need-mul-first Inv-loop μ-loop
-mul-first c = search needs
-
-element-copy-out-first : tie.Need-element-copy-out-first Inv-loop μ-loop
-element-copy-out-first c = omega (arith, c .before .before .before .before .before .pre .0 .few)
+first-requires : tie.Need-first-requires Inv-loop μ-loop
+first-requires c κs = (c .before .before .before .before .before .before .pre .0, c .before .before .before .before .before .before .pre .1, c .before .before .before .loop .inv .2, c .before .before .before .loop .inv .0)
 
 cast-if1 : tie.Need-cast-if1 Inv-loop μ-loop
-cast-if1 c = omega (arith, c .before .shared-slice-known3 .given (c .before .before .before .loop .i))
+cast-if1 c = omega (arith, c .before .before .shared-slice-known3 .given (c .before .before .before .before .loop .i))
 
 cast-result : tie.Need-cast-result Inv-loop μ-loop
-cast-result c = omega (arith, c .before .before .shared-slice-known3 .given (c .before .before .before .before .loop .i))
+cast-result c = omega (arith, c .before .before .before .shared-slice-known3 .given (c .before .before .before .before .before .loop .i))
 
 returns : tie.Need-returns Inv-loop μ-loop
 returns c =
-    let a = c .before .before .before .before .before .before .before .args in
-    let p = c .before .before .before .before .before .before .before .pre in
-    let l = c .before .before .before .before .loop in
-    let g = upto-decided-at (a .end-key .now) (l .i) (search needs) (omega (arith, c .before .before .shared-slice-known3 .given (l .i))) (a .table .now) (l .at) _ (p .1 .each (l .at) (l .inv .0)) (c .if1 .taken) in
-    exactly-map (ltb (getD (a .firsts .now) (l .at) 0) (getD (a .end-key .now) (l .i) 0)) (l .inv .2 .1) (l .inv .2 .0) g
+    let a = c .before .before .before .before .before .before .before .before .args in
+    let l = c .before .before .before .before .before .loop in
+    let f = c .before .first in
+    let g = upto-decided-at (a .end-key .now) (l .i) (search needs) (omega (arith, c .before .before .before .shared-slice-known3 .given (l .i))) (a .table .now) (l .at) _ (f .ensures .0) (c .if1 .taken) in
+    (exactly-map (ltb (f .result) (getD (a .end-key .now) (l .i) 0)) (l .inv .3 .1) (l .inv .3 .0) g, f .ensures .1)
 
 accept-requires : tie.Need-accept-requires Inv-loop μ-loop
 accept-requires c κs = search needs
@@ -54,12 +52,12 @@ is-match-requires c κs = search needs
 
 returns-2 : tie.Need-returns-2 Inv-loop μ-loop
 returns-2 c =
-    let a = c .before .before .before .before .before .before .before .before .before .before .args in
-    let p = c .before .before .before .before .before .before .before .before .before .before .pre in
-    let l = c .before .before .before .before .before .before .before .loop in
-    let n = upto-next-at (a .end-key .now) (l .i) (search needs) (omega (arith, c .before .before .before .before .before .shared-slice-known3 .given (l .i))) (a .table .now) (l .at) _ (p .1 .each (l .at) (l .inv .0)) (search needs) in
+    let a = c .before .before .before .before .before .before .before .before .before .before .before .args in
+    let l = c .before .before .before .before .before .before .before .before .loop in
+    let f = c .before .before .before .before .first in
+    let n = upto-next-at (a .end-key .now) (l .i) (search needs) (omega (arith, c .before .before .before .before .before .before .shared-slice-known3 .given (l .i))) (a .table .now) (l .at) _ (f .ensures .0) (search needs) in
     let e = c .before .before .accept .ensures .0 in
-    l .inv .2 .1 (n .1 (inl (when-true (rw e at (c .before .is-match .ensures)) (c .if2 .taken))))
+    (l .inv .3 .1 (n .1 (inl (when-true (rw e at (c .before .is-match .ensures)) (c .if2 .taken)))), f .ensures .1)
 
 add-i : tie.Need-add-i Inv-loop μ-loop
 add-i c = search needs
@@ -69,19 +67,19 @@ loop-less c = search needs
 
 loop-again : tie.Need-loop-again Inv-loop μ-loop
 loop-again c =
-    let a = c .before .before .before .before .before .before .before .before .before .before .args in
-    let p = c .before .before .before .before .before .before .before .before .before .before .pre in
-    let l = c .before .before .before .before .before .before .before .loop in
-    let n = upto-next-at (a .end-key .now) (l .i) (search needs) (omega (arith, c .before .before .before .before .before .shared-slice-known3 .given (l .i))) (a .table .now) (l .at) _ (p .1 .each (l .at) (l .inv .0)) (search needs) in
+    let a = c .before .before .before .before .before .before .before .before .before .before .before .args in
+    let l = c .before .before .before .before .before .before .before .before .loop in
+    let f = c .before .before .before .before .first in
+    let n = upto-next-at (a .end-key .now) (l .i) (search needs) (omega (arith, c .before .before .before .before .before .before .shared-slice-known3 .given (l .i))) (a .table .now) (l .at) _ (f .ensures .0) (search needs) in
     let e = c .before .before .accept .ensures .0 in
     let r = past n (when-false (rw e at (c .before .is-match .ensures)) (c .if2 .left)) in
-    (search needs, search needs, rw e (Iff·trans (l .inv .2) r))
+    (search needs, search needs, f .ensures .1, rw e (Iff·trans (l .inv .3) r))
 
 returns-3 : tie.Need-returns-3 Inv-loop μ-loop
 returns-3 c =
     let a = c .before .before .before .before .args in
     let l = c .before .loop in
-    λ m. upto-end (a .table .now) (l .at) (a .end-key .now) (l .i) (search needs) (l .inv .2 .0 m)
+    (λ m. upto-end (a .table .now) (l .at) (a .end-key .now) (l .i) (search needs) (l .inv .3 .0 m), l .inv .2)
 
 pub match-range-end-spec : {M : Type 1} → statement M
 match-range-end-spec =
@@ -91,8 +89,7 @@ match-range-end-spec =
     μ-loop
     loop-holds
     shared-slice-read-kb
-    mul-first
-    element-copy-out-first
+    first-requires
     cast-if1
     cast-result
     returns
