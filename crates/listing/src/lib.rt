@@ -13,6 +13,7 @@ ghost use Rattle.pruning.specs.Prepared.{Prepared};
 ghost use Rattle.directory.specs.Read.{keyOf};
 ghost use Rattle.listing.specs.Listing.{keysOutside, listingNo, separatorAt, Listing, listedNo, listedCount, ListingLeaves};
 ghost use Rattle.listing.specs.Followed.{Followed, Turned};
+use automaton::live::UNKNOWN;
 use automaton::reach::can_match;
 use automaton::table::accept;
 use directory::read::key;
@@ -187,16 +188,16 @@ fn mark(marks: &mut [u8], i: usize, matches: bool) -> usize
 fn match_block(
     table: &[u8],
     reach: u64,
-    live: &[u64; 256],
-    firsts: &[u16; 64],
-    ends: &[u16; 64],
+    firsts: &mut [u16; 64],
+    ends: &mut [u16; 64],
     states: &mut [u8; 1025],
     known: usize,
     start_key: &[u8],
     end_key: &[u8],
 ) -> Turn
-    requires { ⌜ Prepared (now table) (now live) (now firsts) (now ends) × Reach (now table) reach × Followed (now table) (now «start_key») (now states) known × (known ≤ 1024) × (known ≤ length (now «start_key»)) ⌝ }
+    requires { ⌜ Prepared (now table) reach (now firsts) (now ends) × Followed (now table) (now «start_key») (now states) known × (known ≤ 1024) × (known ≤ length (now «start_key»)) ⌝ }
     ensures { λ r. ⌜ Turned (now (table .entry)) (now («start_key» .entry)) (now («end_key» .entry)) (now (states .exit)) (r .matches) (r .known) ⌝ }
+    ensures { λ _. ⌜ Prepared (now (table .entry)) reach (now (firsts .exit)) (now (ends .exit)) ⌝ }
 {
     if shares_dead(table, reach, states, known, start_key, end_key) {
         return Turn {
@@ -213,10 +214,9 @@ fn match_block(
         };
     }
     let base = state_behind(table, start_key, states, behind, common);
-    let matches = can_block_match_from(table, live, firsts, ends, base, common, start_key, end_key);
     Turn {
         known: behind,
-        matches: matches,
+        matches: can_block_match_from(table, reach, firsts, ends, base, common, start_key, end_key),
     }
 }
 
@@ -226,11 +226,18 @@ fn mark_blocks(directory: &[u8], n: usize, table: &[u8], marks: &mut [u8]) -> us
     ensures { λ r. ⌜ Listing (now (table .entry)) (keyOf (now (directory .entry)) n) n (now (marks .entry)) (now (marks .exit)) r ⌝ }
 {
     let reach = automaton::reach::reach(table);
-    let live = automaton::live::live(table, reach);
-    let firsts = automaton::live::firsts(table, &live);
-    let ends = automaton::live::ends(table, &live);
+    let mut firsts: [u16; 64] = [UNKNOWN; 64];
+    let mut ends: [u16; 64] = [UNKNOWN; 64];
     let first_key = key(directory, n, 0);
-    let first = can_block_match(table, &live, &firsts, &ends, false, first_key, first_key);
+    let first = can_block_match(
+        table,
+        reach,
+        &mut firsts,
+        &mut ends,
+        false,
+        first_key,
+        first_key,
+    );
     let mut count = mark(marks, 0, first);
     let mut states: [u8; 1025] = [0; 1025];
     let mut known: usize = 0;
@@ -241,9 +248,8 @@ fn mark_blocks(directory: &[u8], n: usize, table: &[u8], marks: &mut [u8]) -> us
         let next = match_block(
             table,
             reach,
-            &live,
-            &firsts,
-            &ends,
+            &mut firsts,
+            &mut ends,
             &mut states,
             known,
             start_key,

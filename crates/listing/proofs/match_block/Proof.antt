@@ -1,5 +1,4 @@
 -- The state behind shared bytes leads nowhere, or it is the base of the walk.
-use mathlib.Core.Path.{_≡_}
 use Prim.Native.Nat.{ℕ, _≤_, _<_}
 use native.Mathlib.Omega.{arith}
 use borrow.Author.Needs.{needs}
@@ -24,19 +23,21 @@ shared c = omega (arith, c .follow .ensures .0, c .before .before .common-prefix
 shares-dead-requires : tie.Need-shares-dead-requires
 shares-dead-requires c κs =
     let p = c .before .before .before .before .pre in
-    (p .0 .ok, p .1, p .2, (p .3, p .4))
+    (p .0 .ok, p .0 .found, p .1, (p .2, p .3))
 
 returns : tie.Need-returns
 returns c =
     let a = c .before .before .before .before .before .before .args in
     let p = c .before .before .before .before .before .before .pre in
-    let d = c .before .shares-dead .ensures (c .if1 .taken) in
-    record {
-      right = d .1;
-      followed = followed-next (a .table .now) (a .start-key .now) (a .end-key .now) _ (a .known) (p .2) (d .0);
-      few = p .3;
-      within = omega (arith, d .0, commonPrefixLen-right (a .start-key .now) (a .end-key .now));
-    }
+    let d = c .before .shares-dead .ensures (c .if1 .taken) in (
+      record {
+        right = d .1;
+        followed = followed-next (a .table .now) (a .start-key .now) (a .end-key .now) _ (a .known) (p .1) (d .0);
+        few = p .2;
+        within = omega (arith, d .0, commonPrefixLen-right (a .start-key .now) (a .end-key .now));
+      },
+      p .0,
+    )
 
 common-prefix-len-requires : tie.Need-common-prefix-len-requires
 common-prefix-len-requires c κs = search needs
@@ -45,7 +46,7 @@ follow-requires : tie.Need-follow-requires
 follow-requires c κs =
     let a = c .before .before .before .before .before .before .before .before .args in
     let p = c .before .before .before .before .before .before .before .before .pre in
-    (p .0 .ok, p .2, p .3, omega (arith, c .before .common-prefix-len .ensures, commonPrefixLen-left (a .start-key .now) (a .end-key .now)))
+    (p .0 .ok, p .1, p .2, omega (arith, c .before .common-prefix-len .ensures, commonPrefixLen-left (a .start-key .now) (a .end-key .now)))
 
 is-dead-requires : tie.Need-is-dead-requires
 is-dead-requires c κs =
@@ -61,13 +62,15 @@ returns-2 c =
     let p = c .before .before .before .before .before .before .before .before .before .before .before .before .pre in
     let f = c .before .before .before .follow .ensures in
     let h = shared (c .before .before .before) in
-    let z = when-true (c .before .is-dead .ensures) (c .if2 .taken) in
-    record {
-      right = followed-dead (a .table .now) (a .start-key .now) (a .end-key .now) _ (a .reach) (c .before .before .before .follow .result) (p .0 .ok) (p .1) (bytes (c .before .before .before .before .before .before .before .before .before)) (f .2) z h;
-      followed = followed-next (a .table .now) (a .start-key .now) (a .end-key .now) _ (c .before .before .before .follow .result) (f .2) h;
-      few = f .1;
-      within = omega (arith, h, commonPrefixLen-right (a .start-key .now) (a .end-key .now));
-    }
+    let z = when-true (c .before .is-dead .ensures) (c .if2 .taken) in (
+      record {
+        right = followed-dead (a .table .now) (a .start-key .now) (a .end-key .now) _ (a .reach) (c .before .before .before .follow .result) (p .0 .ok) (p .0 .found) (bytes (c .before .before .before .before .before .before .before .before .before)) (f .2) z h;
+        followed = followed-next (a .table .now) (a .start-key .now) (a .end-key .now) _ (c .before .before .before .follow .result) (f .2) h;
+        few = f .1;
+        within = omega (arith, h, commonPrefixLen-right (a .start-key .now) (a .end-key .now));
+      },
+      p .0,
+    )
 
 state-behind-requires : tie.Need-state-behind-requires
 state-behind-requires c κs =
@@ -81,16 +84,17 @@ can-block-match-from-requires c κs = search needs
 
 returns-3 : tie.Need-returns-3
 returns-3 c =
-    let a = c .before .before .before .before .before .before .before .before .before .before .before .before .before .before .before .args in
-    let p = c .before .before .before .before .before .before .before .before .before .before .before .before .before .before .before .pre in
-    let f = c .before .before .before .before .before .before .follow .ensures in
-    let h = shared (c .before .before .before .before .before .before) in
-    record {
-      right = c .can-block-match-from .ensures;
-      followed = followed-next (a .table .now) (a .start-key .now) (a .end-key .now) _ (c .before .before .before .before .before .before .follow .result) (f .2) h;
-      few = f .1;
-      within = omega (arith, h, commonPrefixLen-right (a .start-key .now) (a .end-key .now));
-    }
+    let a = c .before .before .before .before .before .before .before .before .before .before .before .before .before .before .before .before .before .args in
+    let f = c .before .before .before .before .before .before .before .before .follow .ensures in
+    let h = shared (c .before .before .before .before .before .before .before .before) in (
+      record {
+        right = c .can-block-match-from .ensures .0;
+        followed = followed-next (a .table .now) (a .start-key .now) (a .end-key .now) _ (c .before .before .before .before .before .before .before .before .follow .result) (f .2) h;
+        few = f .1;
+        within = omega (arith, h, commonPrefixLen-right (a .start-key .now) (a .end-key .now));
+      },
+      c .can-block-match-from .ensures .1,
+    )
 
 pub match-block-spec : {M : Type 1} → statement M
 match-block-spec =
