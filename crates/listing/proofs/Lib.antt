@@ -1,3 +1,4 @@
+pub mod Eights
 pub mod Following
 pub mod ListedOpened
 pub mod ListedOnce

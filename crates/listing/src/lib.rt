@@ -1,18 +1,20 @@
 // The blocks that can hold a key of a pattern: `get_block_for_automaton` of src/index/v3.rs.
 ghost use mathlib.Core.Path.{_≡_};
 ghost use mathlib.Core.Bool.{true, false, cond};
-ghost use Prim.Native.Nat.{_≤_, _<_};
-ghost use lib.Dec.{eqb};
-ghost use lib.ListN.{length, take, set, getD};
+ghost use Prim.Native.Nat.{ℕ, _+_, _≤_, _<_};
+ghost use lib.ListN.{length, take, set, getD, replicate};
+ghost use lib.Seq.{sets};
 ghost use Rattle.keys.specs.Order.{commonPrefixLen};
-ghost use Rattle.automaton.specs.Table.{WellFormed, states as stateCount};
-ghost use Rattle.automaton.specs.Words.{run};
-ghost use Rattle.automaton.specs.Live.{Ends};
+ghost use Rattle.automaton.specs.Bits.{bit, Exactly};
+ghost use Rattle.automaton.specs.Table.{WellFormed, states as stateCount, next};
+ghost use Rattle.automaton.specs.Words.{run, Reach};
 ghost use Rattle.pruning.specs.Interval.{MatchBetween};
 ghost use Rattle.pruning.specs.Prepared.{Prepared};
 ghost use Rattle.directory.specs.Read.{keyOf};
 ghost use Rattle.listing.specs.Listing.{keysOutside, listingNo, separatorAt, Listing, listedNo, listedCount, ListingLeaves};
 ghost use Rattle.listing.specs.Followed.{Followed, Turned};
+use automaton::live::UNKNOWN;
+use automaton::reach::can_match;
 use automaton::table::accept;
 use directory::read::key;
 use index::SSTableIndexV3;
@@ -49,37 +51,88 @@ fn keys_outside(directory: &[u8], n: usize) -> bool
     false
 }
 
-// Whether no byte leads on from the state behind `known` bytes.
-fn is_dead(ends: &[u16; 64], states: &[u8; 1025], known: usize) -> bool
+// Whether the state behind `known` bytes can't match.
+fn is_dead(reach: u64, states: &[u8; 1025], known: usize) -> bool
     requires { ⌜ (known ≤ 1024) × (getD (now states) known 0 < 64) ⌝ }
-    ensures { λ r. ⌜ r ≡ eqb (getD (now (ends .entry)) (getD (now (states .entry)) known 0) 0) 0 ⌝ }
+    ensures { λ r. ⌜ Exactly r (bit reach (getD (now (states .entry)) known 0) ≡ 0) ⌝ }
 {
-    ends[states[known] as usize] == 0
+    !can_match(reach, states[known] as usize)
 }
 
-// Whether no byte leads on from a state behind bytes that the keys share: then no key between them matches.
+// Whether a state behind bytes that the keys share can't match: then no key between them matches.
 fn shares_dead(
     table: &[u8],
-    ends: &[u16; 64],
+    reach: u64,
     states: &[u8; 1025],
     known: usize,
     start_key: &[u8],
     end_key: &[u8],
 ) -> bool
-    requires { ⌜ WellFormed (now table) × Ends (now table) (now ends) × Followed (now table) (now «start_key») (now states) known × ((known ≤ 1024) × (known ≤ length (now «start_key»))) ⌝ }
+    requires { ⌜ WellFormed (now table) × Reach (now table) reach × Followed (now table) (now «start_key») (now states) known × ((known ≤ 1024) × (known ≤ length (now «start_key»))) ⌝ }
     ensures { λ r. ⌜ (r ≡ true → (known ≤ commonPrefixLen (now («start_key» .entry)) (now («end_key» .entry))) × (MatchBetween (now (table .entry)) 0 (now («start_key» .entry)) (now («end_key» .entry)) → ⊥)) ⌝ }
 {
-    if !is_dead(ends, states, known) {
+    if !is_dead(reach, states, known) {
         return false;
     }
     keys::common_prefix_len(&start_key[..known], end_key) == known
+}
+
+// Whether each of the eight bytes from `at` on leads from the state to itself. It looks at all of them, so that no look
+// waits for another.
+fn stays(table: &[u8], key: &[u8], at: usize, state: usize) -> bool
+    requires { ⌜ WellFormed (now table) × (state < stateCount (now table)) × (at + 8 ≤ length (now key)) ⌝ }
+    ensures { λ r. ⌜ Exactly r ((j : ℕ) → j < 8 → next (now (table .entry)) state (getD (now (key .entry)) (at + j) 0) ≡ state) ⌝ }
+{
+    let row = 1 + table[0] as usize + state * 256;
+    let mut all = true;
+    let mut j: usize = 0;
+    while j < 8 {
+        all = all & (table[row + key[at + j] as usize] as usize == state);
+        j += 1;
+    }
+    all
+}
+
+// Writes the state behind each of the eight bytes from `at` on.
+fn fill_eight(states: &mut [u8; 1025], at: usize, state: u8)
+    requires { ⌜ at + 8 ≤ 1024 ⌝ }
+    ensures { λ _. ⌜ now (states .exit) ≡ sets (now (states .entry)) (at + 1) (replicate 8 state) ⌝ }
+{
+    let mut i: usize = 0;
+    while i < 8 {
+        states[at + 1 + i] = state;
+        i += 1;
+    }
+}
+
+// As long as the next eight bytes lead back to the state, they are followed at once. Returns how many bytes are followed.
+fn follow_loops(
+    table: &[u8],
+    key: &[u8],
+    states: &mut [u8; 1025],
+    from: usize,
+    end: usize,
+    state: usize,
+) -> usize
+    requires { ⌜ WellFormed (now table) × Followed (now table) (now key) (now states) from × ((state ≡ run (now table) 0 (take from (now key))) × (state < stateCount (now table))) × (from ≤ end) × ((end ≤ 1024) × (end ≤ length (now key))) ⌝ }
+    ensures { λ r. ⌜ ((from ≤ r) × (r ≤ end)) × Followed (now (table .entry)) (now (key .entry)) (now (states .exit)) r × (state ≡ run (now (table .entry)) 0 (take r (now (key .entry)))) ⌝ }
+{
+    let mut i = from;
+    while i + 8 <= end {
+        if !stays(table, key, i, state) {
+            return i;
+        }
+        fill_eight(states, i, state as u8);
+        i += 8;
+    }
+    i
 }
 
 // The states behind the first bytes of a key, up to n bytes or 1,024, and no further than to a dead one: those behind at
 // most `known` bytes are there. Returns how many bytes are followed.
 fn follow(
     table: &[u8],
-    ends: &[u16; 64],
+    reach: u64,
     key: &[u8],
     states: &mut [u8; 1025],
     known: usize,
@@ -92,12 +145,16 @@ fn follow(
     let mut i = if known < end { known } else { end };
     let mut state = states[i] as usize;
     while i < end {
-        if ends[state] == 0 {
+        if !can_match(reach, state) {
             return i;
         }
-        state = accept(table, state, key[i]);
+        let behind = accept(table, state, key[i]);
         i += 1;
-        states[i] = state as u8;
+        states[i] = behind as u8;
+        if behind == state {
+            i = follow_loops(table, key, states, i, end, state);
+        }
+        state = behind;
     }
     end
 }
@@ -130,36 +187,36 @@ fn mark(marks: &mut [u8], i: usize, matches: bool) -> usize
 // along its end key.
 fn match_block(
     table: &[u8],
-    live: &[u64; 256],
-    firsts: &[u16; 64],
-    ends: &[u16; 64],
+    reach: u64,
+    firsts: &mut [u16; 64],
+    ends: &mut [u16; 64],
     states: &mut [u8; 1025],
     known: usize,
     start_key: &[u8],
     end_key: &[u8],
 ) -> Turn
-    requires { ⌜ Prepared (now table) (now live) (now firsts) (now ends) × Followed (now table) (now «start_key») (now states) known × (known ≤ 1024) × (known ≤ length (now «start_key»)) ⌝ }
+    requires { ⌜ Prepared (now table) reach (now firsts) (now ends) × Followed (now table) (now «start_key») (now states) known × (known ≤ 1024) × (known ≤ length (now «start_key»)) ⌝ }
     ensures { λ r. ⌜ Turned (now (table .entry)) (now («start_key» .entry)) (now («end_key» .entry)) (now (states .exit)) (r .matches) (r .known) ⌝ }
+    ensures { λ _. ⌜ Prepared (now (table .entry)) reach (now (firsts .exit)) (now (ends .exit)) ⌝ }
 {
-    if shares_dead(table, ends, states, known, start_key, end_key) {
+    if shares_dead(table, reach, states, known, start_key, end_key) {
         return Turn {
             known: known,
             matches: false,
         };
     }
     let common = keys::common_prefix_len(start_key, end_key);
-    let behind = follow(table, ends, start_key, states, known, common);
-    if is_dead(ends, states, behind) {
+    let behind = follow(table, reach, start_key, states, known, common);
+    if is_dead(reach, states, behind) {
         return Turn {
             known: behind,
             matches: false,
         };
     }
     let base = state_behind(table, start_key, states, behind, common);
-    let matches = can_block_match_from(table, live, firsts, ends, base, common, start_key, end_key);
     Turn {
         known: behind,
-        matches: matches,
+        matches: can_block_match_from(table, reach, firsts, ends, base, common, start_key, end_key),
     }
 }
 
@@ -169,11 +226,18 @@ fn mark_blocks(directory: &[u8], n: usize, table: &[u8], marks: &mut [u8]) -> us
     ensures { λ r. ⌜ Listing (now (table .entry)) (keyOf (now (directory .entry)) n) n (now (marks .entry)) (now (marks .exit)) r ⌝ }
 {
     let reach = automaton::reach::reach(table);
-    let live = automaton::live::live(table, reach);
-    let firsts = automaton::live::firsts(table, &live);
-    let ends = automaton::live::ends(table, &live);
+    let mut firsts: [u16; 64] = [UNKNOWN; 64];
+    let mut ends: [u16; 64] = [UNKNOWN; 64];
     let first_key = key(directory, n, 0);
-    let first = can_block_match(table, &live, &firsts, &ends, false, first_key, first_key);
+    let first = can_block_match(
+        table,
+        reach,
+        &mut firsts,
+        &mut ends,
+        false,
+        first_key,
+        first_key,
+    );
     let mut count = mark(marks, 0, first);
     let mut states: [u8; 1025] = [0; 1025];
     let mut known: usize = 0;
@@ -183,9 +247,9 @@ fn mark_blocks(directory: &[u8], n: usize, table: &[u8], marks: &mut [u8]) -> us
         let end_key = key(directory, n, i);
         let next = match_block(
             table,
-            &live,
-            &firsts,
-            &ends,
+            reach,
+            &mut firsts,
+            &mut ends,
             &mut states,
             known,
             start_key,

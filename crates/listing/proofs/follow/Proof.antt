@@ -1,10 +1,10 @@
 -- The loop keeps: the states up to byte i are there, and the last of them is the state.
 use mathlib.Core.Path.{_≡_, sym, ap, _∙_}
 use mathlib.Core.Logic.{⊎-elim}
-use Prim.Native.Nat.{ℕ, _-_, _≤_, _<_, min}
+use Prim.Native.Nat.{ℕ, _+_, _-_, _≤_, _<_, min}
 use native.Mathlib.Omega.{arith}
 use borrow.Author.Needs.{needs}
-use lib.ListN.{length, take, getD}
+use lib.ListN.{length, take, getD, set}
 use Rattle.automaton.specs.Table.{next, states as stateCount}
 use Rattle.automaton.specs.Words.{Bytes, run}
 use Rattle.automaton.proofs.Strings.{bytes-of, run-more}
@@ -14,10 +14,10 @@ use Rattle.listing.proofs.follow.Statement.{statement}
 use Rattle.listing.proofs.follow.Tie as tie
 
 abbrev Inv-loop : tie.InvT-loop
-Inv-loop table ends key states₀ known n end i₀ state₀ states i state = (i ≤ end) × (state ≡ run table 0 (take i key)) × (state < stateCount table) × Followed table key states i
+Inv-loop table reach key states₀ known n end i₀ state₀ states i state = (i ≤ end) × (state ≡ run table 0 (take i key)) × (state < stateCount table) × Followed table key states i
 
 abbrev μ-loop : tie.MeasureT-loop
-μ-loop table ends key states₀ known n end i₀ state₀ states i state = end - i
+μ-loop table reach key states₀ known n end i₀ state₀ states i state = end - i
 
 -- where the walk ends and starts
 end-is : (c : tie.Joined1 Inv-loop μ-loop) → c .if1 .end ≡ min (c .before .before .before .args .n) 1024
@@ -50,11 +50,8 @@ loop-holds c =
     let h : j .if2 .i ≤ a .known = omega (arith, start-is j) in
     (omega (arith, start-is j), p .1 .each (j .if2 .i) h, known-state j, followed-less (a .table .now) (a .key .now) (a .states .now) (a .known) (j .if2 .i) (p .1) h)
 
-mul-if3 : tie.Need-mul-if3 Inv-loop μ-loop
-mul-if3 c = search needs
-
-element-copy-out-if3 : tie.Need-element-copy-out-if3 Inv-loop μ-loop
-element-copy-out-if3 c = omega (arith, c .before .loop .inv .2, c .before .before .before .before .before .before .before .pre .0 .few)
+can-match-requires : tie.Need-can-match-requires Inv-loop μ-loop
+can-match-requires c κs = omega (arith, c .before .loop .inv .2, c .before .before .before .before .before .before .before .pre .0 .few)
 
 returns : tie.Need-returns Inv-loop μ-loop
 returns c =
@@ -77,18 +74,43 @@ cast-states c = omega (arith, c .before .accept .ensures, c .before .before .bef
 element-write-states : tie.Need-element-write-states Inv-loop μ-loop
 element-write-states c = omega (arith, end-is (c .before .before .before .before .before .before .before .before .before))
 
-loop-less : tie.Need-loop-less Inv-loop μ-loop
-loop-less c = search needs
-
-loop-again : tie.Need-loop-again Inv-loop μ-loop
-loop-again c =
+-- the step of one byte
+stepped : (c : tie.After-row-known Inv-loop μ-loop)
+    → let a = c .before .before .before .before .before .before .before .before .before .before .before .before .args in
+    let l = c .before .before .before .before .before .before .loop in
+    let v = c .before .accept .result in
+    (v ≡ run (a .table .now) 0 (take (l .i + 1) (a .key .now))) × Followed (a .table .now) (a .key .now) (set (l .states) (l .i + 1) v) (l .i + 1)
+stepped c =
     let a = c .before .before .before .before .before .before .before .before .before .before .before .before .args in
     let l = c .before .before .before .before .before .before .loop in
     let t = a .table .now in
     let e = end-is (c .before .before .before .before .before .before .before .before .before) in
     let h : l .i < length (a .key .now) = omega arith in
     let r = c .before .accept .ensures .0 ∙ ap (λ (x : ℕ). next t x (getD (a .key .now) (l .i) 0)) (l .inv .1) ∙ sym (run-more t 0 (a .key .now) (l .i) h) in
-    (omega arith, r, c .before .accept .ensures .1, followed-more t (a .key .now) (l .states) (l .i) (c .before .accept .result) (l .inv .3) (omega arith) r)
+    (r, followed-more t (a .key .now) (l .states) (l .i) (c .before .accept .result) (l .inv .3) (omega arith) r)
+
+follow-loops-requires : tie.Need-follow-loops-requires Inv-loop μ-loop
+follow-loops-requires c κs =
+    let s = stepped (c .before .before) in
+    let l = c .before .before .before .before .before .before .before .before .loop in
+    let e = end-is (c .before .before .before .before .before .before .before .before .before .before .before) in
+    (c .before .before .before .before .before .before .before .before .before .before .before .before .before .before .pre .0, s .1, (sym (c .before .if4 .taken) ∙ s .0, l .inv .2), omega arith, (omega arith, omega arith))
+
+loop-less : tie.Need-loop-less Inv-loop μ-loop
+loop-less c = omega (arith, c .follow-loops .ensures .0)
+
+loop-again : tie.Need-loop-again Inv-loop μ-loop
+loop-again c =
+    let f = c .follow-loops .ensures in
+    (f .0 .1, c .before .before .if4 .taken ∙ f .2, c .before .before .before .before .accept .ensures .1, f .1)
+
+loop-less-2 : tie.Need-loop-less-2 Inv-loop μ-loop
+loop-less-2 c = search needs
+
+loop-again-2 : tie.Need-loop-again-2 Inv-loop μ-loop
+loop-again-2 c =
+    let s = stepped (c .before) in
+    (omega arith, s .0, c .before .before .accept .ensures .1, s .1)
 
 returns-2 : tie.Need-returns-2 Inv-loop μ-loop
 returns-2 c =
@@ -105,14 +127,16 @@ follow-spec =
     element-copy-out-state
     cast-state
     loop-holds
-    mul-if3
-    element-copy-out-if3
+    can-match-requires
     returns
     shared-slice-read-accept
     accept-requires
     add-i
     cast-states
     element-write-states
+    follow-loops-requires
     loop-less
     loop-again
+    loop-less-2
+    loop-again-2
     returns-2)

@@ -9,6 +9,7 @@ use lib.ListN.{getD}
 use lib.Seq.{length-take-le}
 use Rattle.automaton.specs.Table.{states}
 use Rattle.automaton.specs.Words.{Bytes}
+use Rattle.automaton.proofs.Exact.{when-true}
 use Rattle.automaton.proofs.Strings.{bytes-of}
 use Rattle.listing.proofs.Following.{followed-state, followed-dead, front-common}
 use Rattle.listing.proofs.shares_dead.Statement.{statement}
@@ -40,10 +41,10 @@ returns-2 c =
     let s = c .before .before .before .before .before .before .before in
     let a = s .args in
     let p = s .pre in
-    let z = eqb-true _ _ (sym (c .before .before .before .is-dead .ensures) ∙ not-false (c .before .before .before .is-dead .result) (c .before .before .if1 .left)) in
+    let z = when-true (c .before .before .before .is-dead .ensures) (not-false (c .before .before .before .is-dead .result) (c .before .before .if1 .left)) in
     λ e.
     let h = front-common (a .known) (a .start-key .now) (a .end-key .now) (sym (c .common-prefix-len .ensures) ∙ eqb-true _ _ e) in
-    (h, followed-dead (a .table .now) (a .start-key .now) (a .end-key .now) (a .states .now) (a .ends .now) (a .known) (p .0) (p .1) (bytes (c .before .before .before .before)) (p .2) z h)
+    (h, followed-dead (a .table .now) (a .start-key .now) (a .end-key .now) (a .states .now) (a .reach) (a .known) (p .0) (p .1) (bytes (c .before .before .before .before)) (p .2) z h)
 
 pub shares-dead-spec : {M : Type 1} → statement M
 shares-dead-spec =
