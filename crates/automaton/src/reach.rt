@@ -42,7 +42,7 @@ fn states_of(table: &[u8], at: usize) -> u64
     word
 }
 
-// Whether eight words from `at` on all equal `last`. No early exit: the loop has no branch.
+// Whether the eight words from `at` on all equal `last`. The loop has no branch, so that it is unrolled whole.
 fn repeats(table: &[u8], at: usize, last: u64) -> bool
     requires { ⌜ at + 64 ≤ length (now table) ⌝ }
     ensures { λ r. ⌜ Exactly r ((k : ℕ) → k < 8 → numberAt (now (table .entry)) (at + 8 * k) 8 ≡ last) ⌝ }
@@ -105,7 +105,7 @@ fn others(word: u64, m: usize) -> u64
     (!word << (64 - m)) >> (64 - m)
 }
 
-// Sets bit p of the words of those states.
+// Sets bit p in the words of a word's states.
 fn mark(words: &mut [u64; 64], states: u64, p: usize)
     requires { ⌜ (length (now words) ≡ 64) × (p < 64) ⌝ }
     ensures { λ _. ⌜ length (now (words .exit)) ≡ 64 ⌝ }
