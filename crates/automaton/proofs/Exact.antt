@@ -1,6 +1,6 @@
 -- Tests: what one that is true exactly when P tells of P, and cases of two numbers.
 use mathlib.Core.Path.{_≡_, refl, subst}
-use mathlib.Core.Bool.{Bool, true, false}
+use mathlib.Core.Bool.{Bool, true, false, not}
 use mathlib.Core.Logic.{_≢_, _⊎_, inl, inr}
 use Prim.Native.Nat.{ℕ, _≤_, _<_}
 use native.Mathlib.Decide.{ℕ-discrete, decLt}
@@ -38,3 +38,8 @@ when-false {P} x e = subst (λ (b : Bool). Exactly b P) e x
 pub exactly-map : {P Q : Type 0} (r : Bool) → (P → Q) → (Q → P) → Exactly r P → Exactly r Q
 exactly-map true f g p = f p
 exactly-map false f g n = λ q. n (g q)
+
+-- a test that is turned round
+pub exactly-not : {P Q : Type 0} (r : Bool) → Exactly r P → ((P → ⊥) → Q) → (Q → P → ⊥) → Exactly (not r) Q
+exactly-not true p f g = λ q. g q p
+exactly-not false n f g = f n

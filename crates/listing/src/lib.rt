@@ -106,6 +106,7 @@ fn fill_eight(states: &mut [u8; 1025], at: usize, state: u8)
 }
 
 // As long as the next eight bytes lead back to the state, they are followed at once. Returns how many bytes are followed.
+// It is tried behind every eighth byte alone, so that a state that is soon left costs little.
 fn follow_loops(
     table: &[u8],
     key: &[u8],
@@ -117,6 +118,9 @@ fn follow_loops(
     requires { ⌜ WellFormed (now table) × Followed (now table) (now key) (now states) from × ((state ≡ run (now table) 0 (take from (now key))) × (state < stateCount (now table))) × (from ≤ end) × ((end ≤ 1024) × (end ≤ length (now key))) ⌝ }
     ensures { λ r. ⌜ ((from ≤ r) × (r ≤ end)) × Followed (now (table .entry)) (now (key .entry)) (now (states .exit)) r × (state ≡ run (now (table .entry)) 0 (take r (now (key .entry)))) ⌝ }
 {
+    if from % 8 != 0 {
+        return from;
+    }
     let mut i = from;
     while i + 8 <= end {
         if !stays(table, key, i, state) {

@@ -18,49 +18,54 @@ Inv-loop table key states₀ from end state i₀ states i = ((from ≤ i) × (i 
 abbrev μ-loop : tie.MeasureT-loop
 μ-loop table key states₀ from end state i₀ states i = end - i
 
+returns : tie.Need-returns Inv-loop μ-loop
+returns c =
+    let p = c .before .before .before .pre in
+    ((omega arith, p .3), p .1, p .2 .0)
+
 loop-holds : tie.Need-loop-holds Inv-loop μ-loop
 loop-holds c =
-    let p = c .before .before .pre in
+    let p = c .before .before .before .pre in
     ((omega arith, p .3), p .1, p .2 .0)
 
 add-loop : tie.Need-add-loop Inv-loop μ-loop
-add-loop c = omega (arith, c .loop .inv .0 .1, c .before .before .before .pre .4 .0)
+add-loop c = omega (arith, c .loop .inv .0 .1, c .before .before .before .before .pre .4 .0)
 
 stays-requires : tie.Need-stays-requires Inv-loop μ-loop
 stays-requires c κs =
-    let p = c .before .before .before .before .pre in
+    let p = c .before .before .before .before .before .pre in
     (p .0, p .2 .1, omega (arith, p .4 .1))
 
-returns : tie.Need-returns Inv-loop μ-loop
-returns c = c .before .before .before .loop .inv
+returns-2 : tie.Need-returns-2 Inv-loop μ-loop
+returns-2 c = c .before .before .before .loop .inv
 
 cast-fill-eight : tie.Need-cast-fill-eight Inv-loop μ-loop
 cast-fill-eight c =
-    let p = c .before .before .before .before .before .before .before .pre in
+    let p = c .before .before .before .before .before .before .before .before .pre in
     omega (arith, p .2 .1, p .0 .few)
 
 fill-eight-requires : tie.Need-fill-eight-requires Inv-loop μ-loop
 fill-eight-requires c κs =
-    let p = c .before .before .before .before .before .before .before .pre in
+    let p = c .before .before .before .before .before .before .before .before .pre in
     omega (arith, p .4 .0)
 
 add-i : tie.Need-add-i Inv-loop μ-loop
-add-i c = omega (arith, c .before .before .before .before .before .before .before .before .pre .4 .0)
+add-i c = omega (arith, c .before .before .before .before .before .before .before .before .before .pre .4 .0)
 
 loop-less : tie.Need-loop-less Inv-loop μ-loop
 loop-less c = search needs
 
 loop-again : tie.Need-loop-again Inv-loop μ-loop
 loop-again c =
-    let a = c .before .before .before .before .before .before .before .before .args in
-    let p = c .before .before .before .before .before .before .before .before .pre in
+    let a = c .before .before .before .before .before .before .before .before .before .args in
+    let p = c .before .before .before .before .before .before .before .before .before .pre in
     let l = c .before .before .before .before .before .loop in
-    let s = when-true (c .before .before .before .stays .ensures) (not-false (c .before .before .before .stays .result) (c .before .before .if1 .left)) in
+    let s = when-true (c .before .before .before .stays .ensures) (not-false (c .before .before .before .stays .result) (c .before .before .if2 .left)) in
     let f = followed-stay (a .table .now) (a .key .now) (l .states) 8 (l .i) (a .state) (l .inv .1) (omega (arith, p .4 .0)) (omega (arith, p .4 .1)) (l .inv .2) s in
     ((omega (arith, l .inv .0 .0), omega arith), rw (c .fill-eight .ensures) (f .0), f .1)
 
-returns-2 : tie.Need-returns-2 Inv-loop μ-loop
-returns-2 c = c .before .loop .inv
+returns-3 : tie.Need-returns-3 Inv-loop μ-loop
+returns-3 c = c .before .loop .inv
 
 pub follow-loops-spec : {M : Type 1} → statement M
 follow-loops-spec =
@@ -68,13 +73,14 @@ follow-loops-spec =
     (tie.spec
     Inv-loop
     μ-loop
+    returns
     loop-holds
     add-loop
     stays-requires
-    returns
+    returns-2
     cast-fill-eight
     fill-eight-requires
     add-i
     loop-less
     loop-again
-    returns-2)
+    returns-3)
