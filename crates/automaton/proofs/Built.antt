@@ -49,7 +49,6 @@ module _ {f : ℕ → ℕ} {n w : ℕ} (i : Filled f n w) where
       subst (λ (v : ℕ). Filled f (n + 1) v) (sym (ap (bitOr w) (shl-one n l) ∙ or-set w n filled-clear)) (filled-one (sym e))
   filled-more (suc (suc x)) e h l = absurd (omega arith)
 
-
 -- ---- the bits of w are f 0 to f (n - 1) and no others
 pub record Holds (f : ℕ → ℕ) (n w : ℕ) : Type 0 where
   pub has : (k : ℕ) → k < n → bit w (f k) ≡ 1

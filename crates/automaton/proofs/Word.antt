@@ -7,7 +7,7 @@ use native.Mathlib.Numerals.{add-one, one-add}
 use native.Mathlib.Omega.{arith}
 use lib.Dec.{lit<}
 use lib.Pow.{pow-pos, shr-shr, shl-shr, shl-exact, field, mod-mod-pow}
-use lib.Bits.{bitAnd, bitOr, and-step, or-step, and-mask, and-self, or-zero-r}
+use lib.Bits.{bitAnd, bitOr, and-step, or-step, and-mask, and-le-r, and-self, or-zero-r}
 use lib.Count.{trailingZeros, under}
 use Rattle.automaton.specs.Bits.{bit}
 use Rattle.automaton.proofs.Exact.{same-or}
@@ -157,6 +157,17 @@ unfolding bit
 bit-and a b zero = ap (λ (x : ℕ). x % 2) (and-step a b) ∙ omega arith
 bit-and a b (suc s) =
     ap (λ (x : ℕ). bit (x / 2) s) (and-step a b) ∙ ap (λ (x : ℕ). bit x s) (cut (bitAnd (a / 2) (b / 2)) (min (a % 2) (b % 2)) (omega arith)) ∙ bit-and (a / 2) (b / 2) s
+
+pub or-keeps : (a b s : ℕ) → bit a s ≡ 1 → bit (bitOr a b) s ≡ 1
+or-keeps a b s e = bit-or a b s ∙ omega (arith, bit-lt b s)
+
+-- `a & b != 0`: a bit of both
+pub and-some : (k a b : ℕ) → b < 2 ^ k → bitAnd a b ≢ 0 → (s : ℕ) × (bit a s ≡ 1) × (bit b s ≡ 1)
+and-some k a b h n =
+    let s = trailingZeros k (bitAnd a b) in
+    let e = bit-trailing k (bitAnd a b) (omega (arith, n)) (omega (arith, and-le-r a b)) in
+    let m = bit-and a b s in
+    (s, omega (arith, bit-lt a s), omega (arith, bit-lt b s))
 
 pub bit-not : (k w s : ℕ) → w < 2 ^ k → s < k → bit (2 ^ k - 1 - w) s ≡ 1 - bit w s
 unfolding bit

@@ -10,7 +10,7 @@ use Rattle.automaton.specs.Bits.{bit}
 use Rattle.automaton.specs.Table.{WellFormed, states, flag, next}
 use Rattle.automaton.specs.Words.{Bytes, run, CanMatch, Reach}
 use Rattle.automaton.proofs.Exact.{same-or}
-use Rattle.automaton.proofs.Word.{bit-lt, bit-off, bit-zero, bit-below, bit-has, bit-clear-other, bit-cleared, bit-or, bit-and, bit-not, bits-zero}
+use Rattle.automaton.proofs.Word.{bit-lt, bit-off, bit-zero, bit-below, bit-has, bit-clear-other, bit-cleared, bit-or, or-keeps, bit-and, bit-not, bits-zero}
 use Rattle.automaton.proofs.Strings.{can-match-here, can-match-step}
 
 pub record Work (t : List ℕ) (f w : ℕ) : Type 0 where
@@ -48,13 +48,14 @@ or-apart k a b ha hb d = or-disjoint a b (bits-zero k (bitAnd a b) (and-lt k a b
     none q = ⊎-elim (λ e. let z = d q e in omega arith) (λ n. omega (arith, bit-lt a q)) (same-or (bit a q) 1)
 
 module _ {t : List ℕ} where
-  pub work-start : {f : ℕ} → f < 2 ^ states t → ((s : ℕ) → s < states t → bit f s ≡ flag t s) → Work t f f
-  work-start {f} h g = record {
+  -- all that are found wait
+  pub work-start : {f : ℕ} → f < 2 ^ states t → ((q : ℕ) → q < states t → flag t q ≡ 1 → bit f q ≡ 1) → ((q : ℕ) → bit f q ≡ 1 → CanMatch t q) → Work t f f
+  work-start h g c = record {
     small = h;
     small-w = h;
     sub = λ q e. e;
-    sound = λ q e. can-match-here (sym (g q (bit-below (states t) f q h e)) ∙ e);
-    flags = λ q l e. g q l ∙ e;
+    sound = c;
+    flags = g;
     closed = λ q b hq hb e₁ e₀. absurd (omega arith);
   }
 
@@ -75,7 +76,7 @@ module _ {t : List ℕ} where
     new = added-new l f (fits wf hl) (fits wf (i .small))
 
     old-kept : (q : ℕ) → bit f q ≡ 1 → bit (bitOr f (added l f)) q ≡ 1
-    old-kept q e = bit-or f (added l f) q ∙ omega (arith, bit-lt (added l f) q)
+    old-kept q = or-keeps f (added l f) q
 
     new-kept : (q : ℕ) → bit (added l f) q ≡ 1 → bit (bitOr f (added l f)) q ≡ 1
     new-kept q e = bit-or f (added l f) q ∙ omega (arith, bit-lt f q)
@@ -139,18 +140,23 @@ module _ {t : List ℕ} where
 
   -- ---- the accepting states, where none is there or no other
   module _ {f : ℕ} (wf : WellFormed t) (h : f < 2 ^ states t) (g : (s : ℕ) → s < states t → bit f s ≡ flag t s) where
+    pub flags-match : (q : ℕ) → bit f q ≡ 1 → CanMatch t q
+    flags-match q e = can-match-here (sym (g q (bit-below (states t) f q h e)) ∙ e)
+
+    start : Work t f f
+    start = work-start h (λ q l e. g q l ∙ e) flags-match
+
     pub work-none : f ≡ 0 → Reach t f
-    work-none z = work-done wf (subst (Work t f) z (work-start h g))
+    work-none z = work-done wf (subst (Work t f) z start)
 
     pub work-all : ((q : ℕ) → q < states t → bit f q ≡ 1) → Reach t f
     work-all all =
-        let i = work-start h g in
         work-done wf (record {
           small = h;
           small-w = pow-pos (states t);
           sub = λ q e. let z = bit-zero q in absurd (omega arith);
-          sound = i .sound;
-          flags = i .flags;
+          sound = start .sound;
+          flags = start .flags;
           closed = λ q b hq hb e₁ e₀. all q hq;
         })
 

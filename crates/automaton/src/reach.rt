@@ -4,12 +4,12 @@ use crate::bits::lowest;
 use crate::bits::without_lowest;
 ghost use mathlib.Core.Path.{_≡_};
 ghost use Prim.Native.Nat.{ℕ, _+_, _-_, _*_, _^_, _≤_, _<_};
-ghost use lib.Bits.{bitOr};
+ghost use lib.Bits.{bitAnd, bitOr};
 ghost use lib.ListN.{length, getD};
 ghost use Rattle.serialize.specs.Digits.{numberAt};
 ghost use Rattle.automaton.specs.Bits.{bit, Exactly};
 ghost use Rattle.automaton.specs.Table.{WellFormed, states, flag, next};
-ghost use Rattle.automaton.specs.Words.{Reach};
+ghost use Rattle.automaton.specs.Words.{CanMatch, Reach};
 
 // The word of the accepting states.
 pub fn flags(table: &[u8]) -> u64
@@ -57,15 +57,19 @@ fn repeats(table: &[u8], at: usize, last: u64) -> bool
 }
 
 // The word of the next states that stand in the 256 bytes from `at` on. Those that repeat the eight looked at last are in it: 64 of them are passed at once.
-fn next_states(table: &[u8], at: usize) -> u64
+// The rest isn't looked at once the word has a bit of `wanted`.
+fn next_states(table: &[u8], at: usize, wanted: u64) -> u64
     requires { ⌜ (at + 256 ≤ length (now table)) × ((b : ℕ) → b < 256 → getD (now table) (at + b) 0 < 64) ⌝ }
-    ensures { λ r. ⌜ ((b : ℕ) → b < 256 → bit r (getD (now (table .entry)) (at + b) 0) ≡ 1) ⌝ }
+    ensures { λ r. ⌜ (bitAnd r wanted ≡ 0 → (b : ℕ) → b < 256 → bit r (getD (now (table .entry)) (at + b) 0) ≡ 1) ⌝ }
     ensures { λ r. ⌜ ((s : ℕ) → bit r s ≡ 1 → (b : ℕ) × (b < 256) × (getD (now (table .entry)) (at + b) 0 ≡ s)) ⌝ }
 {
     let mut last = serialize::deserialize_u64(table, at);
     let mut word = states_of(table, at);
     let mut b: usize = 0;
     while b < 256 {
+        if word & wanted != 0 {
+            return word;
+        }
         if b % 64 == 0 && repeats(table, at + b, last) {
             b += 64;
             continue;
@@ -90,7 +94,7 @@ pub fn successors(table: &[u8]) -> [u64; 64]
     let mut words: [u64; 64] = [0; 64];
     let mut p: usize = 0;
     while p < m {
-        words[p] = next_states(table, 1 + m + p * 256);
+        words[p] = next_states(table, 1 + m + p * 256, 0);
         p += 1;
     }
     words
@@ -120,23 +124,30 @@ fn mark(words: &mut [u64; 64], states: u64, p: usize)
     }
 }
 
-// For each state the word of the states of `unfound` from which a byte leads to it. No other state's row is looked at.
-fn predecessors(table: &[u8], unfound: u64) -> [u64; 64]
-    requires { ⌜ WellFormed (now table) × (unfound < 2 ^ states (now table)) ⌝ }
-    ensures { λ r. ⌜ ((s : ℕ) → getD r s 0 < 2 ^ states (now (table .entry))) ⌝ }
-    ensures { λ r. ⌜ ((p b : ℕ) → bit unfound p ≡ 1 → b < 256 → bit (getD r (next (now (table .entry)) p b) 0) p ≡ 1) ⌝ }
-    ensures { λ r. ⌜ ((p s : ℕ) → bit (getD r s 0) p ≡ 1 → (bit unfound p ≡ 1) × ((b : ℕ) × (b < 256) × (next (now (table .entry)) p b ≡ s))) ⌝ }
+// Looks at the rows of the states of `unfound`, the lowest first, and gives the states found by it. A state with a next state that is found is found itself,
+// and its row isn't looked at any further; of any other each next state keeps that it leads there.
+fn first_look(table: &[u8], accepting: u64, unfound: u64, before: &mut [u64; 64]) -> u64
+    requires { ⌜ WellFormed (now table) × (accepting < 2 ^ states (now table)) × (unfound < 2 ^ states (now table)) × ((s : ℕ) → bit accepting s ≡ 1 → CanMatch (now table) s) ⌝ }
+    requires { ⌜ (length (now before) ≡ 64) × ((s : ℕ) → getD (now before) s 0 ≡ 0) ⌝ }
+    ensures { λ r. ⌜ (r < 2 ^ states (now (table .entry))) × ((s : ℕ) → bit accepting s ≡ 1 → bit r s ≡ 1) × ((s : ℕ) → bit r s ≡ 1 → CanMatch (now (table .entry)) s) ⌝ }
+    ensures { λ _. ⌜ ((s : ℕ) → getD (now (before .exit)) s 0 < 2 ^ states (now (table .entry))) ⌝ }
+    ensures { λ r. ⌜ ((p b : ℕ) → bit unfound p ≡ 1 → bit r p ≡ 0 → b < 256 → bit (getD (now (before .exit)) (next (now (table .entry)) p b) 0) p ≡ 1) ⌝ }
+    ensures { λ _. ⌜ ((p s : ℕ) → bit (getD (now (before .exit)) s 0) p ≡ 1 → (b : ℕ) × (b < 256) × (next (now (table .entry)) p b ≡ s)) ⌝ }
 {
     let m = table[0] as usize;
-    let mut words: [u64; 64] = [0; 64];
+    let mut found = accepting;
     let mut left = unfound;
     while left != 0 {
         let p = lowest(left);
         left = without_lowest(left);
-        let states = next_states(table, 1 + m + p * 256);
-        mark(&mut words, states, p);
+        let states = next_states(table, 1 + m + p * 256, found);
+        if states & found != 0 {
+            found |= 1u64 << p;
+        } else {
+            mark(before, states, p);
+        }
     }
-    words
+    found
 }
 
 // The word of the states that can match. Where no state accepts, or all do, it is that of the accepting states.
@@ -145,12 +156,13 @@ pub fn reach(table: &[u8]) -> u64
     ensures { λ r. ⌜ Reach (now (table .entry)) r ⌝ }
     ensures { λ r. ⌜ r < 2 ^ states (now (table .entry)) ⌝ }
 {
-    let mut found = flags(table);
-    let unfound = others(found, table[0] as usize);
-    if found == 0 || unfound == 0 {
-        return found;
+    let accepting = flags(table);
+    let unfound = others(accepting, table[0] as usize);
+    if accepting == 0 || unfound == 0 {
+        return accepting;
     }
-    let before = predecessors(table, unfound);
+    let mut before: [u64; 64] = [0; 64];
+    let mut found = first_look(table, accepting, unfound, &mut before);
     let mut waiting = found;
     while waiting != 0 {
         let s = lowest(waiting);

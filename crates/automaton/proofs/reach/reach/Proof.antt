@@ -1,23 +1,23 @@
--- The loop keeps the worklist's law; the words' difference falls with each turn.
-use mathlib.Core.Path.{_≡_, ap, _∙_, subst}
+-- The loop keeps the worklist's law and what the first look found; the words' difference falls with each turn.
+use mathlib.Core.Path.{_≡_, refl, ap, _∙_, subst}
 use mathlib.Core.Logic.{⊎-elim}
 use Prim.Native.Nat.{ℕ, _+_, _-_, _^_}
 use native.Mathlib.Omega.{arith}
 use lib.ListN.{getD}
 use Rattle.automaton.specs.Bits.{bit}
-use Rattle.automaton.proofs.Word.{bit-lt, bit-zero}
-use Rattle.automaton.proofs.Predecessors.{lowest-left}
-use Rattle.automaton.proofs.Worklist.{Work, Turned, work-start, work-turn, work-done, work-none, work-all, not-found}
+use Rattle.automaton.proofs.Word.{bit-lt, bit-off, bit-zero, or-keeps}
+use Rattle.automaton.proofs.Predecessors.{lowest-left, zeros}
+use Rattle.automaton.proofs.Worklist.{Work, Turned, work-start, work-turn, work-done, flags-match, work-none, work-all, not-found}
 use borrow.Author.Needs.{needs}
 use borrow.Author.Tests.{eqb-true}
 use Rattle.automaton.proofs.reach.reach.Statement.{statement}
 use Rattle.automaton.proofs.reach.reach.Tie as tie
 
 abbrev Inv-loop : tie.InvT-loop
-Inv-loop table found₀ unfound before waiting₀ found waiting = Work table found waiting
+Inv-loop table accepting unfound before found₀ waiting₀ found waiting = Work table found waiting × ((q : ℕ) → bit found₀ q ≡ 1 → bit found q ≡ 1)
 
 abbrev μ-loop : tie.MeasureT-loop
-μ-loop table found₀ unfound before waiting₀ found waiting = 2 ^ 64 + waiting - found
+μ-loop table accepting unfound before found₀ waiting₀ found waiting = 2 ^ 64 + waiting - found
 
 flags-requires : tie.Need-flags-requires Inv-loop μ-loop
 flags-requires c κs = search needs
@@ -43,13 +43,17 @@ returns c =
       fl .ensures .0,
     )
 
-predecessors-requires : tie.Need-predecessors-requires Inv-loop μ-loop
-predecessors-requires c κs = search needs
+first-look-requires : tie.Need-first-look-requires Inv-loop μ-loop
+first-look-requires c κs =
+    let p = c .before .before .before .before .before .before .before .pre in
+    let fl = c .before .before .before .before .before .flags in
+    ((p, fl .ensures .0, search needs, flags-match p (fl .ensures .0) (fl .ensures .1)), (refl, zeros 64))
 
 loop-holds : tie.Need-loop-holds Inv-loop μ-loop
 loop-holds c =
-    let fl = c .before .before .before .before .before .flags in
-    work-start (fl .ensures .0) (fl .ensures .1)
+    let fl = c .before .before .before .before .before .before .flags in
+    let look = c .first-look .ensures .0 in
+    (work-start (look .0) (λ q h e. look .1 q (fl .ensures .1 q h ∙ e)) (look .2), λ q e. e)
 
 lowest-requires : tie.Need-lowest-requires Inv-loop μ-loop
 lowest-requires c κs = search needs
@@ -65,17 +69,22 @@ array-read-more c = search needs
 
 -- what one turn leaves, and that the measure falls
 turn : (c : tie.After-without-lowest Inv-loop μ-loop)
-    → Turned (c .before .before .before .before .before .before .before .before .before .before .before .args .table .now) (c .before .before .before .loop .found) (c .before .before .before .loop .waiting) (getD (c .before .before .before .before .predecessors .result) (c .before .lowest .result) 0) (c .without-lowest .result)
+    → Turned (c .before .before .before .before .before .before .before .before .before .before .before .before .args .table .now) (c .before .before .before .loop .found) (c .before .before .before .loop .waiting) (getD (c .before .before .before .before .first-look .last .1 .1 .1 .0) (c .before .lowest .result) 0) (c .without-lowest .result)
 turn c =
-    let a = c .before .before .before .before .before .before .before .before .before .before .before in
+    let a = c .before .before .before .before .before .before .before .before .before .before .before .before in
     let l = c .before .before .before .loop in
     let low = c .before .lowest in
-    let lead = c .before .before .before .before .predecessors in
-    let o = c .before .before .before .before .before .before .before .others in
-    let fl = c .before .before .before .before .before .before .before .before .before .flags in
-    work-turn (a .pre) (l .inv) (low .result) (low .ensures .2) (getD (lead .result) (low .result) 0) (lead .ensures .0 (low .result))
-    (λ q k hq z hk e. subst (λ (x : ℕ). bit (getD (lead .result) x 0) q ≡ 1) e (lead .ensures .1 .0 q k (omega (arith, o .ensures .1 q hq, fl .ensures .1 q hq, not-found (a .pre) (l .inv) q hq z)) hk))
-    (λ q e. lead .ensures .1 .1 q (low .result) e .1)
+    let look = c .before .before .before .before .first-look in
+    let o = c .before .before .before .before .before .before .before .before .others in
+    let fl = c .before .before .before .before .before .before .before .before .before .before .flags in
+    let words = look .last .1 .1 .1 .0 in
+    work-turn (a .pre) (l .inv .0) (low .result) (low .ensures .2) (getD words (low .result) 0) (look .ensures .1 .0 (low .result))
+    (λ q k hq z hk e. subst (λ (x : ℕ). bit (getD words x 0) q ≡ 1) e
+    (look .ensures .1 .1 .0 q k
+    (omega (arith, o .ensures .1 q hq, fl .ensures .1 q hq, not-found (a .pre) (l .inv .0) q hq z))
+    (bit-off (look .result) q (λ g. let g′ = l .inv .1 q g in absurd (omega arith)))
+    hk))
+    (λ q e. look .ensures .1 .1 .1 q (low .result) e)
     (c .without-lowest .result)
     (lowest-left (l .waiting) (low .ensures .1) (c .without-lowest .ensures))
 
@@ -83,12 +92,14 @@ loop-less : tie.Need-loop-less Inv-loop μ-loop
 loop-less c = turn c .1
 
 loop-again : tie.Need-loop-again Inv-loop μ-loop
-loop-again c = turn c .0
+loop-again c =
+    let l = c .before .before .before .loop in
+    (turn c .0, λ q e. or-keeps (l .found) _ q (l .inv .1 q e))
 
 returns-2 : tie.Need-returns-2 Inv-loop μ-loop
 returns-2 c =
-    let i = c .before .loop .inv in
-    let a = c .before .before .before .before .before .before .before .before .before in
+    let i = c .before .loop .inv .0 in
+    let a = c .before .before .before .before .before .before .before .before .before .before in
     (work-done (a .pre) (subst (Work (a .args .table .now) (c .before .loop .found)) (c .loop-test .left) i), i .small)
 
 pub reach-spec : {M : Type 1} → statement M
@@ -102,7 +113,7 @@ reach-spec =
     cast-others
     others-requires
     returns
-    predecessors-requires
+    first-look-requires
     loop-holds
     lowest-requires
     without-lowest-requires

@@ -3,6 +3,7 @@ use mathlib.Core.Path.{_≡_, refl}
 use Prim.Native.Nat.{ℕ, _-_, _≤_, _<_}
 use native.Mathlib.Omega.{arith}
 use borrow.Author.Needs.{needs}
+use lib.Bits.{and-zero-r}
 use lib.ListN.{length, getD, length-set}
 use Rattle.automaton.specs.Table.{next}
 use Rattle.automaton.proofs.Built.{Holds, stored}
@@ -55,7 +56,7 @@ loop-again : tie.Need-loop-again Inv-loop μ-loop
 loop-again c =
     let a = c .before .before .before .before .before .args .table .now in
     let l = c .before .before .loop in
-    let row : Holds (next a (l .p)) 256 (c .next-states .result) = record { has = c .next-states .ensures .0; only = c .next-states .ensures .1 } in
+    let row : Holds (next a (l .p)) 256 (c .next-states .result) = record { has = c .next-states .ensures .0 (and-zero-r (c .next-states .result)); only = c .next-states .ensures .1 } in
     (search needs, simp length-set (l .inv .1), stored (λ k w. Holds (next a k) 256 w) (l .words) (l .p) (c .next-states .result) (search needs) (l .inv .2) row)
 
 returns : tie.Need-returns Inv-loop μ-loop
