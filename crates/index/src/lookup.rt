@@ -79,16 +79,6 @@ fn get(opened: SSTableIndexV3, data: &[u8], group_len: usize, id: usize) -> Bloc
     )
 }
 
-// The first separator that isn't below `key`, as the directory gives it.
-fn find(opened: SSTableIndexV3, data: &[u8], group_len: usize, key: &[u8]) -> Found
-    requires { ⌜ GroupLenOk «group_len» × OpenedFits «group_len» opened (length (now «data»)) ⌝ }
-    ensures { λ r. ⌜ FoundIn (opened .n) r ⌝ }
-    ensures { λ r. ⌜ (Opens «group_len» (now («data» .entry)) opened → FoundAs (separatorIn (now («data» .entry))) (opened .n) (now (key .entry)) r) ⌝ }
-{
-    let keys = part(data, opened.directory, opened.directory_len);
-    directory::read::locate_with_key(keys, opened.n, key)
-}
-
 // The row that a search without a block hits.
 fn refusal(found: Found) -> u32
     ensures { λ r. ⌜ (found ≡ Found.Above → r ≡ 19) × (found ≡ Found.Outside → r ≡ 20) ⌝ }
@@ -146,7 +136,8 @@ pub fn locate_with_key(
     ensures { λ r. ⌜ ByKeyAllowed (opened .n) (idNo r) (idOf r) ⌝ }
     ensures { λ r. ⌜ (Opens «group_len» (now («data» .entry)) opened → ByKeyExact (separatorIn (now («data» .entry))) (opened .n) (now (key .entry)) (idNo r) (idOf r)) ⌝ }
 {
-    let found = find(opened, data, group_len, key);
+    let keys = part(data, opened.directory, opened.directory_len);
+    let found = directory::read::locate_with_key(keys, opened.n, key);
     let Found::At(id) = found else {
         return LocatedId::Refused(refusal(found));
     };
@@ -164,7 +155,8 @@ pub fn get_block_with_key(
     ensures { λ r. ⌜ LocatedAllowed 19 (opened .n) (locatedNo r) (locatedId r) (locatedAddr r) ⌝ }
     ensures { λ r. ⌜ (Opens «group_len» (now («data» .entry)) opened → AddrByKeyExact (separatorIn (now («data» .entry))) (blockIn «group_len» (now («data» .entry))) (opened .n) (now (key .entry)) (locatedNo r) (locatedId r) (locatedAddr r)) ⌝ }
 {
-    let found = find(opened, data, group_len, key);
+    let keys = part(data, opened.directory, opened.directory_len);
+    let found = directory::read::locate_with_key(keys, opened.n, key);
     let Found::At(id) = found else {
         return Located::Refused(refusal(found));
     };
