@@ -163,7 +163,7 @@ pub fn locate_with_key(directory: &[u8], n: usize, key: &[u8]) -> Found
     let mut left_shared: usize = 0;
     let mut right_shared: usize = 0;
     while left < right {
-        let mid = left + (right - left) / 2;
+        let mid = left + (right - left - 1) / 2;
         if key_outside(directory, n, mid) {
             return Found::Outside;
         }

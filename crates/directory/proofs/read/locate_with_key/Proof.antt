@@ -15,7 +15,7 @@ use Rattle.directory.proofs.read.locate_with_key.Statement.{statement}
 use Rattle.directory.proofs.read.locate_with_key.Tie as tie
 
 abbrev middle : ℕ → ℕ → ℕ
-middle left right = left + (right - left) / 2
+middle left right = left + (right - left - 1) / 2
 
 abbrev SharedFrom : List ℕ → ℕ → List ℕ → ℕ → ℕ → Type 0
 SharedFrom d n key left m = (i : ℕ) → left ≤ i → i < n → keyOf d n i ≼ key → m ≤ commonPrefixLen (keyOf d n i) key
@@ -63,6 +63,9 @@ loop-holds c = (
 
 sub-mid : tie.Need-sub-mid Inv-loop μ-loop
 sub-mid c = search needs
+
+sub-mid-2 : tie.Need-sub-mid-2 Inv-loop μ-loop
+sub-mid-2 c = search needs
 
 add-mid : tie.Need-add-mid Inv-loop μ-loop
 add-mid c = search needs
@@ -218,6 +221,7 @@ locate-with-key-spec =
     μ-loop
     loop-holds
     sub-mid
+    sub-mid-2
     add-mid
     key-outside-requires
     returns
