@@ -11,14 +11,6 @@ pub fn is_set(word: u64, s: usize) -> bool
     (word >> s) & 1 == 1
 }
 
-// The word with a clear bit set.
-pub fn with(word: u64, s: usize) -> u64
-    requires { ⌜ (s < 64) × (bit word s ≡ 0) ⌝ }
-    ensures { λ r. ⌜ r ≡ word + 2 ^ s ⌝ }
-{
-    word | (1u64 << s)
-}
-
 // The place of the lowest set bit.
 pub fn lowest(word: u64) -> usize
     requires { ⌜ 0 < word ⌝ }

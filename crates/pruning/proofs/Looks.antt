@@ -6,17 +6,16 @@ use mathlib.Core.Logic.{_⊎_, inl, ⊎-elim, _↔_}
 use Prim.Native.Nat.{ℕ, _+_, _≤_, _<_, zero-le}
 use native.Mathlib.Omega.{arith}
 use lib.Dec.{ltb}
-use lib.ListN.{length, take, drop, getD}
+use lib.ListN.{length, drop, getD}
 use borrow.Author.Tests.{ltb-true, lt-ltb}
-use Rattle.keys.specs.Order.{_≺_, _≼_}
 use Rattle.automaton.specs.Bits.{Exactly}
 use Rattle.automaton.specs.Table.{flag, next}
-use Rattle.automaton.specs.Words.{Bytes, run, CanMatch}
+use Rattle.automaton.specs.Words.{CanMatch}
 use Rattle.automaton.specs.Live.{LiveByte, FirstLive, EndLive}
 use Rattle.automaton.proofs.Exact.{when-true, exactly-map}
-use Rattle.automaton.proofs.Strings.{word-any, word-cases, can-match-hits}
+use Rattle.automaton.proofs.Strings.{word-any}
 use Rattle.pruning.specs.Interval.{MatchAbove, MatchBetween}
-use Rattle.pruning.proofs.Intervals.{Parted, past, not-≺-nil, shared-run, after-cons, upto-split, upto-cons, drop-byte}
+use Rattle.pruning.proofs.Intervals.{Parted, past, after-cons, upto-split, upto-cons, drop-byte}
 
 -- the test is true where P holds
 is-so : {P : Type 0} (r : Bool) → Exactly r P → P → r ≡ true
@@ -109,13 +108,3 @@ module _ (key : List ℕ) (i : ℕ) (h : i < length key) (g : getD key i 0 < 256
   pub upto-next-at : (t : List ℕ) (s first : ℕ) → FirstLive t s first → first ≡ getD key i 0
       → MatchBetween t s [] (drop i key) ↔ ((flag t (next t s (getD key i 0)) ≡ 1) ⊎ MatchBetween t (next t s (getD key i 0)) [] (drop (i + 1) key))
   upto-next-at t s first f q = rw (drop-byte key i h) (upto-next t s first f (getD key i 0) (drop (i + 1) key) g q)
-
--- ---- keys that share n bytes, where no byte leads on behind them
-between-dead : (t : List ℕ) (s : ℕ) (a b : List ℕ) → EndLive t s 0 → MatchBetween t s a b → ⊥
-between-dead t s a b e =
-    word-cases (λ w. (a ≺ w) × (w ≼ b)) ⊥
-    (λ f p. not-≺-nil a (p .0))
-    (λ c w h i p. let g = end-above t s 0 e 0 (byte-at c 0 256 zero-le h (can-match-hits i)) in omega arith)
-
-pub shared-dead : (t a b : List ℕ) (n : ℕ) → take n a ≡ take n b → Bytes a → EndLive t (run t 0 (take n a)) 0 → MatchBetween t 0 a b → ⊥
-shared-dead t a b n same bytes e m = between-dead t (run t 0 (take n a)) (drop n a) (drop n b) e (shared-run t 0 a b n same bytes refl .0 m)
