@@ -93,28 +93,52 @@ fn first_other_run(left: &[u8], right: &[u8], from: usize, last: usize) -> usize
     64 + last
 }
 
-// The same as `first_other_word`, faster where much is in common: behind a first word that is, by runs and then by words. Keys that differ
-// early and short ones aren't looked at by runs.
-fn first_other(left: &[u8], right: &[u8], from: usize, last: usize) -> usize
+// Passes runs that are in common, two at a time. `last` is the last run's place.
+fn pass_runs(left: &[u8], right: &[u8], from: usize, last: usize) -> usize
+    requires { ⌜ (last + 64 ≡ min (length (now left)) (length (now right))) × (64 ≤ last) ⌝ }
+    ensures { λ r. ⌜ (from ≤ commonPrefixLen (now (left .entry)) (now (right .entry)) → r ≤ commonPrefixLen (now (left .entry)) (now (right .entry))) ⌝ }
+{
+    let end = last - 64;
+    let mut at = from;
+    while at < end {
+        if differs(left, right, at) | differs(left, right, at + 64) {
+            return at;
+        }
+        at += 128;
+    }
+    at
+}
+
+// The same as `first_other_word`, faster where much is in common: by runs first, then by words.
+fn first_other_far(left: &[u8], right: &[u8], from: usize, last: usize) -> usize
     requires { ⌜ last + 8 ≡ min (length (now left)) (length (now right)) ⌝ }
     ensures { λ r. ⌜ r ≤ last ⌝ }
     ensures { λ r. ⌜ (from ≤ commonPrefixLen (now (left .entry)) (now (right .entry)) → r ≤ commonPrefixLen (now (left .entry)) (now (right .entry))) ⌝ }
     ensures { λ r. ⌜ (from ≤ commonPrefixLen (now (left .entry)) (now (right .entry)) → commonPrefixLen (now (left .entry)) (now (right .entry)) ≤ r + 8) ⌝ }
 {
-    if from >= last {
-        return last;
-    }
-    if serialize::deserialize_u64(left, from) != serialize::deserialize_u64(right, from) {
-        return from;
-    }
     if last < 64 {
-        return first_other_word(left, right, from + 8, last);
+        return first_other_word(left, right, from, last);
     }
-    let behind = first_other_run(left, right, from + 8, last - 56);
+    let run = last - 56;
+    let far = if run < 64 {
+        from
+    } else {
+        pass_runs(left, right, from, run)
+    };
+    let behind = first_other_run(left, right, far, run);
     first_other_word(left, right, behind, last)
 }
 
 // How many bytes the keys have in common at the front, if the first `from` are. The last word may overlap the one before it.
+fn common_behind(left: &[u8], right: &[u8], from: usize, last: usize) -> usize
+    requires { ⌜ last + 8 ≡ min (length (now left)) (length (now right)) ⌝ }
+    ensures { λ r. ⌜ (from ≤ commonPrefixLen (now (left .entry)) (now (right .entry)) → r ≡ commonPrefixLen (now (left .entry)) (now (right .entry))) ⌝ }
+{
+    let at = first_other_far(left, right, from, last);
+    at + common_of_word(left, right, at)
+}
+
+// The same for keys of any length, with a look at the first word before the others: short keys and those that differ early need no more.
 pub fn common_prefix_len_from(left: &[u8], right: &[u8], from: usize) -> usize
     ensures { λ r. ⌜ (from ≤ commonPrefixLen (now (left .entry)) (now (right .entry)) → r ≡ commonPrefixLen (now (left .entry)) (now (right .entry))) ⌝ }
 {
@@ -122,15 +146,35 @@ pub fn common_prefix_len_from(left: &[u8], right: &[u8], from: usize) -> usize
     if short < 8 {
         return common_bytes(left, right, short);
     }
-    let at = first_other(left, right, from, short - 8);
-    at + common_of_word(left, right, at)
+    let last = short - 8;
+    let at = if from < last { from } else { last };
+    let here = common_of_word(left, right, at);
+    if here < 8 {
+        return at + here;
+    }
+    if at == last {
+        return short;
+    }
+    common_behind(left, right, at + 8, last)
 }
 
-// How many bytes the keys have in common at the front.
+// How many bytes the keys have in common at the front. It has a first look of its own, so that the compiler keeps the rest, which two
+// functions call, out of both.
 pub fn common_prefix_len(left: &[u8], right: &[u8]) -> usize
     ensures { λ r. ⌜ r ≡ commonPrefixLen (now (left .entry)) (now (right .entry)) ⌝ }
 {
-    common_prefix_len_from(left, right, 0)
+    let short = shorter(left, right);
+    if short < 8 {
+        return common_bytes(left, right, short);
+    }
+    let here = common_of_word(left, right, 0);
+    if here < 8 {
+        return here;
+    }
+    if short == 8 {
+        return short;
+    }
+    common_behind(left, right, 8, short - 8)
 }
 
 // The common prefix, as the front of the first key.
