@@ -168,7 +168,7 @@ pub fn locate_with_key(directory: &[u8], n: usize, key: &[u8]) -> Found
             return Found::Outside;
         }
         let at = self::key(directory, n, mid);
-        let shared = keys::common_prefix_len_from(at, key, lesser(left_shared, right_shared));
+        let shared = keys::common_prefix_len_by_runs(at, key, lesser(left_shared, right_shared));
         if shared >= key.len() {
             if shared >= at.len() {
                 return Found::At(mid);

@@ -60,6 +60,25 @@ fn first_other_word(left: &[u8], right: &[u8], from: usize, last: usize) -> usiz
     last
 }
 
+// How many bytes the keys have in common at the front, if the first `from` are. The last word may overlap the one before it.
+pub fn common_prefix_len_from(left: &[u8], right: &[u8], from: usize) -> usize
+    ensures { λ r. ⌜ (from ≤ commonPrefixLen (now (left .entry)) (now (right .entry)) → r ≡ commonPrefixLen (now (left .entry)) (now (right .entry))) ⌝ }
+{
+    let short = shorter(left, right);
+    if short < 8 {
+        return common_bytes(left, right, short);
+    }
+    let at = first_other_word(left, right, from, short - 8);
+    at + common_of_word(left, right, at)
+}
+
+// How many bytes the keys have in common at the front.
+pub fn common_prefix_len(left: &[u8], right: &[u8]) -> usize
+    ensures { λ r. ⌜ r ≡ commonPrefixLen (now (left .entry)) (now (right .entry)) ⌝ }
+{
+    common_prefix_len_from(left, right, 0)
+}
+
 // Whether one of the 64 bytes from `at` on differs. It looks at all of them, so that the loop takes many at once.
 fn differs(left: &[u8], right: &[u8], at: usize) -> bool
     requires { ⌜ (at + 64 ≤ length (now left)) × (at + 64 ≤ length (now right)) ⌝ }
@@ -129,7 +148,7 @@ fn first_other_far(left: &[u8], right: &[u8], from: usize, last: usize) -> usize
     first_other_word(left, right, behind, last)
 }
 
-// How many bytes the keys have in common at the front, if the first `from` are. The last word may overlap the one before it.
+// How many bytes the keys have in common at the front, if the first `from` are.
 fn common_behind(left: &[u8], right: &[u8], from: usize, last: usize) -> usize
     requires { ⌜ last + 8 ≡ min (length (now left)) (length (now right)) ⌝ }
     ensures { λ r. ⌜ (from ≤ commonPrefixLen (now (left .entry)) (now (right .entry)) → r ≡ commonPrefixLen (now (left .entry)) (now (right .entry))) ⌝ }
@@ -138,8 +157,8 @@ fn common_behind(left: &[u8], right: &[u8], from: usize, last: usize) -> usize
     at + common_of_word(left, right, at)
 }
 
-// The same for keys of any length, with a look at the first word before the others: short keys and those that differ early need no more.
-pub fn common_prefix_len_from(left: &[u8], right: &[u8], from: usize) -> usize
+// The same as `common_prefix_len_from`, faster for long keys and larger: for searches. Keys that differ early are told by a first word.
+pub fn common_prefix_len_by_runs(left: &[u8], right: &[u8], from: usize) -> usize
     ensures { λ r. ⌜ (from ≤ commonPrefixLen (now (left .entry)) (now (right .entry)) → r ≡ commonPrefixLen (now (left .entry)) (now (right .entry))) ⌝ }
 {
     let short = shorter(left, right);
@@ -156,25 +175,6 @@ pub fn common_prefix_len_from(left: &[u8], right: &[u8], from: usize) -> usize
         return short;
     }
     common_behind(left, right, at + 8, last)
-}
-
-// How many bytes the keys have in common at the front. It has a first look of its own, so that the compiler keeps the rest, which two
-// functions call, out of both.
-pub fn common_prefix_len(left: &[u8], right: &[u8]) -> usize
-    ensures { λ r. ⌜ r ≡ commonPrefixLen (now (left .entry)) (now (right .entry)) ⌝ }
-{
-    let short = shorter(left, right);
-    if short < 8 {
-        return common_bytes(left, right, short);
-    }
-    let here = common_of_word(left, right, 0);
-    if here < 8 {
-        return here;
-    }
-    if short == 8 {
-        return short;
-    }
-    common_behind(left, right, 8, short - 8)
 }
 
 // The common prefix, as the front of the first key.
