@@ -112,52 +112,7 @@ fn first_other_run(left: &[u8], right: &[u8], from: usize, last: usize) -> usize
     64 + last
 }
 
-// Passes runs that are in common, two at a time. `last` is the last run's place.
-fn pass_runs(left: &[u8], right: &[u8], from: usize, last: usize) -> usize
-    requires { ⌜ (last + 64 ≡ min (length (now left)) (length (now right))) × (64 ≤ last) ⌝ }
-    ensures { λ r. ⌜ (from ≤ commonPrefixLen (now (left .entry)) (now (right .entry)) → r ≤ commonPrefixLen (now (left .entry)) (now (right .entry))) ⌝ }
-{
-    let end = last - 64;
-    let mut at = from;
-    while at < end {
-        if differs(left, right, at) | differs(left, right, at + 64) {
-            return at;
-        }
-        at += 128;
-    }
-    at
-}
-
-// The same as `first_other_word`, faster where much is in common: by runs first, then by words.
-fn first_other_far(left: &[u8], right: &[u8], from: usize, last: usize) -> usize
-    requires { ⌜ last + 8 ≡ min (length (now left)) (length (now right)) ⌝ }
-    ensures { λ r. ⌜ r ≤ last ⌝ }
-    ensures { λ r. ⌜ (from ≤ commonPrefixLen (now (left .entry)) (now (right .entry)) → r ≤ commonPrefixLen (now (left .entry)) (now (right .entry))) ⌝ }
-    ensures { λ r. ⌜ (from ≤ commonPrefixLen (now (left .entry)) (now (right .entry)) → commonPrefixLen (now (left .entry)) (now (right .entry)) ≤ r + 8) ⌝ }
-{
-    if last < 64 {
-        return first_other_word(left, right, from, last);
-    }
-    let run = last - 56;
-    let far = if run < 64 {
-        from
-    } else {
-        pass_runs(left, right, from, run)
-    };
-    let behind = first_other_run(left, right, far, run);
-    first_other_word(left, right, behind, last)
-}
-
-// How many bytes the keys have in common at the front, if the first `from` are.
-fn common_behind(left: &[u8], right: &[u8], from: usize, last: usize) -> usize
-    requires { ⌜ last + 8 ≡ min (length (now left)) (length (now right)) ⌝ }
-    ensures { λ r. ⌜ (from ≤ commonPrefixLen (now (left .entry)) (now (right .entry)) → r ≡ commonPrefixLen (now (left .entry)) (now (right .entry))) ⌝ }
-{
-    let at = first_other_far(left, right, from, last);
-    at + common_of_word(left, right, at)
-}
-
-// The same as `common_prefix_len_from`, faster for long keys and larger: for searches. Keys that differ early are told by a first word.
+// The same as `common_prefix_len_from`, by runs first: faster for long keys, and larger.
 pub fn common_prefix_len_by_runs(left: &[u8], right: &[u8], from: usize) -> usize
     ensures { λ r. ⌜ (from ≤ commonPrefixLen (now (left .entry)) (now (right .entry)) → r ≡ commonPrefixLen (now (left .entry)) (now (right .entry))) ⌝ }
 {
@@ -165,16 +120,13 @@ pub fn common_prefix_len_by_runs(left: &[u8], right: &[u8], from: usize) -> usiz
     if short < 8 {
         return common_bytes(left, right, short);
     }
-    let last = short - 8;
-    let at = if from < last { from } else { last };
-    let here = common_of_word(left, right, at);
-    if here < 8 {
-        return at + here;
-    }
-    if at == last {
-        return short;
-    }
-    common_behind(left, right, at + 8, last)
+    let behind = if short < 64 {
+        from
+    } else {
+        first_other_run(left, right, from, short - 64)
+    };
+    let at = first_other_word(left, right, behind, short - 8);
+    at + common_of_word(left, right, at)
 }
 
 // The common prefix, as the front of the first key.

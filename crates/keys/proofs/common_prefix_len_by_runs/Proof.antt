@@ -1,6 +1,6 @@
--- `keys::common_prefix_len_by_runs` meets its contract: the first word tells the common prefix, or all of it is in common.
+-- `keys::common_prefix_len_by_runs` meets its contract: the common prefix ends within the word found.
 use borrow.Author.Needs.{needs}
-use Prim.Native.Nat.{_+_, _≤_, _<_}
+use Prim.Native.Nat.{_≤_}
 use mathlib.Core.Logic.{⊎-elim}
 use native.Mathlib.Omega.{arith}
 use Rattle.keys.specs.Order.{commonPrefixLen}
@@ -20,46 +20,32 @@ returns c =
     let a = c .before .before .before .before .before .args in
     λ h. omega (arith, commonPrefixLen-left (a .left .now) (a .right .now), commonPrefixLen-right (a .left .now) (a .right .now))
 
--- where the first word stands
-first-is : (c : tie.Joined2) → (c .if2 .at ≤ c .before .before .before .before .before .args .from) × (c .if2 .at + 8 ≤ c .before .before .shorter .result)
-first-is c = ⊎-elim (λ w. (omega arith, omega arith)) (λ w. (omega arith, omega arith)) (c .if2 .came)
+first-other-run-requires : tie.Need-first-other-run-requires
+first-other-run-requires c κs = search needs
+
+-- the runs passed are in common
+runs-passed : (c : tie.Joined2) → let a = c .before .before .before .before .before .args in
+    a .from ≤ commonPrefixLen (a .left .now) (a .right .now) → c .if2 .behind ≤ commonPrefixLen (a .left .now) (a .right .now)
+runs-passed c h = ⊎-elim (λ w. omega arith) (λ w. let p = w .1 .ensures h in omega arith) (c .if2 .came)
+
+first-other-word-requires : tie.Need-first-other-word-requires
+first-other-word-requires c κs = search needs
 
 common-of-word-requires : tie.Need-common-of-word-requires
-common-of-word-requires c κs = let f = first-is c .1 in (omega arith, omega arith)
+common-of-word-requires c κs = search needs
 
 add-result : tie.Need-add-result
-add-result c = let f = first-is (c .before .before .before) .1 in omega arith
+add-result c = search needs
 
 returns-2 : tie.Need-returns-2
 returns-2 c =
-    let w = c .before .before in
-    let a = w .before .before .before .before .before .before .args in
+    let m = c .before .before in
+    let a = m .before .before .before .before .before .args in
+    let w = c .before .first-other-word in
     λ h.
-    let f = first-is (w .before) .0 in
-    omega (arith, commonPrefixLen-behind (w .before .if2 .at) (a .left .now) (a .right .now) (omega arith))
-
--- a first word that is in common
-passed : (c : tie.Else3) → let a = c .before .before .before .before .before .before .before .args in
-    a .from ≤ commonPrefixLen (a .left .now) (a .right .now) → c .before .before .if2 .at + 8 ≤ commonPrefixLen (a .left .now) (a .right .now)
-passed c h =
-    let j = c .before .before in
-    let a = j .before .before .before .before .before .args in
-    let f = first-is j .0 in
-    omega (arith, commonPrefixLen-behind (j .if2 .at) (a .left .now) (a .right .now) (omega arith))
-
-returns-3 : tie.Need-returns-3
-returns-3 c =
-    let a = c .before .before .before .before .before .before .before .before .args in
-    λ h. omega (arith, passed (c .before) h, commonPrefixLen-left (a .left .now) (a .right .now), commonPrefixLen-right (a .left .now) (a .right .now))
-
-add-common-behind : tie.Need-add-common-behind
-add-common-behind c = let f = first-is (c .before .before .before .before) .1 in omega arith
-
-common-behind-requires : tie.Need-common-behind-requires
-common-behind-requires c κs = search needs
-
-returns-4 : tie.Need-returns-4
-returns-4 c = λ h. c .common-behind .ensures (passed (c .before .before .before) h)
+    let p = w .ensures .1 .0 (runs-passed m h) in
+    let q = w .ensures .1 .1 (runs-passed m h) in
+    omega (arith, commonPrefixLen-behind (w .result) (a .left .now) (a .right .now) p)
 
 pub common-prefix-len-by-runs-spec : {M : Type 1} → statement M
 common-prefix-len-by-runs-spec =
@@ -68,10 +54,8 @@ common-prefix-len-by-runs-spec =
     shorter-requires
     common-bytes-requires
     returns
+    first-other-run-requires
+    first-other-word-requires
     common-of-word-requires
     add-result
-    returns-2
-    returns-3
-    add-common-behind
-    common-behind-requires
-    returns-4)
+    returns-2)
