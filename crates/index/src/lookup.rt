@@ -4,7 +4,6 @@ ghost use Prim.Native.Nat.{_+_, _≤_, _<_};
 ghost use lib.Dec.{ltb};
 ghost use lib.ListN.{length, take, drop};
 ghost use Rattle.store.specs.Facts.{GroupLenOk};
-ghost use Rattle.directory.specs.Read.{FoundIn, FoundAs};
 ghost use Rattle.index.specs.Parts.{blockIn, separatorIn};
 ghost use Rattle.index.specs.Opening.{Opens};
 ghost use Rattle.index.specs.Answers.{byIdNo, byIdAddr, locatedNo, locatedId, locatedAddr, idNo, idOf};
