@@ -21,14 +21,14 @@ pub record Hits (t : List ℕ) (s : ℕ) (w : List ℕ) : Type 0 where
   pub ends : flag t (run t s w) ≡ 1
 
 -- some byte string of which P holds leads from s to acceptance
-pub record Word (t : List ℕ) (s : ℕ) (P : List ℕ → Type 0) : Type 0 where
-  pub word : List ℕ
-  pub hits : Hits t s word
-  pub good : P word
+pub record Accepts (t : List ℕ) (s : ℕ) (P : List ℕ → Type 0) : Type 0 where
+  pub string : List ℕ
+  pub hits : Hits t s string
+  pub good : P string
 
 -- `can_match`: an accepting state can be reached from s in zero or more steps
 abbrev pub CanMatch : List ℕ → ℕ → Type 0
-CanMatch t s = Word t s (λ w. Unit {0})
+CanMatch t s = Accepts t s (λ w. Unit {0})
 
 -- bit s of the word is set exactly when s can match, for every state
 pub record Reach (t : List ℕ) (word : ℕ) : Type 0 where

@@ -5,7 +5,7 @@ use mathlib.Core.List.{List}
 use lib.ListN.{length}
 use lib.Seq.{sets}
 use borrow.Author.Tests.{lt-ltb, le-ltb}
-use Rattle.group.specs.Rows.{orElse}
+use Rattle.group.specs.Rows.{orRow}
 use Rattle.builder.specs.Finish.{listNo, areaDirectory, areaIndex, finishNo, Finish, finishStep, finishDef, finishLenDef, lenStep}
 use Rattle.builder.specs.declared.SSTableIndexBuilder.{SSTableIndexBuilder}
 use Rattle.builder.specs.declared.FinishLen.the-variants.{Total, Refused}
@@ -13,7 +13,7 @@ use Rattle.builder.proofs.IndexWritten.{index-none, directory-none}
 
 module _ (s : SSTableIndexBuilder) (B K : List ℕ) where
   module _ (out : List ℕ) where
-    refused-step : (k j : ℕ) → (k ≡ 0 → ⊥) → _≡_ {A = Finish} (record { no = k; builder = s; out = out; total = 0; directory = 0 }) (finishStep (orElse k j) s B K out)
+    refused-step : (k j : ℕ) → (k ≡ 0 → ⊥) → _≡_ {A = Finish} (record { no = k; builder = s; out = out; total = 0; directory = 0 }) (finishStep (orRow k j) s B K out)
     unfolding finishStep
     refused-step zero j h = absurd (h refl)
     refused-step (suc k) j h = refl

@@ -17,7 +17,7 @@ use Rattle.slope.specs.Slope.{bestSlope}
 use Rattle.slope.proofs.Widths.{bestSlope-lt}
 use Rattle.group.specs.Blocks.{blockAt, blocksAt}
 use Rattle.group.proofs.Blocks.{length-blocksAt, blocksAt-at}
-use Rattle.group.specs.Rows.{orElse}
+use Rattle.group.specs.Rows.{orRow}
 use Rattle.directory.specs.Directory.{directoryBytes}
 use Rattle.directory.specs.Keys.{keyAt}
 use Rattle.directory.proofs.Keys.{length-keysAt, keysAt-at}
@@ -28,7 +28,7 @@ use Rattle.builder.specs.Rows.{blockNo}
 use Rattle.builder.specs.Calls.{After}
 use Rattle.builder.specs.Plain.{Entry, Call, roomsOf, plainEnd, runEnd, blocksOf, separatorsOf, SameLists}
 use Rattle.builder.specs.Index.{indexBytes}
-use Rattle.builder.specs.Finish.{offsetsBad, rulesBad, listNo, areaKeys, areaDirectory, areaIndex, indexOf, finishNo, Finish, finishStep, finishDef}
+use Rattle.builder.specs.Finish.{offsetsBad, rulesBad, listNo, areaKeys, areaDirectory, areaIndex, indexOfEntries, finishNo, Finish, finishStep, finishDef}
 use Rattle.builder.proofs.Entries.{Rep, rep-view}
 use Rattle.builder.proofs.Machine.{never-one}
 use Rattle.builder.proofs.Rules.{EntriesOk, run-rules}
@@ -94,7 +94,7 @@ module _ (es : List Entry) (a : After) (r : Rep es a) where
       keysAt-at (a .blocks) stride 3 (a .keys) 0 (a .builder .n) i l
       ∙ ap (keyAt (a .blocks) stride 3 (a .keys)) (zero-add i) ∙ held-key (a .blocks) (a .keys) es (r .holds) i (omega (arith, r .count)))
 
-  rep-index : areaIndex (a .builder) (a .blocks) (a .keys) ≡ cond (ltb (length es) 2) [] (indexOf es)
+  rep-index : areaIndex (a .builder) (a .blocks) (a .keys) ≡ cond (ltb (length es) 2) [] (indexOfEntries es)
   unfolding areaIndex
   rep-index = rw (rep-blocks, rep-keys, r .count)
 
@@ -119,7 +119,7 @@ finished a out = finishDef (a .builder) (a .blocks) (a .keys) out
 -- row 9: there is an index, and the output is shorter
 pub record TooShort (es : List Entry) (out : List ℕ) : Type 0 where
   pub some : 2 ≤ length es
-  pub short : length out < length (indexOf es)
+  pub short : length out < length (indexOfEntries es)
 
 -- what a finish on a, which stands for es, answers and leaves
 pub record Finishes (es : List Entry) (a : After) (out : List ℕ) : Type 0 where
@@ -127,15 +127,15 @@ pub record Finishes (es : List Entry) (a : After) (out : List ℕ) : Type 0 wher
   pub nine : TooShort es out → finishNumber a out ≡ 9
   pub only-nine : finishNumber a out ≡ 9 → TooShort es out
   pub otherwise : (TooShort es out → ⊥) → finishNumber a out ≡ 0
-  pub fits : 2 ≤ length es → finishNumber a out ≡ 0 → length (indexOf es) ≤ length out
+  pub fits : 2 ≤ length es → finishNumber a out ≡ 0 → length (indexOfEntries es) ≤ length out
   pub written : 2 ≤ length es → finishNumber a out ≡ 0 → finished a out ≡ record {
     no = 0;
     builder = a .builder;
-    out = sets out 0 (indexOf es);
-    total = length (indexOf es);
+    out = sets out 0 (indexOfEntries es);
+    total = length (indexOfEntries es);
     directory = length (directoryBytes (separatorsOf es));
   }
-  pub front : 2 ≤ length es → finishNumber a out ≡ 0 → take (finished a out .total) (finished a out .out) ≡ indexOf es
+  pub front : 2 ≤ length es → finishNumber a out ≡ 0 → take (finished a out .total) (finished a out .out) ≡ indexOfEntries es
   pub none : length es < 2 → finished a out ≡ record { no = 0; builder = a .builder; out = out; total = 0; directory = 0 }
 
 module _ (es : List Entry) (a : After) (r : Rep es a) (ok : EntriesOk es) (out : List ℕ) where
@@ -143,7 +143,7 @@ module _ (es : List Entry) (a : After) (r : Rep es a) (ok : EntriesOk es) (out :
   unfolding finishNo
   number-none h = rw (rep-list es a r ok, rep-index es a r, lt-ltb (length es) 2 h, le-ltb (length out) 0 (omega arith))
 
-  number-some : 2 ≤ length es → finishNumber a out ≡ cond (ltb (length out) (length (indexOf es))) 9 0
+  number-some : 2 ≤ length es → finishNumber a out ≡ cond (ltb (length out) (length (indexOfEntries es))) 9 0
   unfolding finishNo
   number-some h = rw (rep-list es a r ok, rep-index es a r, le-ltb (length es) 2 h)
 
@@ -153,22 +153,22 @@ module _ (es : List Entry) (a : After) (r : Rep es a) (ok : EntriesOk es) (out :
       (λ t. inr ((λ s. omega (arith, s .some, ltb-true (length es) 2 t)), number-none (ltb-true (length es) 2 t)))
       (λ t.
       let some : 2 ≤ length es = ltb-false (length es) 2 t in
-      by-test (ltb (length out) (length (indexOf es)))
-      (λ u. inl (record { some = some; short = ltb-true (length out) (length (indexOf es)) u }, number-some some ∙ simp u))
-      (λ u. inr ((λ s. omega (arith, s .short, ltb-false (length out) (length (indexOf es)) u)), number-some some ∙ simp u)))
+      by-test (ltb (length out) (length (indexOfEntries es)))
+      (λ u. inl (record { some = some; short = ltb-true (length out) (length (indexOfEntries es)) u }, number-some some ∙ simp u))
+      (λ u. inr ((λ s. omega (arith, s .short, ltb-false (length out) (length (indexOfEntries es)) u)), number-some some ∙ simp u)))
 
-  fitting : 2 ≤ length es → finishNumber a out ≡ 0 → length (indexOf es) ≤ length out
+  fitting : 2 ≤ length es → finishNumber a out ≡ 0 → length (indexOfEntries es) ≤ length out
   fitting h e =
       ⊎-elim
       (λ p. absurd (let z : ⊥ = omega (arith, p .1) in z))
-      (λ p. let n : length out < length (indexOf es) → ⊥ = λ l. p .0 (record { some = h; short = l }) in omega arith)
+      (λ p. let n : length out < length (indexOfEntries es) → ⊥ = λ l. p .0 (record { some = h; short = l }) in omega arith)
       number
 
   written-some : 2 ≤ length es → finishNumber a out ≡ 0 → finished a out ≡ record {
     no = 0;
     builder = a .builder;
-    out = sets out 0 (indexOf es);
-    total = length (indexOf es);
+    out = sets out 0 (indexOfEntries es);
+    total = length (indexOfEntries es);
     directory = length (directoryBytes (separatorsOf es));
   }
   unfolding finishDef finishStep
@@ -186,7 +186,7 @@ module _ (es : List Entry) (a : After) (r : Rep es a) (ok : EntriesOk es) (out :
     otherwise = λ n. ⊎-elim (λ p. absurd (n (p .0))) (λ p. p .1) number;
     fits = fitting;
     written = written-some;
-    front = λ h e. rw (written-some h e) (sets-part out (indexOf es) 0 (omega (arith, fitting h e)));
+    front = λ h e. rw (written-some h e) (sets-part out (indexOfEntries es) 0 (omega (arith, fitting h e)));
     none = written-none;
   }
 
@@ -198,12 +198,12 @@ finish-fresh cs a e out =
     let both = run-rules cs a e in
     rep-finish (plainEnd (roomsOf a) cs []) (runEnd cs a) (both .0 .rep) (both .1) out
 
-pub same-index : (es es′ : List Entry) → SameLists es es′ → indexOf es ≡ indexOf es′
+pub same-index : (es es′ : List Entry) → SameLists es es′ → indexOfEntries es ≡ indexOfEntries es′
 same-index es es′ s = ap₂ (indexBytes bestSlope 128) (s .blocks) (s .separators)
 
 -- of two such lists, the indexes have equal bytes only when blocks and separators are equal
 pub fresh-inj : (cs cs′ : List Call) (a a′ : After) → a .builder .n ≡ 0 → a′ .builder .n ≡ 0
-    → indexOf (plainEnd (roomsOf a) cs []) ≡ indexOf (plainEnd (roomsOf a′) cs′ [])
+    → indexOfEntries (plainEnd (roomsOf a) cs []) ≡ indexOfEntries (plainEnd (roomsOf a′) cs′ [])
     → SameLists (plainEnd (roomsOf a) cs []) (plainEnd (roomsOf a′) cs′ [])
 fresh-inj cs cs′ a a′ e e′ same =
     let both = run-rules cs a e in

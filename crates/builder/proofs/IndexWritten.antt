@@ -9,7 +9,7 @@ use lib.Seq.{sets}
 use borrow.Author.Tests.{lt-ltb, le-ltb}
 use borrow.Rule.Slice.PartMut.{putMid}
 use Rattle.serialize.specs.Digits.{leBytes}
-use Rattle.serialize.proofs.Digits.{length-digits}
+use Rattle.serialize.proofs.Digits.{length-digitsOf}
 use Rattle.serialize.proofs.Stores.{sets-append, sets-in-part}
 use Rattle.slope.specs.Slope.{bestSlope}
 use Rattle.slope.proofs.Widths.{bestSlope-lt}
@@ -57,7 +57,7 @@ module _ (b : SSTableIndexBuilder) (B K : List ℕ) where
           arith,
           length-append directoryOf (storeOf ++ leBytes 8 (length directoryOf)),
           length-append storeOf (leBytes 8 (length directoryOf)),
-          length-digits 8 8 (length directoryOf),
+          length-digitsOf 8 8 (length directoryOf),
         )
 
   -- 65,536 blocks with keys of 1,024 bytes

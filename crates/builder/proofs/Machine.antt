@@ -12,7 +12,7 @@ use Rattle.keys.specs.Shorten.{shorten}
 use Rattle.keys.proofs.Order.{by-test}
 use Rattle.keys.proofs.Shorten.{shorten-length}
 use Rattle.group.specs.declared.BlockAddr.{BlockAddr}
-use Rattle.group.specs.Rows.{numbersBad, joinBad, ordinalBad, orElse}
+use Rattle.group.specs.Rows.{numbersBad, joinBad, ordinalBad, orRow}
 use Rattle.builder.specs.Area.{View, stride, viewOf}
 use Rattle.builder.specs.Rows.{areaBad, keyLong, keyBad, roomBad, blockNo, addNo, shortenNo}
 use Rattle.builder.specs.Calls.{After, addStep, addDef, shortBlocks, shortKeys, shortenStep, shortenDef}
@@ -153,9 +153,9 @@ cond-not-one : (t : Bool) (k r : ℕ) → (r ≡ 1 → ⊥) → cond t (suc (suc
 cond-not-one true k r h e = omega arith
 cond-not-one false k r h e = h e
 
-orElse-not-one : (j k : ℕ) → (j ≡ 1 → ⊥) → (k ≡ 1 → ⊥) → orElse j k ≡ 1 → ⊥
-orElse-not-one zero k f g e = g e
-orElse-not-one (suc j) k f g e = f e
+orRow-not-one : (j k : ℕ) → (j ≡ 1 → ⊥) → (k ≡ 1 → ⊥) → orRow j k ≡ 1 → ⊥
+orRow-not-one zero k f g e = g e
+orRow-not-one (suc j) k f g e = f e
 
 zero-not-one : _≡_ {A = ℕ} 0 1 → ⊥
 zero-not-one e = omega arith
@@ -172,7 +172,7 @@ block-not-one v key b =
 call-not-one : (v : View) (c : Call) → areaBad v ≡ false → callNo v c ≡ 1 → ⊥
 unfolding callNo addNo shortenNo
 call-not-one v (add key b) h =
-    rw h (orElse-not-one (blockNo v key b) (cond (roomBad v key) 7 0) (block-not-one v key b) (cond-not-one (roomBad v key) 5 0 zero-not-one))
+    rw h (orRow-not-one (blockNo v key b) (cond (roomBad v key) 7 0) (block-not-one v key b) (cond-not-one (roomBad v key) 5 0 zero-not-one))
 call-not-one v (shortenLast next) h =
     rw h (cond-not-one (keyLong next) 0 _ (cond-not-one (keyBad v next) 4 0 zero-not-one))
 

@@ -12,9 +12,9 @@ use Rattle.serialize.proofs.Tests.{neither}
 use Rattle.keys.specs.Order.{less, _≺_}
 use Rattle.group.specs.declared.BlockAddr.{BlockAddr}
 use Rattle.group.specs.Legal.{NumbersOk, Follows}
-use Rattle.group.specs.Rows.{numbersBad, joinBad, ordinalBad, orElse}
+use Rattle.group.specs.Rows.{numbersBad, joinBad, ordinalBad, orRow}
 use Rattle.group.proofs.Legal as legal
-use Rattle.group.proofs.RowOrder.{orElse-first, orElse-zero}
+use Rattle.group.proofs.RowOrder.{orRow-first, orRow-zero}
 use Rattle.builder.specs.declared.SSTableIndexBuilder.{SSTableIndexBuilder}
 use Rattle.builder.specs.Area.{View, stride, viewOf}
 use Rattle.builder.specs.Rows.{areaBad, AreaOk, keyLong, keyBad, roomBad, blockNo, addNo, shortenNo}
@@ -59,7 +59,7 @@ module _ (v : View) (key : List ℕ) (b : BlockAddr) where
   module _ (area : areaBad v ≡ false) (k : ℕ) (e : k ≡ blockNo v key b) where
     pub add-block : (k ≡ 0 → ⊥) → k ≡ addNo v key b
     unfolding addNo
-    add-block h = rw (area, ← e) (sym (orElse-first k _ h))
+    add-block h = rw (area, ← e) (sym (orRow-first k _ h))
 
     pub add-room : k ≡ 0 → roomBad v key ≡ true → 7 ≡ addNo v key b
     unfolding addNo
@@ -160,7 +160,7 @@ pub add-ok : (v : View) (key : List ℕ) (b : BlockAddr) → addNo v key b ≡ 0
 unfolding addNo
 add-ok v key b e =
     let p = cond-zero (areaBad v) 0 _ e in
-    let q = orElse-zero (blockNo v key b) _ (p .1) in
+    let q = orRow-zero (blockNo v key b) _ (p .1) in
     record { area = area-ok v (p .0); block = block-ok v key b (q .0); room = room-ok v key (cond-zero (roomBad v key) 6 0 (q .1) .0) }
 
 -- ---- what a call leaves, refused and accepted

@@ -7,7 +7,7 @@ use lib.ListN.{length}
 use lib.Seq.{sets}
 use Rattle.slope.specs.Slope.{bestSlope}
 use Rattle.group.specs.Blocks.{blocksAt}
-use Rattle.group.specs.Rows.{orElse}
+use Rattle.group.specs.Rows.{orRow}
 use Rattle.directory.specs.Directory.{directoryBytes}
 use Rattle.directory.specs.Keys.{keysAt}
 use Rattle.builder.specs.Area.{stride, areaKeyOffset, areaBlock, areaKey, areaView, viewOf}
@@ -45,12 +45,12 @@ unfoldable pub areaIndex : SSTableIndexBuilder → List ℕ → List ℕ → Lis
 areaIndex b B K = cond (ltb (b .n) 2) [] (indexBytes bestSlope 128 (blocksAt B stride 0 (b .n)) (areaKeys b B K))
 
 -- the index of the plain machine's entries
-abbrev pub indexOf : List Entry → List ℕ
-indexOf es = indexBytes bestSlope 128 (blocksOf es) (separatorsOf es)
+abbrev pub indexOfEntries : List Entry → List ℕ
+indexOfEntries es = indexBytes bestSlope 128 (blocksOf es) (separatorsOf es)
 
 -- row 9: output shorter than the result
 unfoldable pub finishNo : SSTableIndexBuilder → List ℕ → List ℕ → List ℕ → ℕ
-finishNo b B K out = orElse (listNo b B K) (cond (ltb (length out) (length (areaIndex b B K))) 9 0)
+finishNo b B K out = orRow (listNo b B K) (cond (ltb (length out) (length (areaIndex b B K))) 9 0)
 
 -- the number, the builder, the whole output, the total and the directory's length
 pub record Finish : Type 0 where

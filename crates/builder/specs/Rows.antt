@@ -6,7 +6,7 @@ use lib.Dec.{eqb, ltb}
 use lib.ListN.{length}
 use Rattle.keys.specs.Order.{less}
 use Rattle.group.specs.declared.BlockAddr.{BlockAddr}
-use Rattle.group.specs.Rows.{numbersBad, joinBad, ordinalBad, orElse}
+use Rattle.group.specs.Rows.{numbersBad, joinBad, ordinalBad, orRow}
 use Rattle.builder.specs.Area.{View, stride}
 
 -- row 1: n > 65,536, 5 × n beyond the area, or last key ends beyond the key area
@@ -42,7 +42,7 @@ blockNo v key b =
 
 -- the number that an add answers
 unfoldable pub addNo : View → List ℕ → BlockAddr → ℕ
-addNo v key b = cond (areaBad v) 1 (orElse (blockNo v key b) (cond (roomBad v key) 7 0))
+addNo v key b = cond (areaBad v) 1 (orRow (blockNo v key b) (cond (roomBad v key) 7 0))
 
 -- the number that a shorten answers
 unfoldable pub shortenNo : View → List ℕ → ℕ

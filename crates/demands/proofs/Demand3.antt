@@ -12,7 +12,7 @@ use Rattle.keys.proofs.Order.{by-test}
 use Rattle.builder.specs.declared.SSTableIndexBuilder.{SSTableIndexBuilder}
 use Rattle.builder.specs.Calls.{After}
 use Rattle.builder.specs.Plain.{Call, roomsOf, plainNumbers, runNumbers, runEnd}
-use Rattle.builder.specs.Finish.{Finish, indexOf, finishNo, finishStep, finishDef}
+use Rattle.builder.specs.Finish.{Finish, indexOfEntries, finishNo, finishStep, finishDef}
 use Rattle.builder.proofs.Machine.{fresh-not-one}
 use Rattle.builder.proofs.Rules.{run-rules}
 use Rattle.builder.proofs.Finishing.{Finishes as Leaves, finishNumber, TooShort, finish-fresh, same-index, fresh-inj}
@@ -52,21 +52,21 @@ module _ (cs : List Call) (fresh : After) (out : List ℕ) (none : fresh .builde
   only-nine k some other e = other (sym e ∙ nine (too-short (λ z. some (sym e ∙ z))))
 
   refused : (finished cs fresh out .no ≡ 0 → ⊥)
-      → (finished cs fresh out .no ≡ 9) × (2 ≤ length (entries cs fresh)) × (length out < length (indexOf (entries cs fresh)))
+      → (finished cs fresh out .no ≡ 9) × (2 ≤ length (entries cs fresh)) × (length out < length (indexOfEntries (entries cs fresh)))
   refused some = let s = too-short some in (nine s, s .some, s .short)
 
   accepted : Finishes cs fresh out → finishNumber (runEnd cs fresh) out ≡ 0
   accepted h = sym number ∙ h .accepted
 
-  pub total-is : Finishes cs fresh out → finished cs fresh out .total ≡ length (indexOf (entries cs fresh))
+  pub total-is : Finishes cs fresh out → finished cs fresh out .total ≡ length (indexOfEntries (entries cs fresh))
   total-is h = ap (λ (f : Finish). f .total) (leaves .written (h .two) (accepted h))
 
-  laid-out : Finishes cs fresh out → index cs fresh out ≡ indexOf (entries cs fresh)
+  laid-out : Finishes cs fresh out → index cs fresh out ≡ indexOfEntries (entries cs fresh)
   laid-out h = leaves .front (h .two) (accepted h)
 
   behind : Finishes cs fresh out → drop (finished cs fresh out .total) (finished cs fresh out .out) ≡ drop (finished cs fresh out .total) out
   behind h =
-      let f = indexOf (entries cs fresh) in
+      let f = indexOfEntries (entries cs fresh) in
       let fits : 0 + length f ≤ length out = omega (arith, leaves .fits (h .two) (accepted h)) in
       rw (leaves .written (h .two) (accepted h), sets-eq f out 0 fits, zero-add (length f)) (drop-append-seam f (drop (length f) out))
 

@@ -7,7 +7,7 @@ use native.Mathlib.Omega.{arith}
 use lib.Dec.{ltb}
 use lib.ListN.{getD}
 use Rattle.group.specs.declared.BlockAddr.{BlockAddr}
-use Rattle.group.specs.Rows.{numbersBad, joinBad, ordinalBad, orElse}
+use Rattle.group.specs.Rows.{numbersBad, joinBad, ordinalBad, orRow}
 use Rattle.builder.specs.Area.{View}
 use Rattle.builder.specs.Rows.{areaBad, keyLong, keyBad, roomBad, blockNo, addNo, shortenNo}
 use Rattle.builder.specs.Plain.{Entry, Call, add, shortenLast, Rooms, plainView, callNo, plainNext, plainNumbers}
@@ -16,7 +16,7 @@ cond-le : (b : Bool) (x y : ℕ) → x ≤ 7 → y ≤ 7 → cond b x y ≤ 7
 cond-le true x y h g = h
 cond-le false x y h g = g
 
-else-le : (j k : ℕ) → j ≤ 7 → k ≤ 7 → orElse j k ≤ 7
+else-le : (j k : ℕ) → j ≤ 7 → k ≤ 7 → orRow j k ≤ 7
 else-le zero k h g = g
 else-le (suc j) k h g = h
 

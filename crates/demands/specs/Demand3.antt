@@ -8,7 +8,7 @@ use Rattle.group.specs.declared.BlockAddr.{BlockAddr}
 use Rattle.group.specs.Blocks.{blockOf}
 use Rattle.builder.specs.Calls.{After}
 use Rattle.builder.specs.Plain.{Call, Entry, SameLists, roomsOf, plainNumbers, plainEnd, blocksOf, separatorsOf, runNumbers, runEnd}
-use Rattle.builder.specs.Finish.{Finish, finishDef, indexOf}
+use Rattle.builder.specs.Finish.{Finish, finishDef, indexOfEntries}
 use Rattle.automaton.specs.Table.{tableNo}
 use Rattle.index.specs.declared.SSTableIndexV3.{SSTableIndexV3}
 use Rattle.index.specs.declared.Place.the-variants.{Missing}
@@ -91,11 +91,11 @@ pub record Demand3 (cs : List Call) (fresh : After) (out : List ℕ) : Type 0 wh
   pub finish-never-8 : finished cs fresh out .no ≡ 8 → ⊥
   -- finish is refused exactly when row 9 holds: there is an index, and the output is shorter
   pub refused : (finished cs fresh out .no ≡ 0 → ⊥)
-      → (finished cs fresh out .no ≡ 9) × (2 ≤ length (entries cs fresh)) × (length out < length (indexOf (entries cs fresh)))
-  pub row-9 : 2 ≤ length (entries cs fresh) → length out < length (indexOf (entries cs fresh)) → finished cs fresh out .no ≡ 9
+      → (finished cs fresh out .no ≡ 9) × (2 ≤ length (entries cs fresh)) × (length out < length (indexOfEntries (entries cs fresh)))
+  pub row-9 : 2 ≤ length (entries cs fresh) → length out < length (indexOfEntries (entries cs fresh)) → finished cs fresh out .no ≡ 9
   -- the index is laid out from those blocks and separators, and the bytes behind it stay
-  pub total : Finishes cs fresh out → finished cs fresh out .total ≡ length (indexOf (entries cs fresh))
-  pub laid-out : Finishes cs fresh out → index cs fresh out ≡ indexOf (entries cs fresh)
+  pub total : Finishes cs fresh out → finished cs fresh out .total ≡ length (indexOfEntries (entries cs fresh))
+  pub laid-out : Finishes cs fresh out → index cs fresh out ≡ indexOfEntries (entries cs fresh)
   pub behind : Finishes cs fresh out → drop (finished cs fresh out .total) (finished cs fresh out .out) ≡ drop (finished cs fresh out .total) out
   -- opened alone it opens, and there the blocks are found
   pub opens : Finishes cs fresh out → Opens 128 (index cs fresh out) (openedOf (index cs fresh out))

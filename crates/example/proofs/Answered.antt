@@ -14,7 +14,7 @@ use Rattle.keys.specs.Order.{_≺_, _≼_}
 use Rattle.keys.proofs.Order.{prefix-≼, prefix-≺}
 use Rattle.automaton.specs.Bits.{Exactly}
 use Rattle.automaton.specs.Table.{tableNo, flag}
-use Rattle.automaton.specs.Words.{Word}
+use Rattle.automaton.specs.Words.{Accepts}
 use Rattle.automaton.proofs.Strings.{hits-nil, word-cases, hits-cons}
 use Rattle.pruning.specs.Interval.{startOf, Marked}
 use Rattle.example.specs.Example.{longer, ExampleNo, Shown, answerNo, answerLen, ExampleLeaves}
@@ -42,7 +42,7 @@ pub record Answered (t : List ℕ) (start : Option (List ℕ)) (end out new : Li
 
 module _ {t : List ℕ} {start : Option (List ℕ)} {end out new : List ℕ} where
   shown-marked : {len : ℕ} → Shown t start end out new len → Marked t start end
-  shown-marked x = record { word = x .word; hits = x .hits; good = (x .above, x .not-above) }
+  shown-marked x = record { string = x .string; hits = x .hits; good = (x .above, x .not-above) }
 
   module _ {room : ℕ} (ok : tableNo t ≡ 0) (fits : longer start end + 64 ≤ room) where
     pub answered-shown : (len : ℕ) → Shown t start end out new len → Answered t start end out new room (Written len)
@@ -59,16 +59,16 @@ module _ {t : List ℕ} {start : Option (List ℕ)} {end out new : List ℕ} whe
 -- ---- no start: the empty string, or one not below a 0
 module _ (t end : List ℕ) where
   pub empty-shown : {out : List ℕ} → flag t 0 ≡ 1 → Shown t none end out out 0
-  empty-shown e = record { word = []; hits = hits-nil e; above = tt; not-above = prefix-≼ [] end; whole = refl; short = zero-le; bytes = refl }
+  empty-shown e = record { string = []; hits = hits-nil e; above = tt; not-above = prefix-≼ [] end; whole = refl; short = zero-le; bytes = refl }
 
-  pub absent-none : (flag t 0 ≡ 1 → ⊥) → (Word t 0 (λ w. ((0 ∷ []) ≼ w) × (w ≼ end)) → ⊥) → Marked t none end → ⊥
+  pub absent-none : (flag t 0 ≡ 1 → ⊥) → (Accepts t 0 (λ w. ((0 ∷ []) ≼ w) × (w ≼ end)) → ⊥) → Marked t none end → ⊥
   absent-none dead nothing =
       word-cases (λ w. Unit {0} × (w ≼ end)) ⊥ (λ e p. dead e)
-      (λ b w h i p. nothing (record { word = b ∷ w; hits = hits-cons 0 b h i; good = (next-string [] (b ∷ w) (prefix-≺ [] b w), p .1) }))
+      (λ b w h i p. nothing (record { string = b ∷ w; hits = hits-cons 0 b h i; good = (next-string [] (b ∷ w) (prefix-≺ [] b w), p .1) }))
 
   pub absent-shown : {out new : List ℕ} {len : ℕ} → len ≤ length end + 64 → Found t (λ w. (0 ∷ []) ≼ w) (λ w. w ≼ end) out new len → Shown t none end out new len
-  absent-shown h m = record { word = m .word; hits = m .hits; above = tt; not-above = m .good .1; whole = m .good .2; short = h; bytes = m .good .3 }
+  absent-shown h m = record { string = m .string; hits = m .hits; above = tt; not-above = m .good .1; whole = m .good .2; short = h; bytes = m .good .3 }
 
 -- ---- a start
 pub between-shown : {t start end out new : List ℕ} {len : ℕ} → len ≤ longer (some start) end + 64 → Found t (λ w. start ≺ w) (λ w. w ≼ end) out new len → Shown t (some start) end out new len
-between-shown h m = record { word = m .word; hits = m .hits; above = m .good .0; not-above = m .good .1; whole = m .good .2; short = h; bytes = m .good .3 }
+between-shown h m = record { string = m .string; hits = m .hits; above = m .good .0; not-above = m .good .1; whole = m .good .2; short = h; bytes = m .good .3 }

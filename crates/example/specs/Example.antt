@@ -27,13 +27,13 @@ pub data ExampleNo (t : List ℕ) (start : Option (List ℕ)) (end : List ℕ) (
 
 -- the first `len` bytes written are an accepted string of the interval, not too long; the bytes behind stay
 pub record Shown (t : List ℕ) (start : Option (List ℕ)) (end out written : List ℕ) (len : ℕ) : Type 0 where
-  pub word : List ℕ
-  pub hits : Hits t 0 word
-  pub above : AboveStart start word
-  pub not-above : word ≼ end
-  pub whole : len ≡ length word
+  pub string : List ℕ
+  pub hits : Hits t 0 string
+  pub above : AboveStart start string
+  pub not-above : string ≼ end
+  pub whole : len ≡ length string
   pub short : len ≤ longer start end + 64
-  pub bytes : written ≡ sets out 0 word
+  pub bytes : written ≡ sets out 0 string
 
 -- document 01's number and length for each answer; a refusal has all else zero
 abbrev pub answerNo : ExampleAnswer → ℕ

@@ -5,7 +5,7 @@ ghost use Prim.Native.Nat.{_+_, _≤_, _<_};
 ghost use lib.ListN.{length, getD};
 ghost use lib.Seq.{sets};
 ghost use Rattle.automaton.specs.Table.{WellFormed, states, next};
-ghost use Rattle.automaton.specs.Words.{Word};
+ghost use Rattle.automaton.specs.Words.{Accepts};
 ghost use Rattle.example.specs.Distance.{Distances};
 
 // The first byte that leads to a state one nearer.
@@ -34,7 +34,7 @@ pub fn write_tail(
 ) -> usize
     requires { ⌜ WellFormed (now table) × Distances (now table) (now distances) × (state < states (now table)) × (getD (now distances) state 0 < 64) × (at + getD (now distances) state 0 ≤ length (now out)) ⌝ }
     ensures { λ r. ⌜ r ≡ at + getD (now (distances .entry)) state 0 ⌝ }
-    ensures { λ _. ⌜ Word (now (table .entry)) state (λ w. (length w ≡ getD (now (distances .entry)) state 0) × (now (out .exit) ≡ sets (now (out .entry)) at w)) ⌝ }
+    ensures { λ _. ⌜ Accepts (now (table .entry)) state (λ w. (length w ≡ getD (now (distances .entry)) state 0) × (now (out .exit) ≡ sets (now (out .entry)) at w)) ⌝ }
 {
     let mut s = state;
     let mut i = at;

@@ -9,7 +9,7 @@ ghost use lib.ListN.{length, take, getD};
 ghost use lib.Seq.{sets};
 ghost use Rattle.keys.specs.Order.{_≺_, _≼_};
 ghost use Rattle.automaton.specs.Table.{WellFormed, states, next};
-ghost use Rattle.automaton.specs.Words.{run, Word};
+ghost use Rattle.automaton.specs.Words.{run, Accepts};
 ghost use Rattle.automaton.specs.Live.{LiveByte};
 ghost use Rattle.pruning.specs.Interval.{MatchBetween};
 ghost use Rattle.example.specs.Distance.{Distances};
@@ -44,8 +44,8 @@ fn write_leaving(
 ) -> usize
     requires { ⌜ WellFormed (now table) × Distances (now table) (now distances) × (state < states (now table)) × (state ≡ run (now table) 0 (take len (now key))) ⌝ }
     requires { ⌜ (len ≤ length (now key)) × (length (now key) + 64 ≤ length (now out)) × (hi ≤ 256) ⌝ }
-    ensures { λ r. ⌜ (r ≡ 0 → (now (out .exit) ≡ now (out .entry)) × (Word (now (table .entry)) 0 (λ w. ((take len (now (key .entry)) ++ (lo ∷ [])) ≼ w) × (w ≺ (take len (now (key .entry)) ++ (hi ∷ [])))) → ⊥)) ⌝ }
-    ensures { λ r. ⌜ (0 < r → (r ≤ length (now (key .entry)) + 64) × Word (now (table .entry)) 0 (λ w. ((take len (now (key .entry)) ++ (lo ∷ [])) ≼ w) × (w ≺ (take len (now (key .entry)) ++ (hi ∷ []))) × (r ≡ length w) × (now (out .exit) ≡ sets (now (out .entry)) 0 w))) ⌝ }
+    ensures { λ r. ⌜ (r ≡ 0 → (now (out .exit) ≡ now (out .entry)) × (Accepts (now (table .entry)) 0 (λ w. ((take len (now (key .entry)) ++ (lo ∷ [])) ≼ w) × (w ≺ (take len (now (key .entry)) ++ (hi ∷ [])))) → ⊥)) ⌝ }
+    ensures { λ r. ⌜ (0 < r → (r ≤ length (now (key .entry)) + 64) × Accepts (now (table .entry)) 0 (λ w. ((take len (now (key .entry)) ++ (lo ∷ [])) ≼ w) × (w ≺ (take len (now (key .entry)) ++ (hi ∷ []))) × (r ≡ length w) × (now (out .exit) ≡ sets (now (out .entry)) 0 w))) ⌝ }
 {
     let byte = first_byte(table, distances, state, lo, hi);
     if byte >= hi {
@@ -73,8 +73,8 @@ fn write_range_start(
 ) -> usize
     requires { ⌜ WellFormed (now table) × Distances (now table) (now distances) × (state < states (now table)) × (state ≡ run (now table) 0 (take n (now key))) ⌝ }
     requires { ⌜ (n ≤ length (now key)) × (length (now key) + 64 ≤ length (now out)) ⌝ }
-    ensures { λ r. ⌜ (r ≡ 0 → (now (out .exit) ≡ now (out .entry)) × (Word (now (table .entry)) 0 (λ w. (now (key .entry) ≺ w) × (w ≺ (take n (now (key .entry)) ++ (256 ∷ [])))) → ⊥)) ⌝ }
-    ensures { λ r. ⌜ (0 < r → (r ≤ length (now (key .entry)) + 64) × Word (now (table .entry)) 0 (λ w. (now (key .entry) ≺ w) × (w ≺ (take n (now (key .entry)) ++ (256 ∷ []))) × (r ≡ length w) × (now (out .exit) ≡ sets (now (out .entry)) 0 w))) ⌝ }
+    ensures { λ r. ⌜ (r ≡ 0 → (now (out .exit) ≡ now (out .entry)) × (Accepts (now (table .entry)) 0 (λ w. (now (key .entry) ≺ w) × (w ≺ (take n (now (key .entry)) ++ (256 ∷ [])))) → ⊥)) ⌝ }
+    ensures { λ r. ⌜ (0 < r → (r ≤ length (now (key .entry)) + 64) × Accepts (now (table .entry)) 0 (λ w. (now (key .entry) ≺ w) × (w ≺ (take n (now (key .entry)) ++ (256 ∷ []))) × (r ≡ length w) × (now (out .exit) ≡ sets (now (out .entry)) 0 w))) ⌝ }
 {
     let mut at = state;
     let mut i = n;
@@ -102,8 +102,8 @@ pub fn write_range_end(
 ) -> usize
     requires { ⌜ WellFormed (now table) × Distances (now table) (now distances) × (state < states (now table)) × (state ≡ run (now table) 0 (take n (now key))) ⌝ }
     requires { ⌜ (n ≤ length (now key)) × (lo ≤ getD (now key) n 0) × (length (now key) + 64 ≤ length (now out)) ⌝ }
-    ensures { λ r. ⌜ (r ≡ 0 → (now (out .exit) ≡ now (out .entry)) × (Word (now (table .entry)) 0 (λ w. ((take n (now (key .entry)) ++ (lo ∷ [])) ≼ w) × (w ≼ now (key .entry))) → ⊥)) ⌝ }
-    ensures { λ r. ⌜ (0 < r → (r ≤ length (now (key .entry)) + 64) × Word (now (table .entry)) 0 (λ w. ((take n (now (key .entry)) ++ (lo ∷ [])) ≼ w) × (w ≼ now (key .entry)) × (r ≡ length w) × (now (out .exit) ≡ sets (now (out .entry)) 0 w))) ⌝ }
+    ensures { λ r. ⌜ (r ≡ 0 → (now (out .exit) ≡ now (out .entry)) × (Accepts (now (table .entry)) 0 (λ w. ((take n (now (key .entry)) ++ (lo ∷ [])) ≼ w) × (w ≼ now (key .entry))) → ⊥)) ⌝ }
+    ensures { λ r. ⌜ (0 < r → (r ≤ length (now (key .entry)) + 64) × Accepts (now (table .entry)) 0 (λ w. ((take n (now (key .entry)) ++ (lo ∷ [])) ≼ w) × (w ≼ now (key .entry)) × (r ≡ length w) × (now (out .exit) ≡ sets (now (out .entry)) 0 w))) ⌝ }
 {
     let mut at = state;
     let mut low = lo;
@@ -134,7 +134,7 @@ pub fn write_between(
 ) -> usize
     requires { ⌜ WellFormed (now table) × Distances (now table) (now distances) × (max (length (now «start_key»)) (length (now «end_key»)) + 64 ≤ length (now out)) ⌝ }
     ensures { λ r. ⌜ (r ≡ 0 → (now (out .exit) ≡ now (out .entry)) × (MatchBetween (now (table .entry)) 0 (now («start_key» .entry)) (now («end_key» .entry)) → ⊥)) ⌝ }
-    ensures { λ r. ⌜ (0 < r → (r ≤ max (length (now («start_key» .entry))) (length (now («end_key» .entry))) + 64) × Word (now (table .entry)) 0 (λ w. (now («start_key» .entry) ≺ w) × (w ≼ now («end_key» .entry)) × (r ≡ length w) × (now (out .exit) ≡ sets (now (out .entry)) 0 w))) ⌝ }
+    ensures { λ r. ⌜ (0 < r → (r ≤ max (length (now («start_key» .entry))) (length (now («end_key» .entry))) + 64) × Accepts (now (table .entry)) 0 (λ w. (now («start_key» .entry) ≺ w) × (w ≼ now («end_key» .entry)) × (r ≡ length w) × (now (out .exit) ≡ sets (now (out .entry)) 0 w))) ⌝ }
 {
     let n = keys::common_prefix_len(start_key, end_key);
     if n == end_key.len() {

@@ -18,6 +18,6 @@ unfoldable pub ordinalBad : BlockAddr → BlockAddr → Bool
 ordinalBad before b = leb (b .«first_ordinal») (before .«first_ordinal»)
 
 -- a row that was hit, else those behind it; 0 where none is hit
-abbrev pub orElse : ℕ → ℕ → ℕ
-orElse zero later = later
-orElse (suc k) later = suc k
+abbrev pub orRow : ℕ → ℕ → ℕ
+orRow zero later = later
+orRow (suc k) later = suc k

@@ -12,16 +12,16 @@ use Rattle.group.specs.declared.BlockAddr.{BlockAddr}
 use Rattle.group.specs.Legal.{Legal}
 use Rattle.group.specs.Rows.{numbersBad}
 use Rattle.group.proofs.Legal.{numbers-good}
-use Rattle.store.specs.Read.{storeBlock, blockOr, StoreOk, LocatedAs}
-use Rattle.store.specs.Facts.{GroupLenOk, RecordsOk}
-use Rattle.store.specs.declared.Located.{Located}
+use Rattle.store.specs.Read.{storeBlock, blockOr, StoreOk, OrdFoundAs}
+use Rattle.store.specs.Facts.{GroupLenOk, GroupRecordsOk}
+use Rattle.store.specs.declared.OrdFound.{OrdFound}
 use Rattle.store.proofs.Lookup.{read-block}
 use Rattle.directory.specs.Read.{keyOf, Sorted, FoundAs}
 use Rattle.directory.specs.declared.read.Found.{Found}
 use Rattle.directory.specs.declared.read.Found.the-variants.{At, Above, Outside}
 use Rattle.directory.proofs.read.Found as found
 use Rattle.index.specs.declared.SSTableIndexV3.{SSTableIndexV3}
-use Rattle.index.specs.Parts.{recordsPart, addrsPart, directoryPart, countIn, blockIn, separatorIn}
+use Rattle.index.specs.Parts.{groupRecordsPart, addrsPart, directoryPart, countIn, blockIn, separatorIn}
 use Rattle.index.specs.Opening.{Opens}
 use Rattle.index.specs.Lookups.{openedBad, OpenedFits, directoryAt, Refuses}
 use Rattle.index.proofs.Fits.{bad-unfit}
@@ -33,7 +33,7 @@ bad-unopened L f opened len e o = bad-unfit L opened (length f) e (opens-facts L
 
 -- group records enough
 pub enough-records : (L : ℕ) (f : List ℕ) (opened : SSTableIndexV3) (recs : List ℕ) → OpenedFits L opened (length f) → recs ≡ metasAt opened f
-    → RecordsOk L recs (opened .n)
+    → GroupRecordsOk L recs (opened .n)
 enough-records L f opened recs fits e = record {
   some = fits .some;
   few = fits .few;
@@ -80,7 +80,7 @@ key-above separator n key Outside k h other p = absurd p
 
 module _ (L : ℕ) (f : List ℕ) (opened : SSTableIndexV3) (facts : OpenFacts L f opened) where
   module _ (recs addr : List ℕ) (p : recs ≡ metasAt opened f) (q : addr ≡ addrsAt opened f) where
-    recs-are : recs ≡ recordsPart f
+    recs-are : recs ≡ groupRecordsPart f
     recs-are = p ∙ facts .metas
 
     addr-are : addr ≡ addrsPart f
@@ -92,11 +92,11 @@ module _ (L : ℕ) (f : List ℕ) (opened : SSTableIndexV3) (facts : OpenFacts L
     got-as id b h e =
         e
         ∙ rw (recs-are, addr-are, facts .count)
-        (read-block L (recordsPart f) (addrsPart f) (countIn f) id (facts .group .some) (facts .ok) (rw (facts .count) at h))
+        (read-block L (groupRecordsPart f) (addrsPart f) (countIn f) id (facts .group .some) (facts .ok) (rw (facts .count) at h))
 
     -- by ordinal
-    pub located-as : (ord : ℕ) (r : Located)
-        → (StoreOk L recs addr (opened .n) → LocatedAs (storeBlock L recs addr) (opened .n) ord r) → LocatedAs (blockIn L f) (opened .n) ord r
+    pub located-as : (ord : ℕ) (r : OrdFound)
+        → (StoreOk L recs addr (opened .n) → OrdFoundAs (storeBlock L recs addr) (opened .n) ord r) → OrdFoundAs (blockIn L f) (opened .n) ord r
     unfolding blockIn
     located-as ord r h = rw (recs-are, addr-are) at (h (rw (recs-are, addr-are, facts .count) (facts .ok)))
 

@@ -16,7 +16,7 @@ use Rattle.builder.specs.Index.{indexBytes}
 use Rattle.builder.proofs.IndexBytes.{length-indexBytes}
 use Rattle.index.specs.Opening.{openedOf, Opens}
 use Rattle.index.proofs.OpeningRows.{OpenOk, footer-good, records-good, open-none, open-taken}
-use Rattle.index.proofs.WrittenIndex.{IndexOk, index-parts, index-recordsLen, index-storeLen, index-blocks}
+use Rattle.index.proofs.WrittenIndex.{IndexOk, index-parts, index-groupRecordsLen, index-storeLen, index-blocks}
 
 module _ {choose : List ℕ → ℕ} {L : ℕ} {bs : List BlockAddr} {ks : List (List ℕ)} (ok : IndexOk choose L bs ks) where
   abbrev file : List ℕ
@@ -37,8 +37,8 @@ module _ {choose : List ℕ → ℕ} {L : ℕ} {bs : List BlockAddr} {ks : List 
         });
         directory = rw (parts .directory) (directory-opens ks (ok .bounded) (omega (arith, ok .same, ok .some)) (ok .rises));
         records = records-good L file (record {
-          exact = rw (index-blocks ok) (index-recordsLen ok);
-          inside = omega (arith, index-recordsLen ok, index-storeLen ok);
+          exact = rw (index-blocks ok) (index-groupRecordsLen ok);
+          inside = omega (arith, index-groupRecordsLen ok, index-storeLen ok);
         });
         store = rw (parts .records, parts .addrs, index-blocks ok)
             (store-keeps L _ _ (length bs) (ok .stored .group .some) (omega (arith, ok .some)) (read-back (ok .stored) .ok));
@@ -60,4 +60,4 @@ module _ {choose : List ℕ → ℕ} {L : ℕ} {bs : List BlockAddr} {ks : List 
   index-record =
       let stored = length-storeBytes choose L bs (ok .stored .group .some) in
       let left : length (storeBytes choose L bs) - (8 + 36 * groups) ≡ length (addrs choose L groups bs) = omega arith in
-      rw (index-blocks ok, index-storeLen ok, index-recordsLen ok, index-parts ok .directory-len, left)
+      rw (index-blocks ok, index-storeLen ok, index-groupRecordsLen ok, index-parts ok .directory-len, left)

@@ -10,8 +10,8 @@ use lib.Dec.{eqb, ltb}
 use lib.ListN.{length, take, drop}
 use borrow.Author.Tests.{ltb-false, eqb-true, eqb-false, not-false}
 use Rattle.serialize.proofs.Tests.{neither}
-use Rattle.group.specs.Rows.{orElse}
-use Rattle.group.proofs.RowOrder.{orElse-zero}
+use Rattle.group.specs.Rows.{orRow}
+use Rattle.group.proofs.RowOrder.{orRow-zero}
 use Rattle.store.specs.Store.{groupCount}
 use Rattle.store.specs.Read.{StoreOk}
 use Rattle.store.specs.Facts.{GroupLenOk}
@@ -21,8 +21,8 @@ use Rattle.directory.proofs.Rules.{DirectoryOk, directory-kept}
 use Rattle.directory.proofs.Opened.{opened-good, opened-sorted}
 use Rattle.index.specs.declared.SSTableIndexV3.{SSTableIndexV3}
 use Rattle.index.specs.declared.Loaded.the-variants.{Opened}
-use Rattle.index.specs.Parts.{directoryLen, directoryPart, storeLen, recordsLen, recordsPart, addrsPart, countIn}
-use Rattle.index.specs.Opening.{footerNo, recordsBad, openNo, openedOf, openStep, openDef, Opens}
+use Rattle.index.specs.Parts.{directoryLen, directoryPart, storeLen, groupRecordsLen, groupRecordsPart, addrsPart, countIn}
+use Rattle.index.specs.Opening.{footerNo, groupRecordsBad, openNo, openedOf, openStep, openDef, Opens}
 use Rattle.index.specs.Lookups.{directoryAt, OpenedFits}
 
 -- the group records and the address bytes that a record names
@@ -41,15 +41,15 @@ pub record OpenFacts (L : ℕ) (f : List ℕ) (opened : SSTableIndexV3) : Type 0
   pub some : 2 ≤ countIn f
   pub few : countIn f ≤ 65536
   pub directory : directoryAt opened f ≡ directoryPart f
-  pub metas : metasAt opened f ≡ recordsPart f
+  pub metas : metasAt opened f ≡ groupRecordsPart f
   pub addrs : addrsAt opened f ≡ addrsPart f
   pub rules : DirectoryOk (directoryPart f)
   pub sorted : Sorted (directoryPart f) (countIn f)
-  pub ok : StoreOk L (recordsPart f) (addrsPart f) (countIn f)
+  pub ok : StoreOk L (groupRecordsPart f) (addrsPart f) (countIn f)
   pub nonempty : 1 ≤ directoryLen f
   pub footer : directoryLen f + 16 ≤ length f
-  pub records : recordsLen f ≡ 36 * groupCount L (countIn f)
-  pub within : 8 + recordsLen f ≤ storeLen f
+  pub records : groupRecordsLen f ≡ 36 * groupCount L (countIn f)
+  pub within : 8 + groupRecordsLen f ≤ storeLen f
 
 -- ---- numbers that are 0
 
@@ -71,12 +71,12 @@ module _ (f : List ℕ) where
       let some = ⊎-elim (λ (z : directoryLen f ≡ 0). absurd (eqb-false (directoryLen f) 0 (b .0) z)) (λ (h : 1 ≤ directoryLen f). h) (eq-zero-or-pos (directoryLen f)) in
       (some, ltb-false (length f) (directoryLen f + 16) (c .0))
 
-  records-kept : (L : ℕ) → recordsBad L f ≡ false → (recordsLen f ≡ 36 * groupCount L (countIn f)) × (8 + recordsLen f ≤ storeLen f)
-  unfolding recordsBad
+  records-kept : (L : ℕ) → groupRecordsBad L f ≡ false → (groupRecordsLen f ≡ 36 * groupCount L (countIn f)) × (8 + groupRecordsLen f ≤ storeLen f)
+  unfolding groupRecordsBad
   records-kept L e =
       let all = 36 * groupCount L (countIn f) in
-      let a = neither (not (eqb (recordsLen f) all)) _ e in
-      (eqb-true (recordsLen f) all (not-false (eqb (recordsLen f) all) (a .0)), ltb-false (storeLen f) (8 + recordsLen f) (a .1))
+      let a = neither (not (eqb (groupRecordsLen f) all)) _ e in
+      (eqb-true (groupRecordsLen f) all (not-false (eqb (groupRecordsLen f) all) (a .0)), ltb-false (storeLen f) (8 + groupRecordsLen f) (a .1))
 
 -- ---- the facts
 
@@ -84,9 +84,9 @@ module _ (L : ℕ) (f : List ℕ) (len : GroupLenOk L) where
   accepted-facts : openNo L f ≡ 0 → OpenFacts L f (openedOf f)
   unfolding openNo openedOf
   accepted-facts e =
-      let a = orElse-zero (footerNo f) _ e in
-      let b = orElse-zero (directoryNo (directoryPart f)) _ (a .1) in
-      let c = no-cond (recordsBad L f) 13 _ (b .1) in
+      let a = orRow-zero (footerNo f) _ e in
+      let b = orRow-zero (directoryNo (directoryPart f)) _ (a .1) in
+      let c = no-cond (groupRecordsBad L f) 13 _ (b .1) in
       let foot = footer-kept f (a .0) in
       let recs = records-kept f L (c .0) in
       let rule = directory-kept (directoryPart f) (opened-good (directoryPart f) (b .0)) in
@@ -110,7 +110,7 @@ module _ (L : ℕ) (f : List ℕ) (len : GroupLenOk L) where
         addrs = refl;
         rules = rule;
         sorted = opened-sorted (directoryPart f) (b .0);
-        ok = store-kept L (recordsPart f) (addrsPart f) (countIn f) (len .some) (omega (arith, rule .some)) (c .1);
+        ok = store-kept L (groupRecordsPart f) (addrsPart f) (countIn f) (len .some) (omega (arith, rule .some)) (c .1);
         nonempty = foot .0;
         footer = foot .1;
         records = recs .0;

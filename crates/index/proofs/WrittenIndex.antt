@@ -8,10 +8,10 @@ use lib.ListN.{length, getD, drop, length-append}
 use lib.Seq.{take-all, drop-drop, take-append-seam, drop-append-seam, take-at, drop-at}
 use Rattle.keys.specs.Order.{_≺_}
 use Rattle.serialize.specs.Digits.{leVal, leBytes}
-use Rattle.serialize.proofs.Digits.{length-digits, ofDigits-digits-lt}
+use Rattle.serialize.proofs.Digits.{length-digitsOf, ofDigits-digitsOf-lt}
 use Rattle.group.specs.Blocks.{blockOf}
 use Rattle.group.specs.declared.BlockAddr.{BlockAddr}
-use Rattle.store.specs.Store.{groupCount, records, addrs, storeBytes}
+use Rattle.store.specs.Store.{groupCount, groupRecords, addrs, storeBytes}
 use Rattle.store.proofs.Groups.{group-count-below, group-count-le}
 use Rattle.store.proofs.Stored.{length-records, length-storeBytes}
 use Rattle.store.proofs.ReadBack.{Storable, read-back}
@@ -20,15 +20,15 @@ use Rattle.directory.specs.Read.{countOf}
 use Rattle.directory.proofs.Lengths.{Bounded, length-directoryBytes, length-keyBytes-le}
 use Rattle.directory.proofs.Opened.{count-whole, key-whole}
 use Rattle.builder.specs.Index.{indexBytes}
-use Rattle.index.specs.Parts.{directoryLen, directoryPart, storeLen, recordsLen, recordsPart, addrsPart, countIn, blockIn, separatorIn}
+use Rattle.index.specs.Parts.{directoryLen, directoryPart, storeLen, groupRecordsLen, groupRecordsPart, addrsPart, countIn, blockIn, separatorIn}
 
 -- f is the directory D, the length of the records R, these, the address bytes A and the directory's length
 pub record Joined (f D R A : List ℕ) : Type 0 where
   pub directory-len : directoryLen f ≡ length D
   pub directory : directoryPart f ≡ D
   pub store-len : storeLen f ≡ 8 + (length R + length A)
-  pub records-len : recordsLen f ≡ length R
-  pub records : recordsPart f ≡ R
+  pub records-len : groupRecordsLen f ≡ length R
+  pub records : groupRecordsPart f ≡ R
   pub addrs : addrsPart f ≡ A
 
 -- five parts one behind the other, where the second tells the third's length, and the last the first's
@@ -58,7 +58,7 @@ module _ (D H R A F : List ℕ) (eight : length H ≡ 8) (last : length F ≡ 8)
   joined : Joined file D R A
   joined =
       let first : directoryLen file ≡ length D = rw (at-footer, take-all 8 F (le-of-eq last)) tells in
-      let second : recordsLen file ≡ length R = rw (first, at-store, take-at H (R ++ (A ++ F)) 8 eight) says in
+      let second : groupRecordsLen file ≡ length R = rw (first, at-store, take-at H (R ++ (A ++ F)) 8 eight) says in
       let store : storeLen file ≡ 8 + (length R + length A) = rw first (omega (arith, length-file)) in
       let left : 8 + (length R + length A) - (8 + length R) ≡ length A = omega arith in
       record {
@@ -84,22 +84,22 @@ module _ {choose : List ℕ → ℕ} {L : ℕ} {bs : List BlockAddr} {ks : List 
   abbrev groups : ℕ
   groups = groupCount L (length bs)
 
-  length-metas : length (records choose L groups 0 bs) ≡ 36 * groups
+  length-metas : length (groupRecords choose L groups 0 bs) ≡ 36 * groups
   length-metas = length-records choose L groups 0 bs (ok .stored .group .some) (group-count-below (ok .stored .group .some) (length bs))
 
-  pub index-parts : Joined (indexBytes choose L bs ks) (directoryBytes ks) (records choose L groups 0 bs) (addrs choose L groups bs)
+  pub index-parts : Joined (indexBytes choose L bs ks) (directoryBytes ks) (groupRecords choose L groups 0 bs) (addrs choose L groups bs)
   unfolding indexBytes storeBytes
   index-parts =
       let D = directoryBytes ks in
       let small : length D < 2 ^ (8 * 8) = omega (arith, length-directoryBytes ks, length-keyBytes-le ks (ok .bounded .short), ok .bounded .few) in
       let few : 36 * groups < 2 ^ (8 * 8) = omega (arith, group-count-le (ok .stored .group .some) (length bs), ok .stored .few) in
       rw (append-assoc, append-assoc)
-      (joined D (leBytes 8 (36 * groups)) (records choose L groups 0 bs) (addrs choose L groups bs) (leBytes 8 (length D))
-      (length-digits 8 8 (36 * groups)) (length-digits 8 8 (length D))
-      (ofDigits-digits-lt 8 8 (36 * groups) few ∙ sym length-metas) (ofDigits-digits-lt 8 8 (length D) small))
+      (joined D (leBytes 8 (36 * groups)) (groupRecords choose L groups 0 bs) (addrs choose L groups bs) (leBytes 8 (length D))
+      (length-digitsOf 8 8 (36 * groups)) (length-digitsOf 8 8 (length D))
+      (ofDigits-digitsOf-lt 8 8 (36 * groups) few ∙ sym length-metas) (ofDigits-digitsOf-lt 8 8 (length D) small))
 
-  pub index-recordsLen : recordsLen (indexBytes choose L bs ks) ≡ 36 * groups
-  index-recordsLen = index-parts .records-len ∙ length-metas
+  pub index-groupRecordsLen : groupRecordsLen (indexBytes choose L bs ks) ≡ 36 * groups
+  index-groupRecordsLen = index-parts .records-len ∙ length-metas
 
   pub index-storeLen : storeLen (indexBytes choose L bs ks) ≡ length (storeBytes choose L bs)
   index-storeLen = index-parts .store-len ∙ omega (arith, length-metas, length-storeBytes choose L bs (ok .stored .group .some))

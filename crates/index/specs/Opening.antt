@@ -5,11 +5,11 @@ use mathlib.Core.List.{List}
 use mathlib.Core.Bool.{Bool, not, _||_, cond}
 use lib.Dec.{eqb, ltb}
 use lib.ListN.{length}
-use Rattle.group.specs.Rows.{orElse}
+use Rattle.group.specs.Rows.{orRow}
 use Rattle.store.specs.Store.{groupCount}
 use Rattle.store.specs.Check.{storeNo}
 use Rattle.directory.specs.Read.{directoryNo}
-use Rattle.index.specs.Parts.{directoryLen, directoryPart, storeLen, recordsLen, recordsPart, addrsPart, countIn}
+use Rattle.index.specs.Parts.{directoryLen, directoryPart, storeLen, groupRecordsLen, groupRecordsPart, addrsPart, countIn}
 use Rattle.index.specs.declared.SSTableIndexV3.{SSTableIndexV3}
 use Rattle.index.specs.declared.Loaded.{Loaded}
 use Rattle.index.specs.declared.Loaded.the-variants.{Opened, Refused}
@@ -19,14 +19,14 @@ unfoldable pub footerNo : List ℕ → ℕ
 footerNo f = cond (ltb (length f) 8) 10 (cond (eqb (directoryLen f) 0) 11 (cond (ltb (length f) (directoryLen f + 16)) 10 0))
 
 -- row 14: records' length not 36 × groups, or beyond the store
-unfoldable pub recordsBad : ℕ → List ℕ → Bool
-recordsBad L f = not (eqb (recordsLen f) (36 * groupCount L (countIn f))) || ltb (storeLen f) (8 + recordsLen f)
+unfoldable pub groupRecordsBad : ℕ → List ℕ → Bool
+groupRecordsBad L f = not (eqb (groupRecordsLen f) (36 * groupCount L (countIn f))) || ltb (storeLen f) (8 + groupRecordsLen f)
 
 -- the rows in their order; 0 where none is hit
 unfoldable pub openNo : ℕ → List ℕ → ℕ
 openNo L f =
-    orElse (footerNo f) (orElse (directoryNo (directoryPart f))
-    (cond (recordsBad L f) 14 (storeNo L (recordsPart f) (addrsPart f) (countIn f))))
+    orRow (footerNo f) (orRow (directoryNo (directoryPart f))
+    (cond (groupRecordsBad L f) 14 (storeNo L (groupRecordsPart f) (addrsPart f) (countIn f))))
 
 -- n, and the places of the directory, the group records and the address bytes
 unfoldable pub openedOf : List ℕ → SSTableIndexV3
@@ -35,9 +35,9 @@ openedOf f = record {
   directory = 0;
   «directory_len» = directoryLen f;
   metas = directoryLen f + 8;
-  «metas_len» = recordsLen f;
-  addrs = directoryLen f + 8 + recordsLen f;
-  «addrs_len» = storeLen f - (8 + recordsLen f);
+  «metas_len» = groupRecordsLen f;
+  addrs = directoryLen f + 8 + groupRecordsLen f;
+  «addrs_len» = storeLen f - (8 + groupRecordsLen f);
 }
 
 abbrev pub openStep : ℕ → List ℕ → Loaded

@@ -5,7 +5,7 @@ ghost use lib.ListN.{length};
 ghost use Rattle.store.specs.Facts.{GroupLenOk};
 ghost use Rattle.directory.specs.Read.{directoryNo};
 ghost use Rattle.index.specs.Parts.{directoryLen, directoryPart, countIn};
-ghost use Rattle.index.specs.Opening.{footerNo, recordsBad, openDef};
+ghost use Rattle.index.specs.Opening.{footerNo, groupRecordsBad, openDef};
 use crate::Loaded;
 use crate::SSTableIndexV3;
 
@@ -37,7 +37,7 @@ fn footer_no(data: &[u8]) -> u32
 // Row 14: whether the records' length isn't that of the groups of n blocks, or is beyond the store.
 fn records_bad(data: &[u8], directory_len: usize, n: usize, group_len: usize) -> bool
     requires { ⌜ GroupLenOk «group_len» × («directory_len» ≡ directoryLen (now «data»)) × («directory_len» + 16 ≤ length (now «data»)) × (n ≡ countIn (now «data»)) × (n ≤ 65536) ⌝ }
-    ensures { λ r. ⌜ r ≡ recordsBad «group_len» (now («data» .entry)) ⌝ }
+    ensures { λ r. ⌜ r ≡ groupRecordsBad «group_len» (now («data» .entry)) ⌝ }
 {
     let metas_len = META_LEN * store::write::group_count(n, group_len);
     if serialize::deserialize_u64(data, directory_len) != metas_len as u64 {

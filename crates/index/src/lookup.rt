@@ -118,9 +118,9 @@ pub fn locate_with_ord(opened: SSTableIndexV3, data: &[u8], group_len: usize, or
         group_len,
         ord,
     ) {
-        store::Located::At(id, block) => Located::At(id, block),
-        store::Located::Below => Located::Refused(18),
-        store::Located::Unsound => Located::Refused(20),
+        store::OrdFound::At(id, block) => Located::At(id, block),
+        store::OrdFound::Below => Located::Refused(18),
+        store::OrdFound::Broken => Located::Refused(20),
     }
 }
 

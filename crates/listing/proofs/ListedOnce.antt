@@ -6,7 +6,7 @@ use mathlib.Core.Option.{some}
 use Prim.Native.Nat.{ℕ, zero, suc, _<_}
 use native.Mathlib.Omega.{arith}
 use lib.Seq.{sets, ext-getD}
-use Rattle.listing.specs.Marks.{startAt, Mark, Marks, ones}
+use Rattle.listing.specs.Marks.{startAt, Mark, Marks, countOnes}
 use Rattle.listing.specs.Listing.{Listing, ListingLeaves}
 
 -- ---- separators that are equal below n
@@ -39,4 +39,4 @@ module _ {t : List ℕ} {separator : ℕ → List ℕ} {n : ℕ} where
   pub listing-once : {marks v w : List ℕ} {c d : ℕ} → Listing t separator n marks v c → Listing t separator n marks w d → (v ≡ w) × (c ≡ d)
   listing-once {marks} p q =
       let e = marks-once (p .right) (q .right) in
-      (p .bytes ∙ ap (sets marks 0) e ∙ sym (q .bytes), p .counted ∙ ap ones e ∙ sym (q .counted))
+      (p .bytes ∙ ap (sets marks 0) e ∙ sym (q .bytes), p .counted ∙ ap countOnes e ∙ sym (q .counted))

@@ -6,7 +6,7 @@ use Prim.Native.Nat.{ℕ}
 use native.Mathlib.Omega.{arith}
 use lib.Dec.{ltb}
 use lib.ListN.{length}
-use Rattle.group.specs.Rows.{orElse}
+use Rattle.group.specs.Rows.{orRow}
 use Rattle.automaton.specs.Table.{tableNo}
 use Rattle.index.specs.declared.SSTableIndexV3.{SSTableIndexV3}
 use Rattle.index.specs.Parts.{directoryPart, countIn, separatorIn}
@@ -27,7 +27,7 @@ module _ {L : ℕ} {f : List ℕ} {opened : SSTableIndexV3} (o : OpenFacts L f o
   pub opened-inside : keysOutside (directoryAt opened f) (opened .n) (opened .n) ≡ false
   opened-inside = rw (o .directory, o .count) (all-inside (directoryPart f) (countIn f) (countIn f) (o .sorted .inside))
 
-  pub opened-list-no : (t : List ℕ) (room : ℕ) → listingNo L opened f t room ≡ orElse (tableNo t) (cond (ltb room (opened .n)) 24 0)
+  pub opened-list-no : (t : List ℕ) (room : ℕ) → listingNo L opened f t room ≡ orRow (tableNo t) (cond (ltb room (opened .n)) 24 0)
   opened-list-no t room = past-20 L opened f t room opened-passes opened-inside
 
   pub opened-separator : (i : ℕ) → separatorAt opened f i ≡ separatorIn f i

@@ -6,8 +6,8 @@ use Prim.Native.Nat.{ℕ, zero, suc, _≤_, _<_}
 use lib.Dec.{ltb}
 use lib.ListN.{length}
 use borrow.Author.Tests.{lt-ltb, le-ltb}
-use Rattle.group.specs.Rows.{orElse}
-use Rattle.group.proofs.RowOrder.{orElse-first}
+use Rattle.group.specs.Rows.{orRow}
+use Rattle.group.proofs.RowOrder.{orRow-first}
 use Rattle.automaton.specs.Table.{tableNo}
 use Rattle.index.specs.declared.SSTableIndexV3.{SSTableIndexV3}
 use Rattle.index.specs.Lookups.{openedBad, directoryAt}
@@ -24,12 +24,12 @@ module _ (L : ℕ) (opened : SSTableIndexV3) (f t : List ℕ) (room : ℕ) where
     keys-refused e = rw (fits, e)
 
     module _ (inside : keysOutside (directoryAt opened f) (opened .n) (opened .n) ≡ false) where
-      pub past-20 : listingNo L opened f t room ≡ orElse (tableNo t) (cond (ltb room (opened .n)) 24 0)
+      pub past-20 : listingNo L opened f t room ≡ orRow (tableNo t) (cond (ltb room (opened .n)) 24 0)
       unfolding listingNo
       past-20 = rw (fits, inside)
 
       pub table-refused : (tableNo t ≡ 0 → ⊥) → listingNo L opened f t room ≡ tableNo t
-      table-refused h = past-20 ∙ orElse-first (tableNo t) _ h
+      table-refused h = past-20 ∙ orRow-first (tableNo t) _ h
 
       pub room-refused : tableNo t ≡ 0 → room < opened .n → listingNo L opened f t room ≡ 24
       room-refused e h = rw (past-20, e, lt-ltb room (opened .n) h)

@@ -7,12 +7,12 @@ use mathlib.Core.Logic.{_⊎_}
 use lib.Dec.{ltb}
 use lib.ListN.{length}
 use lib.Seq.{sets}
-use Rattle.group.specs.Rows.{orElse}
+use Rattle.group.specs.Rows.{orRow}
 use Rattle.automaton.specs.Table.{tableNo}
 use Rattle.directory.specs.Read.{keyOf, keyOutside}
 use Rattle.index.specs.declared.SSTableIndexV3.{SSTableIndexV3}
 use Rattle.index.specs.Lookups.{openedBad, directoryAt}
-use Rattle.listing.specs.Marks.{Marks, ones}
+use Rattle.listing.specs.Marks.{Marks, countOnes}
 use Rattle.listing.specs.declared.Listed.{Listed}
 use Rattle.listing.specs.declared.Listed.the-variants.{Count, Refused}
 
@@ -25,7 +25,7 @@ keysOutside d n (suc m) = keysOutside d n m || keyOutside d n m
 unfoldable pub listingNo : ℕ → SSTableIndexV3 → List ℕ → List ℕ → ℕ → ℕ
 listingNo L opened f t room =
     cond (openedBad L opened (length f) || keysOutside (directoryAt opened f) (opened .n) (opened .n)) 20
-    (orElse (tableNo t) (cond (ltb room (opened .n)) 24 0))
+    (orRow (tableNo t) (cond (ltb room (opened .n)) 24 0))
 
 -- separator i as a listing reads it
 abbrev pub separatorAt : SSTableIndexV3 → List ℕ → ℕ → List ℕ
@@ -35,7 +35,7 @@ separatorAt opened f i = keyOf (directoryAt opened f) (opened .n) i
 pub record Listing (t : List ℕ) (separator : ℕ → List ℕ) (n : ℕ) (marks written : List ℕ) (count : ℕ) : Type 0 where
   pub list : List ℕ
   pub right : Marks t separator n list
-  pub counted : count ≡ ones list
+  pub counted : count ≡ countOnes list
   pub bytes : written ≡ sets marks 0 list
 
 -- document 01's number and count for each answer; a refusal has all else zero

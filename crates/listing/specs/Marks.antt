@@ -24,6 +24,6 @@ pub record Marks (t : List ℕ) (separator : ℕ → List ℕ) (n : ℕ) (marks 
   pub each : (i : ℕ) → i < n → Mark (getD marks i 0) (Marked t (startAt separator i) (separator i))
 
 -- the count of ones
-unfoldable pub ones : List ℕ → ℕ
-ones [] = 0
-ones (x ∷ xs) = cond (eqb x 1) 1 0 + ones xs
+unfoldable pub countOnes : List ℕ → ℕ
+countOnes [] = 0
+countOnes (x ∷ xs) = cond (eqb x 1) 1 0 + countOnes xs

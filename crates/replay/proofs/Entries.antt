@@ -13,7 +13,7 @@ use Rattle.serialize.proofs.Stores.{sets-part}
 use Rattle.directory.specs.Directory.{directoryBytes}
 use Rattle.builder.specs.Calls.{After}
 use Rattle.builder.specs.Plain.{Entry, roomsOf, plainNumbers, separatorsOf, runNumbers, runEnd}
-use Rattle.builder.specs.Finish.{Finish, indexOf, finishStep, finishDef}
+use Rattle.builder.specs.Finish.{Finish, indexOfEntries, finishStep, finishDef}
 use Rattle.builder.proofs.Machine.{run-fresh}
 use Rattle.builder.proofs.Finishing.{finished, Finishes, finish-fresh}
 use Rattle.replay.specs.Format.{calls}
@@ -51,7 +51,7 @@ module _ (es : List Entry) (out : List ℕ) (f : Finish) where
       record { output = rw long o; answer = rw (long, k, t, d); fits = rw t h; bytes = rw (long, t, o) (sets-part out (entriesIndex es) 0 (omega arith)) }
 
 module _ (es : List Entry) (h : 2 ≤ length es) where
-  pub some-index : entriesIndex es ≡ indexOf es
+  pub some-index : entriesIndex es ≡ indexOfEntries es
   unfolding entriesIndex
   some-index = rw (le-ltb (length es) 2 h)
 
@@ -74,12 +74,12 @@ module _ (es : List Entry) (a : After) (out : List ℕ) (f : Finishes es a out) 
       let none = none-index es h in
       rw (f .none h) (taken-of es out _ (rw none (omega arith)) refl (rw none) (rw none) (rw (none-directory es h)))
 
-  too-short : 2 ≤ length es → length out < length (indexOf es) → FinishOf es out (finished a out)
+  too-short : 2 ≤ length es → length out < length (indexOfEntries es) → FinishOf es out (finished a out)
   unfolding finishDef finishStep
   too-short h l =
       rw (f .nine (record { some = h; short = l })) (refused-of es out _ (rw (some-index es h) l) refl refl refl refl)
 
-  whole : 2 ≤ length es → length (indexOf es) ≤ length out → FinishOf es out (finished a out)
+  whole : 2 ≤ length es → length (indexOfEntries es) ≤ length out → FinishOf es out (finished a out)
   whole h l =
       let some = some-index es h in
       rw (f .written h (f .otherwise (λ t. omega (arith, t .short)))) (taken-of es out _ (rw some l) refl (rw some) (rw some) (rw (some-directory es h)))
@@ -89,9 +89,9 @@ module _ (es : List Entry) (a : After) (out : List ℕ) (f : Finishes es a out) 
       by-test (ltb (length es) 2)
       (λ t. no-index (ltb-true (length es) 2 t))
       (λ t.
-      by-test (ltb (length out) (length (indexOf es)))
-      (λ u. too-short (ltb-false (length es) 2 t) (ltb-true (length out) (length (indexOf es)) u))
-      (λ u. whole (ltb-false (length es) 2 t) (ltb-false (length out) (length (indexOf es)) u)))
+      by-test (ltb (length out) (length (indexOfEntries es)))
+      (λ u. too-short (ltb-false (length es) 2 t) (ltb-true (length out) (length (indexOfEntries es)) u))
+      (λ u. whole (ltb-false (length es) 2 t) (ltb-false (length out) (length (indexOfEntries es)) u)))
 
 -- the finish behind a list's calls
 pub list-finish : (s B K out : List ℕ) → FinishOf (entriesOf s B K) out (finished (runEnd (calls s) (freshOf B K)) out)

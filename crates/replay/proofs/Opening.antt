@@ -11,7 +11,7 @@ use Rattle.keys.proofs.Order.{by-test}
 use Rattle.group.specs.declared.BlockAddr.{BlockAddr}
 use Rattle.group.specs.Blocks.{noBlock}
 use Rattle.builder.specs.Plain.{Entry}
-use Rattle.builder.specs.Finish.{indexOf}
+use Rattle.builder.specs.Finish.{indexOfEntries}
 use Rattle.builder.proofs.Rules.{EntriesOk, run-rules}
 use Rattle.index.specs.declared.SSTableIndexV3.{SSTableIndexV3}
 use Rattle.index.specs.Opening.{footerNo, openNo, openDef, openedOf}
@@ -34,26 +34,26 @@ missing-id block n id (inr p) = p .1
 
 module _ (es : List Entry) (ok : EntriesOk es) (few : length es ≤ 65536) (two : 2 ≤ length es) where
   abbrev opened : SSTableIndexV3
-  opened = openedOf (indexOf es)
+  opened = openedOf (indexOfEntries es)
 
-  facts : OpenFacts 128 (indexOf es) opened
-  facts = list-facts (indexOf es) opened (entries-open es ok few two)
+  facts : OpenFacts 128 (indexOfEntries es) opened
+  facts = list-facts (indexOfEntries es) opened (entries-open es ok few two)
 
-  found-in : Finds es (indexOf es) opened
+  found-in : Finds es (indexOfEntries es) opened
   found-in = found es ok few two
 
   all-known : (id : ℕ) → opened .n ≤ id → length es ≤ id
   all-known id h = missing-id (entryBlock es) (length es) id (found-in .by-id id 17 noBlock (inr (inl refl, refl), λ o. inr (refl, h, refl)))
 
-  pub entries-indexed : Indexed es (indexOf es) opened
+  pub entries-indexed : Indexed es (indexOfEntries es) opened
   entries-indexed = record {
     bytes = sym (some-index es two);
     few = few;
     finds = found-in;
     known = λ id h e.
         let inside : id < opened .n = by-test (ltb id (opened .n)) (λ t. ltb-true id (opened .n) t) (λ t. absurd (let z : ⊥ = omega (arith, all-known id (ltb-false id (opened .n) t)) in z)) in
-        let z : _≡_ {A = ℕ} 0 1 = cc (place-known 128 (indexOf es) opened facts id inside) in omega arith;
-    unlisted = λ t room. table-refused 128 opened (indexOf es) t room (opened-passes facts) (opened-inside facts);
+        let z : _≡_ {A = ℕ} 0 1 = cc (place-known 128 (indexOfEntries es) opened facts id inside) in omega arith;
+    unlisted = λ t room. table-refused 128 opened (indexOfEntries es) t room (opened-passes facts) (opened-inside facts);
   }
 
 -- no bytes

@@ -8,7 +8,7 @@ use lib.Seq.{sets}
 use Rattle.directory.specs.Directory.{directoryBytes}
 use Rattle.builder.specs.Calls.{After}
 use Rattle.builder.specs.Plain.{Entry, separatorsOf}
-use Rattle.builder.specs.Finish.{indexOf}
+use Rattle.builder.specs.Finish.{indexOfEntries}
 use Rattle.demands.specs.Demand3.{entries}
 use Rattle.replay.specs.Format.{calls}
 
@@ -30,7 +30,7 @@ entriesOf s B K = entries (calls s) (freshOf B K)
 
 -- the index of entries and its directory; there is none of 0 or 1
 unfoldable pub entriesIndex : List Entry → List ℕ
-entriesIndex es = cond (ltb (length es) 2) [] (indexOf es)
+entriesIndex es = cond (ltb (length es) 2) [] (indexOfEntries es)
 
 unfoldable pub entriesDirectory : List Entry → List ℕ
 entriesDirectory es = cond (ltb (length es) 2) [] (directoryBytes (separatorsOf es))

@@ -11,7 +11,7 @@ use Rattle.group.specs.declared.BlockAddr.{BlockAddr}
 use Rattle.builder.specs.Plain.{Entry, roomsOf, plainNumbers, runEnd}
 use Rattle.automaton.specs.Table.{tableNo}
 use Rattle.index.specs.Lookups.{ByIdExact, ByOrdExact, ByKeyExact, AddrByKeyExact}
-use Rattle.listing.specs.Marks.{Marks, ones}
+use Rattle.listing.specs.Marks.{Marks, countOnes}
 use Rattle.demands.specs.Demand3.{entryBlock, entrySeparator}
 use Rattle.replay.specs.Format.{Question, byId, byOrdinal, byKey, addressByKey, separatorOf, markOf, calls, questions, callCount, questionCount, listBad}
 use Rattle.replay.specs.Made.{cells, callCells, freshOf, entriesOf, entriesIndex, finishCells, finishOut, openNumber}
@@ -57,7 +57,7 @@ pub record SeparatorAnswer (es : List Entry) (id : ℕ) (cs : List ℕ) : Type 0
 pub record MarkAnswer (es : List Entry) (i : ℕ) (t : List ℕ) (cs : List ℕ) : Type 0 where
   pub refused : 0 < tableNo t → cs ≡ cells (tableNo t) 0 0 0 0
   pub marks : List ℕ
-  pub listed : tableNo t ≡ 0 → Marks t (entrySeparator es) (length es) marks × (cs ≡ cells 0 (ones marks) (getD marks i 0) 0 0)
+  pub listed : tableNo t ≡ 0 → Marks t (entrySeparator es) (length es) marks × (cs ≡ cells 0 (countOnes marks) (getD marks i 0) 0 0)
 
 abbrev pub AnswerTo : List Entry → Question → List ℕ → Type 0
 AnswerTo es (byId id) cs = IdAnswer es id cs

@@ -21,30 +21,30 @@ abbrev pub slopeAt : Point → ℕ
 slopeAt p = p .v / p .i % 2 ^ 32
 
 -- the lower and the higher of two points by their slopes; a tie goes to the later point, q
-unfoldable pub lower : Point → Point → Point
-lower p q = cond (leb (slopeAt q) (slopeAt p)) q p
+unfoldable pub lowerPoint : Point → Point → Point
+lowerPoint p q = cond (leb (slopeAt q) (slopeAt p)) q p
 
-unfoldable pub higher : Point → Point → Point
-higher p q = cond (leb (slopeAt p) (slopeAt q)) q p
+unfoldable pub higherPoint : Point → Point → Point
+higherPoint p q = cond (leb (slopeAt p) (slopeAt q)) q p
 
 -- the lowest and the highest of p and the points after it
 unfoldable pub lowest : Point → List Point → Point
 lowest p [] = p
-lowest p (q ∷ qs) = lowest (lower p q) qs
+lowest p (q ∷ qs) = lowest (lowerPoint p q) qs
 
 unfoldable pub highest : Point → List Point → Point
 highest p [] = p
-highest p (q ∷ qs) = highest (higher p q) qs
+highest p (q ∷ qs) = highest (higherPoint p q) qs
 
 -- low 32 bits of (vlow + vhigh + d/2) / d, d = ilow + ihigh
-unfoldable pub between : Point → Point → ℕ
-between lo hi = (lo .v + hi .v + (lo .i + hi .i) / 2) / (lo .i + hi .i) % 2 ^ 32
+unfoldable pub slopeBetween : Point → Point → ℕ
+slopeBetween lo hi = (lo .v + hi .v + (lo .i + hi .i) / 2) / (lo .i + hi .i) % 2 ^ 32
 
 -- the final slope; no points: 0
 unfoldable pub bestSlope : List ℕ → ℕ
 bestSlope [] = 0
 bestSlope (v ∷ vs) =
-    between (lowest (record { i = 1; v = v }) (pointsFrom 2 vs)) (highest (record { i = 1; v = v }) (pointsFrom 2 vs))
+    slopeBetween (lowest (record { i = 1; v = v }) (pointsFrom 2 vs)) (highest (record { i = 1; v = v }) (pointsFrom 2 vs))
 
 -- |v - slope × i|
 unfoldable pub derivation : ℕ → ℕ → ℕ → ℕ

@@ -19,7 +19,7 @@ pub record StoreArea (area : List ℕ) (stride n : ℕ) : Type 0 where
   pub legal : Legal (blockAt area stride) n
 
 -- enough group records for n blocks, 1 to 65,536
-pub record RecordsOk (L : ℕ) (recs : List ℕ) (n : ℕ) : Type 0 where
+pub record GroupRecordsOk (L : ℕ) (recs : List ℕ) (n : ℕ) : Type 0 where
   pub some : 1 ≤ n
   pub few : n ≤ 65536
   pub long : 36 * groupCount L n ≤ length recs

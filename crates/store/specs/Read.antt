@@ -14,8 +14,8 @@ use Rattle.group.specs.Read.{groupBad, firstValuesBad, blockRead}
 use Rattle.store.specs.Store.{groupCount}
 use Rattle.store.specs.declared.Got.{Got}
 use Rattle.store.specs.declared.Got.the-variants.{Block, Broken}
-use Rattle.store.specs.declared.Located.{Located}
-use Rattle.store.specs.declared.Located.the-variants.{At, Below, Unsound}
+use Rattle.store.specs.declared.OrdFound.{OrdFound}
+use Rattle.store.specs.declared.OrdFound.the-variants.{At, Below, Broken}
 
 -- the record of group g
 abbrev pub groupMeta : List ℕ → ℕ → BlockAddrBlockMetadata
@@ -56,12 +56,12 @@ pub record Last (f : ℕ → ℕ) (n x i : ℕ) : Type 0 where
 
 -- what an ordinal's lookup may answer in every case, and what it answers in a store that keeps the rules:
 -- the last block whose first ordinal is at or below it, or that there is none
-unfoldable pub LocatedIn : ℕ → Located → Type 0
-LocatedIn n (At i b) = (i < n) × NumbersOk b
-LocatedIn n Below = Unit {0}
-LocatedIn n Unsound = Unit {0}
+unfoldable pub OrdFoundIn : ℕ → OrdFound → Type 0
+OrdFoundIn n (At i b) = (i < n) × NumbersOk b
+OrdFoundIn n Below = Unit {0}
+OrdFoundIn n Broken = Unit {0}
 
-unfoldable pub LocatedAs : (ℕ → BlockAddr) → ℕ → ℕ → Located → Type 0
-LocatedAs block n ord (At i b) = Last (λ j. block j .«first_ordinal») n ord i × (b ≡ block i)
-LocatedAs block n ord Below = ord < block 0 .«first_ordinal»
-LocatedAs block n ord Unsound = ⊥
+unfoldable pub OrdFoundAs : (ℕ → BlockAddr) → ℕ → ℕ → OrdFound → Type 0
+OrdFoundAs block n ord (At i b) = Last (λ j. block j .«first_ordinal») n ord i × (b ≡ block i)
+OrdFoundAs block n ord Below = ord < block 0 .«first_ordinal»
+OrdFoundAs block n ord Broken = ⊥

@@ -22,10 +22,10 @@ groupAddrs choose [] = []
 groupAddrs choose (b ∷ bs) = addrBytes (metaOf choose 0 b bs) b bs
 
 -- the records of k groups, whose bits begin at `offset` and have no byte between them
-unfoldable pub records : (List ℕ → ℕ) → ℕ → ℕ → ℕ → List BlockAddr → List ℕ
-records choose L zero offset bs = []
-records choose L (suc k) offset bs =
-    groupRecord choose offset (take L bs) ++ records choose L k (offset + length (groupAddrs choose (take L bs))) (drop L bs)
+unfoldable pub groupRecords : (List ℕ → ℕ) → ℕ → ℕ → ℕ → List BlockAddr → List ℕ
+groupRecords choose L zero offset bs = []
+groupRecords choose L (suc k) offset bs =
+    groupRecord choose offset (take L bs) ++ groupRecords choose L k (offset + length (groupAddrs choose (take L bs))) (drop L bs)
 
 -- the bits of k groups, each on a new byte
 unfoldable pub addrs : (List ℕ → ℕ) → ℕ → ℕ → List BlockAddr → List ℕ
@@ -36,4 +36,4 @@ addrs choose L (suc k) bs = groupAddrs choose (take L bs) ++ addrs choose L k (d
 unfoldable pub storeBytes : (List ℕ → ℕ) → ℕ → List BlockAddr → List ℕ
 storeBytes choose L bs =
     leBytes 8 (36 * groupCount L (length bs))
-    ++ (records choose L (groupCount L (length bs)) 0 bs ++ addrs choose L (groupCount L (length bs)) bs)
+    ++ (groupRecords choose L (groupCount L (length bs)) 0 bs ++ addrs choose L (groupCount L (length bs)) bs)

@@ -11,7 +11,7 @@ ghost use Rattle.group.specs.Facts.{Readable};
 ghost use Rattle.store.specs.Store.{groupCount};
 ghost use Rattle.store.specs.Read.{storeBlock};
 ghost use Rattle.store.specs.Check.{groupsBad, firstsBad, blocksBad, storeNo};
-ghost use Rattle.store.specs.Facts.{GroupLenOk, RecordsOk};
+ghost use Rattle.store.specs.Facts.{GroupLenOk, GroupRecordsOk};
 ghost use Rattle.store.specs.declared.Got.the-variants.{Block, Broken};
 use crate::Got;
 use crate::read::META_LEN;
@@ -21,7 +21,7 @@ use group::rows::LIMIT;
 
 // Row 15: whether one of the groups breaks its rule.
 fn groups_bad(metas: &[u8], addrs: &[u8], n: usize, group_len: usize, groups: usize) -> bool
-    requires { ⌜ GroupLenOk «group_len» × RecordsOk «group_len» (now metas) n × (groups ≡ groupCount «group_len» n) ⌝ }
+    requires { ⌜ GroupLenOk «group_len» × GroupRecordsOk «group_len» (now metas) n × (groups ≡ groupCount «group_len» n) ⌝ }
     ensures { λ r. ⌜ r ≡ groupsBad «group_len» (now (metas .entry)) (now (addrs .entry)) n groups ⌝ }
 {
     let mut g: usize = 0;
@@ -92,7 +92,7 @@ fn last_block(meta: BlockAddrBlockMetadata, data: &[u8]) -> Got
 
 // Row 16: whether a first value is outside the range, or a block breaks 3, 4 or 5.
 fn blocks_bad(metas: &[u8], addrs: &[u8], n: usize, group_len: usize, groups: usize) -> bool
-    requires { ⌜ GroupLenOk «group_len» × RecordsOk «group_len» (now metas) n × (groups ≡ groupCount «group_len» n) × (groupsBad «group_len» (now metas) (now addrs) n groups ≡ false) ⌝ }
+    requires { ⌜ GroupLenOk «group_len» × GroupRecordsOk «group_len» (now metas) n × (groups ≡ groupCount «group_len» n) × (groupsBad «group_len» (now metas) (now addrs) n groups ≡ false) ⌝ }
     ensures { λ r. ⌜ r ≡ (firstsBad (now (metas .entry)) groups || blocksBad (storeBlock «group_len» (now (metas .entry)) (now (addrs .entry))) n) ⌝ }
 {
     let mut before = BlockAddr {
@@ -118,7 +118,7 @@ fn blocks_bad(metas: &[u8], addrs: &[u8], n: usize, group_len: usize, groups: us
 
 // Rows 15 and 16 over all groups, then over all blocks; 0 where neither is hit.
 pub fn store_no(metas: &[u8], addrs: &[u8], n: usize, group_len: usize) -> u32
-    requires { ⌜ GroupLenOk «group_len» × RecordsOk «group_len» (now metas) n ⌝ }
+    requires { ⌜ GroupLenOk «group_len» × GroupRecordsOk «group_len» (now metas) n ⌝ }
     ensures { λ r. ⌜ r ≡ storeNo «group_len» (now (metas .entry)) (now (addrs .entry)) n ⌝ }
 {
     let groups = crate::write::group_count(n, group_len);

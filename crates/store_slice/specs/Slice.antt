@@ -7,7 +7,7 @@ use lib.ListN.{length}
 use lib.Seq.{sets}
 use Rattle.slope.specs.Slope.{bestSlope}
 use Rattle.group.specs.declared.BlockAddr.{BlockAddr}
-use Rattle.group.specs.Rows.{numbersBad, joinBad, ordinalBad, orElse}
+use Rattle.group.specs.Rows.{numbersBad, joinBad, ordinalBad, orRow}
 use Rattle.store.specs.Store.{storeBytes}
 use Rattle.store_slice.specs.declared.Stored.{Stored}
 
@@ -23,13 +23,13 @@ pairBad bad (b ∷ []) = false
 pairBad bad (b ∷ c ∷ bs) = bad b c || pairBad bad (c ∷ bs)
 
 -- the rows in their order, each over all records before the next: 3, 4, 5, then 7: over 65,536 records
-unfoldable pub recordsNo : List BlockAddr → ℕ
-recordsNo bs =
+unfoldable pub blockListNo : List BlockAddr → ℕ
+blockListNo bs =
     cond (anyBad numbersBad bs) 3 (cond (pairBad joinBad bs) 4 (cond (pairBad ordinalBad bs) 5 (cond (ltb 65536 (length bs)) 7 0)))
 
 -- then 9: the output is shorter than the store
 unfoldable pub sliceNo : List BlockAddr → ℕ → ℕ
-sliceNo bs room = orElse (recordsNo bs) (cond (ltb room (length (storeBytes bestSlope 128 bs))) 9 0)
+sliceNo bs room = orRow (blockListNo bs) (cond (ltb room (length (storeBytes bestSlope 128 bs))) 9 0)
 
 -- the number and the store's length; the store from byte 0 on with the rest as it was, or what was there
 unfoldable pub storedStep : ℕ → List BlockAddr → Stored

@@ -1,6 +1,6 @@
 // Rows 3, 4, 5 and 7 over all records of a slice.
 ghost use mathlib.Core.Path.{_≡_};
-ghost use Rattle.store_slice.specs.Slice.{recordsNo};
+ghost use Rattle.store_slice.specs.Slice.{blockListNo};
 ghost use Rattle.store_slice.specs.Records.{seenNone, seenWith, seenNo};
 use group::BlockAddr;
 
@@ -70,7 +70,7 @@ impl Seen {
 
 // The first row that the records hit, or 0. All of them are looked at.
 pub fn rows_no(blocks: &[BlockAddr]) -> u32
-    ensures { λ r. ⌜ r ≡ recordsNo (now (blocks .entry)) ⌝ }
+    ensures { λ r. ⌜ r ≡ blockListNo (now (blocks .entry)) ⌝ }
 {
     let mut seen = Seen::none();
     let mut i: usize = 0;

@@ -8,7 +8,7 @@ use lib.ListN.{length, getD, set, take, length-set}
 use lib.Seq.{sets, length-take-le}
 use Rattle.automaton.specs.Table.{next}
 use Rattle.keys.specs.Order.{_≺_, _≼_}
-use Rattle.automaton.specs.Words.{run, Word}
+use Rattle.automaton.specs.Words.{run, Accepts}
 use Rattle.automaton.specs.Live.{LiveByte}
 use Rattle.automaton.proofs.Strings.{bytes-of}
 use Rattle.example.proofs.Bounds.{leaving-byte}
@@ -27,7 +27,7 @@ returns c =
       λ z. (
         refl,
         λ m. c .before .first-byte .ensures .1 (search needs)
-            (subst (λ (q : ℕ). LiveByte (a .table .now) q (a .lo) (a .hi)) (sym (s .pre .0 .3)) (leaving-byte 0 p (m .word) (a .lo) (a .hi) (m .hits) (m .good .0) (m .good .1))),
+            (subst (λ (q : ℕ). LiveByte (a .table .now) q (a .lo) (a .hi)) (sym (s .pre .0 .3)) (leaving-byte 0 p (m .string) (a .lo) (a .hi) (m .hits) (m .good .0) (m .good .1))),
       ),
       λ h. absurd (omega arith),
     )
@@ -92,7 +92,7 @@ returns-2 c =
         subst (λ (r : ℕ). Found t (λ w. (take (a .len) (a .key .now) ++ (a .lo ∷ [])) ≼ w) (λ w. w ≺ (take (a .len) (a .key .now) ++ (a .hi ∷ []))) (a .out .now) (tail .last .1 .1 .1 .0) r) {x = a .len + 1 + getD d to 0} (sym (tail .ensures .0))
             (found-leaving t (a .key .now) (a .out .now) (copy .last .1 .0) (a .len) (s .pre .1 .0) (omega (arith, s .pre .1)) (bytes-of (a .key .now) (λ i. omega (arith, acc .before .before .before .before .before .before .before .before .before .shared-slice-known2 .given i))) (copy .ensures .1)
             (byte .result) (a .lo) (a .hi) (getD d to 0) (byte .ensures .0 below .0) below (omega (arith, s .pre .1 .2))
-            (subst (λ (q : ℕ). Word t q (λ v. (length v ≡ getD d to 0) × (tail .last .1 .1 .1 .0 ≡ sets (set (copy .last .1 .0) (a .len) (byte .result)) (a .len + 1) v))) e (tail .ensures .1))),
+            (subst (λ (q : ℕ). Accepts t q (λ v. (length v ≡ getD d to 0) × (tail .last .1 .1 .1 .0 ≡ sets (set (copy .last .1 .0) (a .len) (byte .result)) (a .len + 1) v))) e (tail .ensures .1))),
       ),
     )
 

@@ -3,7 +3,7 @@ use borrow.Author.Needs.{needs}
 use mathlib.Core.Path.{refl}
 use mathlib.Core.Logic.{inl, inr}
 use native.Mathlib.Omega.{arith}
-use Rattle.store.specs.Read.{LocatedIn, LocatedAs}
+use Rattle.store.specs.Read.{OrdFoundIn, OrdFoundAs}
 use Rattle.index.specs.Parts.{blockIn}
 use Rattle.index.specs.Opening.{Opens}
 use Rattle.index.proofs.OpenFacts.{opens-facts}
@@ -24,7 +24,7 @@ binary-search-ord-requires c κs =
 
 -- with one opening the store finds what the definition says
 located : (c : tie.After-binary-search-ord) → Opens (c .before .before .before .before .args .group-len) (c .before .before .before .before .args .«data» .now) (c .before .before .before .before .args .opened)
-    → LocatedAs (blockIn (c .before .before .before .before .args .group-len) (c .before .before .before .before .args .«data» .now)) (c .before .before .before .before .args .opened .n) (c .before .before .before .before .args .ord) (c .binary-search-ord .result)
+    → OrdFoundAs (blockIn (c .before .before .before .before .args .group-len) (c .before .before .before .before .args .«data» .now)) (c .before .before .before .before .args .opened .n) (c .before .before .before .before .args .ord) (c .binary-search-ord .result)
 located c o =
     let s = c .before .before .before .before in
     let a = s .args in
@@ -41,7 +41,7 @@ enum-told-2 : tie.Need-enum-told-2
 enum-told-2 c = search needs
 
 returns : tie.Need-returns
-unfolding LocatedIn LocatedAs
+unfolding OrdFoundIn OrdFoundAs
 returns c =
     let at = c .before in
     let b = at .before .before in
@@ -51,11 +51,11 @@ returns c =
     )
 
 returns-2 : tie.Need-returns-2
-unfolding LocatedAs
+unfolding OrdFoundAs
 returns-2 c = (inr (inl refl, refl, refl), λ o. inr (refl, refl, refl, rw (c .enum-told .given .1) at (located (c .before .before) o)))
 
 returns-3 : tie.Need-returns-3
-unfolding LocatedAs
+unfolding OrdFoundAs
 returns-3 c = (inr (inr refl, refl, refl), λ o. absurd (rw (c .enum-told2 .given .1) at (located (c .before .before) o)))
 
 pub locate-with-ord-spec : {M : Type 1} → statement M
