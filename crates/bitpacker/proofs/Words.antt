@@ -3,7 +3,7 @@ use mathlib.Core.Path.{_≡_, refl, sym, ap, _∙_}
 use Prim.Native.Nat.{ℕ, _+_, _-_, _*_, _/_, _%_, _^_, _≤_, _<_}
 use native.Mathlib.Nat.{add-comm, add-zero, zero-add}
 use native.Mathlib.Omega.{arith}
-use lib.Arith.{digitsOf-lt}
+use lib.Arith.{digits-lt}
 use lib.Bits.{bitOr, or-shifted-r}
 use lib.Pow.{pow-pos, pow-add, mod-pow-add, high, low, shr-shr}
 use Rattle.serialize.specs.Digits.{digitsOf}
@@ -33,7 +33,7 @@ or-word m v f h k =
 
 -- n bits above f bits are n + f bits
 pub join-lt : (v n m f : ℕ) → v < 2 ^ n → m < 2 ^ f → v * 2 ^ f + m < 2 ^ (n + f)
-join-lt v n m f h k = rw pow-add (digitsOf-lt h k)
+join-lt v n m f h k = rw pow-add (digits-lt h k)
 
 -- what waits and a value of n bits have filled + n bits
 pub joined-lt : (m v f n : ℕ) → m < 2 ^ f → v < 2 ^ n → m + v * 2 ^ f < 2 ^ (f + n)

@@ -5,6 +5,7 @@ use mathlib.Core.Bool.{Bool, false, not, _||_, cond}
 use lib.Dec.{eqb, ltb}
 use lib.ListN.{length}
 use lib.Seq.{sets}
+use Rattle.layout.specs.Layout.{storeBlockLen}
 use Rattle.slope.specs.Slope.{bestSlope}
 use Rattle.group.specs.Blocks.{blocksAt}
 use Rattle.group.specs.Rows.{orRow}
@@ -42,11 +43,11 @@ unfoldable pub areaDirectory : SSTableIndexBuilder → List ℕ → List ℕ →
 areaDirectory b B K = cond (ltb (b .n) 2) [] (directoryBytes (areaKeys b B K))
 
 unfoldable pub areaIndex : SSTableIndexBuilder → List ℕ → List ℕ → List ℕ
-areaIndex b B K = cond (ltb (b .n) 2) [] (indexBytes bestSlope 128 (blocksAt B stride 0 (b .n)) (areaKeys b B K))
+areaIndex b B K = cond (ltb (b .n) 2) [] (indexBytes bestSlope storeBlockLen (blocksAt B stride 0 (b .n)) (areaKeys b B K))
 
 -- the index of the plain machine's entries
 abbrev pub indexOfEntries : List Entry → List ℕ
-indexOfEntries es = indexBytes bestSlope 128 (blocksOf es) (separatorsOf es)
+indexOfEntries es = indexBytes bestSlope storeBlockLen (blocksOf es) (separatorsOf es)
 
 -- row 9: output shorter than the result
 unfoldable pub finishNo : SSTableIndexBuilder → List ℕ → List ℕ → List ℕ → ℕ

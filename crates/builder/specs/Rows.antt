@@ -4,6 +4,7 @@ use mathlib.Core.List.{List}
 use mathlib.Core.Bool.{Bool, not, _&&_, _||_, cond}
 use lib.Dec.{eqb, ltb}
 use lib.ListN.{length}
+use Rattle.layout.specs.Layout.{maxBlocks, maxKeyLen}
 use Rattle.keys.specs.Order.{less}
 use Rattle.group.specs.declared.BlockAddr.{BlockAddr}
 use Rattle.group.specs.Rows.{numbersBad, joinBad, ordinalBad, orRow}
@@ -11,17 +12,17 @@ use Rattle.builder.specs.Area.{View, stride}
 
 -- row 1: n > 65,536, 5 × n beyond the area, or last key ends beyond the key area
 unfoldable pub areaBad : View → Bool
-areaBad v = ltb 65536 (v .n) || (ltb (v .room) (stride * v .n) || ltb (v .keyRoom) (v .nextKey))
+areaBad v = ltb maxBlocks (v .n) || (ltb (v .room) (stride * v .n) || ltb (v .keyRoom) (v .nextKey))
 
 -- row 1 isn't hit, in numbers
 pub record AreaOk (v : View) : Type 0 where
-  pub few : v .n ≤ 65536
+  pub few : v .n ≤ maxBlocks
   pub inside : stride * v .n ≤ v .room
   pub within : v .nextKey ≤ v .keyRoom
 
 -- row 2: longer than 1,024
 unfoldable pub keyLong : List ℕ → Bool
-keyLong key = ltb 1024 (length key)
+keyLong key = ltb maxKeyLen (length key)
 
 -- row 6: n > 0 and not above the last separator
 unfoldable pub keyBad : View → List ℕ → Bool
@@ -29,7 +30,7 @@ keyBad v key = ltb 0 (v .n) && not (less (v .lastKey) key)
 
 -- row 7: n = 65,536, or five numbers or the key don't fit
 unfoldable pub roomBad : View → List ℕ → Bool
-roomBad v key = eqb (v .n) 65536 || (ltb (v .room) (stride * v .n + stride) || ltb (v .keyRoom) (v .nextKey + length key))
+roomBad v key = eqb (v .n) maxBlocks || (ltb (v .room) (stride * v .n + stride) || ltb (v .keyRoom) (v .nextKey + length key))
 
 -- rows 2 to 6 for a block with its key behind what is there; 0 where none is hit
 unfoldable pub blockNo : View → List ℕ → BlockAddr → ℕ

@@ -15,9 +15,7 @@ use crate::rows::KEY_LEN;
 use crate::rows::KEY_OFFSET;
 use crate::rows::STRIDE;
 use group::BlockAddr;
-
-// The blocks of a group.
-const STORE_BLOCK_LEN: usize = 128;
+use layout::STORE_BLOCK_LEN;
 
 // Whether some key doesn't start where the one before it ends.
 fn offsets_bad(builder: SSTableIndexBuilder, blocks: &[u64], keys: &[u8]) -> bool

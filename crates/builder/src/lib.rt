@@ -8,6 +8,7 @@ ghost use mathlib.Core.Path.{_≡_};
 ghost use Rattle.builder.specs.Calls.{after, addDef, shortenDef};
 ghost use Rattle.builder.specs.Finish.{finishOf, finishDef, finishLenDef};
 use group::BlockAddr;
+use layout::MAX_KEY_LEN;
 
 pub struct SSTableIndexBuilder {
     pub n: usize,
@@ -63,7 +64,7 @@ impl SSTableIndexBuilder {
         if rows::area_bad(self, blocks, keys) {
             return Answer::Refused(1, self);
         }
-        if next_key.len() > rows::MAX_KEY_LEN {
+        if next_key.len() > MAX_KEY_LEN {
             return Answer::Refused(2, self);
         }
         let common = rows::common_len(self, blocks, keys, next_key);

@@ -7,6 +7,8 @@ ghost use Rattle.builder.specs.Area.{viewOf};
 ghost use Rattle.builder.specs.Rows.{areaBad, AreaOk, keyBad, roomBad, blockNo, addNo};
 use crate::SSTableIndexBuilder;
 use group::BlockAddr;
+use layout::MAX_BLOCKS;
+use layout::MAX_KEY_LEN;
 
 // A block's record: start, end, first ordinal, key offset, key length.
 pub const STRIDE: usize = 5;
@@ -18,10 +20,6 @@ pub const FIRST_ORDINAL: usize = 2;
 pub const KEY_OFFSET: usize = 3;
 
 pub const KEY_LEN: usize = 4;
-
-const MAX_BLOCKS: usize = 65536;
-
-pub const MAX_KEY_LEN: usize = 1024;
 
 // Row 1: whether the builder's count and its last key don't fit the areas.
 pub fn area_bad(builder: SSTableIndexBuilder, blocks: &[u64], keys: &[u8]) -> bool

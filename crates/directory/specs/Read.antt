@@ -5,6 +5,7 @@ use mathlib.Core.List.{List, [], _∷_}
 use mathlib.Core.Bool.{Bool, false, not, _||_, cond}
 use lib.Dec.{eqb, ltb}
 use lib.ListN.{length, take, drop}
+use Rattle.layout.specs.Layout.{maxBlocks, maxKeyLen}
 use Rattle.serialize.specs.Digits.{numberAt}
 use Rattle.keys.specs.Order.{less, _≺_, _≼_}
 use Rattle.directory.specs.declared.read.Found.{Found}
@@ -41,12 +42,12 @@ keyBegin d (suc i) = keyOffset d i + keyLength d i
 -- among the first m pairs one breaks the offsets' rule, or its key is over 1,024
 unfoldable pub pairsBad : List ℕ → ℕ → Bool
 pairsBad d zero = false
-pairsBad d (suc m) = pairsBad d m || (not (eqb (keyOffset d m) (keyBegin d m)) || ltb 1024 (keyLength d m))
+pairsBad d (suc m) = pairsBad d m || (not (eqb (keyOffset d m) (keyBegin d m)) || ltb maxKeyLen (keyLength d m))
 
 -- row 12: n outside 2..65,536, offsets broken, a key over 1,024, or length not exact
 unfoldable pub directoryBad : List ℕ → Bool
 directoryBad d =
-    ltb (length d) 4 || (ltb (countOf d) 2 || (ltb 65536 (countOf d)
+    ltb (length d) 4 || (ltb (countOf d) 2 || (ltb maxBlocks (countOf d)
     || (ltb (length d) (4 + 8 * countOf d) || (pairsBad d (countOf d) || not (eqb (length d) (4 + 8 * countOf d + keyBegin d (countOf d)))))))
 
 -- row 13: among the first m keys of n one isn't above the one before it

@@ -6,12 +6,9 @@ ghost use lib.ListN.{length, take, drop};
 ghost use Rattle.serialize.specs.Digits.{numberAt};
 ghost use Rattle.keys.specs.Order.{less, commonPrefixLen};
 ghost use Rattle.directory.specs.Read.{countOf, keyOffset, keyLength, keyOf, pairsBad, directoryBad, keysBad, directoryNo, keyOutside, Sorted, FoundIn, FoundAs};
-
-const PAIR_LEN: usize = 8;
-
-const MAX_BLOCKS: usize = 65536;
-
-const MAX_KEY_LEN: usize = 1024;
+use layout::MAX_BLOCKS;
+use layout::MAX_KEY_LEN;
+use layout::PAIR_LEN;
 
 // The first key that isn't below the one looked for, that all are below it, or that a key lies outside the bytes.
 pub enum Found {

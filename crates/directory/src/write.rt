@@ -6,9 +6,7 @@ ghost use lib.Seq.{sets};
 ghost use Rattle.directory.specs.Directory.{directoryBytes, pairs, keyBytes};
 ghost use Rattle.directory.specs.Keys.{keysAt};
 ghost use Rattle.directory.specs.Facts.{KeysArea};
-
-// The bytes of a pair of offset and length.
-const PAIR_LEN: usize = 8;
+use layout::PAIR_LEN;
 
 // How many bytes the keys take.
 fn keys_len(area: &[u64], stride: usize, field: usize, keys: &[u8], n: usize) -> usize

@@ -44,13 +44,13 @@ bytes-more (x ∷ w) b h l = (h .0, bytes-more w b (h .1) l)
 
 -- ---- the string written so far leads from state to s, and what is left is as long as s is far
 pub record Sofar (t d old new : List ℕ) (state at s i : ℕ) : Type 0 where
-  pub word : List ℕ
-  pub bytes : Bytes word
-  pub leads : s ≡ run t state word
+  pub string : List ℕ
+  pub bytes : Bytes string
+  pub leads : s ≡ run t state string
   pub small : s < states t
-  pub ends : i ≡ at + length word
-  pub left : length word + getD d s 0 ≡ getD d state 0
-  pub put : new ≡ sets old at word
+  pub ends : i ≡ at + length string
+  pub left : length string + getD d s 0 ≡ getD d state 0
+  pub put : new ≡ sets old at string
 
 module _ {t d old : List ℕ} where
   pub sofar-none : (state at : ℕ) → state < states t → Sofar t d old old state at state at

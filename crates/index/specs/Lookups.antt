@@ -6,6 +6,7 @@ use mathlib.Core.Logic.{_⊎_}
 use mathlib.Core.Bool.{Bool, _||_, cond}
 use lib.Dec.{ltb, leb}
 use lib.ListN.{length, take, drop}
+use Rattle.layout.specs.Layout.{maxBlocks, metaLen}
 use Rattle.keys.specs.Order.{_≺_}
 use Rattle.group.specs.declared.BlockAddr.{BlockAddr}
 use Rattle.group.specs.Legal.{NumbersOk}
@@ -20,19 +21,19 @@ use Rattle.index.specs.declared.Place.the-variants.{Part, Missing}
 -- row 20 for the record: n that no index has, a place that doesn't fit `len` bytes, or fewer group records than n blocks have
 unfoldable pub openedBad : ℕ → SSTableIndexV3 → ℕ → Bool
 openedBad L opened len =
-    ltb (opened .n) 1 || (ltb 65536 (opened .n)
+    ltb (opened .n) 1 || (ltb maxBlocks (opened .n)
     || (ltb len (opened .directory + opened .«directory_len»)
     || (ltb len (opened .metas + opened .«metas_len»)
-    || (ltb len (opened .addrs + opened .«addrs_len») || ltb (opened .«metas_len») (36 * groupCount L (opened .n))))))
+    || (ltb len (opened .addrs + opened .«addrs_len») || ltb (opened .«metas_len») (metaLen * groupCount L (opened .n))))))
 
 -- a record that doesn't hit it, in numbers
 pub record OpenedFits (L : ℕ) (opened : SSTableIndexV3) (len : ℕ) : Type 0 where
   pub some : 1 ≤ opened .n
-  pub few : opened .n ≤ 65536
+  pub few : opened .n ≤ maxBlocks
   pub directory : opened .directory + opened .«directory_len» ≤ len
   pub metas : opened .metas + opened .«metas_len» ≤ len
   pub addrs : opened .addrs + opened .«addrs_len» ≤ len
-  pub records : 36 * groupCount L (opened .n) ≤ opened .«metas_len»
+  pub records : metaLen * groupCount L (opened .n) ≤ opened .«metas_len»
 
 -- the directory that a record names
 abbrev pub directoryAt : SSTableIndexV3 → List ℕ → List ℕ

@@ -5,6 +5,7 @@ use mathlib.Core.List.{List}
 use mathlib.Core.Bool.{Bool, not, _||_, cond}
 use lib.Dec.{eqb, ltb}
 use lib.ListN.{length}
+use Rattle.layout.specs.Layout.{metaLen}
 use Rattle.group.specs.Rows.{orRow}
 use Rattle.store.specs.Store.{groupCount}
 use Rattle.store.specs.Check.{storeNo}
@@ -20,7 +21,7 @@ footerNo f = cond (ltb (length f) 8) 10 (cond (eqb (directoryLen f) 0) 11 (cond 
 
 -- row 14: records' length not 36 × groups, or beyond the store
 unfoldable pub groupRecordsBad : ℕ → List ℕ → Bool
-groupRecordsBad L f = not (eqb (groupRecordsLen f) (36 * groupCount L (countIn f))) || ltb (storeLen f) (8 + groupRecordsLen f)
+groupRecordsBad L f = not (eqb (groupRecordsLen f) (metaLen * groupCount L (countIn f))) || ltb (storeLen f) (8 + groupRecordsLen f)
 
 -- the rows in their order; 0 where none is hit
 unfoldable pub openNo : ℕ → List ℕ → ℕ

@@ -8,9 +8,7 @@ ghost use Rattle.index.specs.Opening.{openDef, Opens};
 ghost use Rattle.index.specs.Answers.{byIdNo, byIdAddr, locatedNo, locatedId, locatedAddr, idNo, idOf, partAt};
 ghost use Rattle.index.specs.Lookups.{ByIdAllowed, ByIdExact, LocatedAllowed, ByOrdExact, ByKeyAllowed, ByKeyExact, AddrByKeyExact, placeDef};
 use group::BlockAddr;
-
-// The blocks of a group.
-pub const STORE_BLOCK_LEN: usize = 128;
+use layout::STORE_BLOCK_LEN;
 
 // An opened index: how many blocks, and where its parts stand in the bytes.
 pub struct SSTableIndexV3 {

@@ -8,10 +8,9 @@ ghost use Rattle.index.specs.Parts.{directoryLen, directoryPart, countIn
 ghost use Rattle.index.specs.Opening.{footerNo, groupRecordsBad, openDef};
 use crate::Loaded;
 use crate::SSTableIndexV3;
+use layout::META_LEN;
 
 const FOOTER_LEN: usize = 8;
-
-const META_LEN: usize = 36;
 
 // Rows 10 and 11.
 fn footer_no(data: &[u8]) -> u32

@@ -15,12 +15,9 @@ use crate::Place;
 use crate::SSTableIndexV3;
 use directory::read::Found;
 use group::BlockAddr;
-
-const MAX_BLOCKS: usize = 65536;
-
-const META_LEN: usize = 36;
-
-const PAIR_LEN: usize = 8;
+use layout::MAX_BLOCKS;
+use layout::META_LEN;
+use layout::PAIR_LEN;
 
 // Whether a part lies outside `len` bytes.
 fn part_outside(offset: usize, part_len: usize, len: usize) -> bool

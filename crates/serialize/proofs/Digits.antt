@@ -5,7 +5,7 @@ use Prim.Native.Nat.{ℕ, zero, suc, _+_, _-_, _*_, _/_, _%_, _^_, _≤_, _<_}
 use native.Mathlib.Nat.{mul-suc, mul-assoc, mul-comm, div-one, zero-div, zero-mod, mod-one, mod-lt, mod-eq-of-lt, div-div-eq-div-mul, add-zero, add-mul, add-assoc, mul-one, mul-zero, zero-mul, zero-add, suc-add, not-suc-le-zero, le-of-suc-le-suc}
 use native.Mathlib.Omega.{arith}
 use native.Mathlib.Numerals.{add-one, sub-one}
-use lib.Arith.{digitsOf-div, digitsOf-mod, mod-mul}
+use lib.Arith.{digits-div, digits-mod, mod-mul}
 use lib.ListN.{length, take, drop, getD, set}
 use lib.Seq.{getD-drop, sets, take-length}
 use lib.Pow.{pow-add, pow-pos, field, mod-mod-pow}
@@ -31,7 +31,7 @@ ofDigits-drop k zero l h = rw (mul-zero k) (sym (div-one (ofDigits k l)))
 ofDigits-drop k (suc n) [] h = sym (zero-div (2 ^ (k * suc n)))
 ofDigits-drop k (suc n) (x ∷ xs) h =
     ofDigits-drop k n xs (λ i. h (suc i))
-    ∙ ap (λ (m : ℕ). m / 2 ^ (k * n)) (sym (digitsOf-div (ofDigits k xs) (h 0)))
+    ∙ ap (λ (m : ℕ). m / 2 ^ (k * n)) (sym (digits-div (ofDigits k xs) (h 0)))
     ∙ div-div-eq-div-mul (ofDigits k xs * 2 ^ k + x) (2 ^ k) (2 ^ (k * n))
     ∙ ap (λ (m : ℕ). (ofDigits k xs * 2 ^ k + x) / m) (mul-comm (2 ^ k) (2 ^ (k * n)) ∙ sym (pow-mul-suc k n))
 
@@ -42,8 +42,8 @@ ofDigits-take k zero l h = rw (mul-zero k) (sym (mod-one (ofDigits k l)))
 ofDigits-take k (suc n) [] h = sym (zero-mod (2 ^ (k * suc n)))
 ofDigits-take k (suc n) (x ∷ xs) h =
     ap₂ (λ (a b : ℕ). a * 2 ^ k + b)
-    (ofDigits-take k n xs (λ i. h (suc i)) ∙ ap (λ (m : ℕ). m % 2 ^ (k * n)) (sym (digitsOf-div (ofDigits k xs) (h 0))))
-    (sym (digitsOf-mod (ofDigits k xs) (h 0)))
+    (ofDigits-take k n xs (λ i. h (suc i)) ∙ ap (λ (m : ℕ). m % 2 ^ (k * n)) (sym (digits-div (ofDigits k xs) (h 0))))
+    (sym (digits-mod (ofDigits k xs) (h 0)))
     ∙ sym (mod-mul (ofDigits k xs * 2 ^ k + x) (pow-pos (k * n)) (pow-pos k))
     ∙ ap (λ (m : ℕ). (ofDigits k xs * 2 ^ k + x) % m) (sym (pow-mul-suc k n))
 
@@ -93,8 +93,8 @@ pub digitsOf-ofDigits : (k : ℕ) (l : List ℕ) → DigitsBelow k l → digitsO
 unfolding ofDigits digitsOf
 digitsOf-ofDigits k [] h = refl
 digitsOf-ofDigits k (x ∷ xs) h =
-    ap₂ (λ (d : ℕ) (ds : List ℕ). d ∷ ds) (digitsOf-mod (ofDigits k xs) (h 0))
-    (ap (digitsOf k (length xs)) (digitsOf-div (ofDigits k xs) (h 0)) ∙ digitsOf-ofDigits k xs (λ i. h (suc i)))
+    ap₂ (λ (d : ℕ) (ds : List ℕ). d ∷ ds) (digits-mod (ofDigits k xs) (h 0))
+    (ap (digitsOf k (length xs)) (digits-div (ofDigits k xs) (h 0)) ∙ digitsOf-ofDigits k xs (λ i. h (suc i)))
 
 -- equal digits mean equal numbers
 pub digitsOf-inj : (k w u v : ℕ) → u < 2 ^ (k * w) → v < 2 ^ (k * w) → digitsOf k w u ≡ digitsOf k w v → u ≡ v

@@ -4,6 +4,7 @@ use mathlib.Core.Path.{_≡_}
 use mathlib.Core.List.{List}
 use mathlib.Core.Bool.{Bool, false, _||_, cond}
 use lib.ListN.{length, drop}
+use Rattle.layout.specs.Layout.{metaLen}
 use Rattle.serialize.specs.Digits.{leVal}
 use Rattle.group.specs.declared.BlockAddr.{BlockAddr}
 use Rattle.group.specs.declared.BlockAddrBlockMetadata.{BlockAddrBlockMetadata}
@@ -19,7 +20,7 @@ use Rattle.store.specs.declared.OrdFound.the-variants.{At, Below, Broken
 
 -- the record of group g
 abbrev pub groupMeta : List ℕ → ℕ → BlockAddrBlockMetadata
-groupMeta recs g = metaAt recs (36 * g)
+groupMeta recs g = metaAt recs (metaLen * g)
 
 -- how many of n blocks group g has
 abbrev pub groupLen : ℕ → ℕ → ℕ → ℕ

@@ -3,6 +3,7 @@
 use Prim.Native.Nat.{ℕ, zero, suc, _+_, _-_, _*_, _/_}
 use mathlib.Core.List.{List, [], _∷_, _++_}
 use lib.ListN.{length, take, drop}
+use Rattle.layout.specs.Layout.{metaLen}
 use Rattle.serialize.specs.Digits.{leBytes}
 use Rattle.group.specs.declared.BlockAddr.{BlockAddr}
 use Rattle.group.specs.Meta.{metaBytes}
@@ -35,5 +36,5 @@ addrs choose L (suc k) bs = groupAddrs choose (take L bs) ++ addrs choose L k (d
 -- the store of blocks, 0 and 1 included
 unfoldable pub storeBytes : (List ℕ → ℕ) → ℕ → List BlockAddr → List ℕ
 storeBytes choose L bs =
-    leBytes 8 (36 * groupCount L (length bs))
+    leBytes 8 (metaLen * groupCount L (length bs))
     ++ (groupRecords choose L (groupCount L (length bs)) 0 bs ++ addrs choose L (groupCount L (length bs)) bs)

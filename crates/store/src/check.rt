@@ -14,10 +14,10 @@ ghost use Rattle.store.specs.Check.{groupsBad, firstsBad, blocksBad, sto
 ghost use Rattle.store.specs.Facts.{GroupLenOk, GroupRecordsOk};
 ghost use Rattle.store.specs.declared.Got.the-variants.{Block, Broken};
 use crate::Got;
-use crate::read::META_LEN;
 use group::BlockAddr;
 use group::BlockAddrBlockMetadata;
 use group::rows::LIMIT;
+use layout::META_LEN;
 
 // Row 15: whether one of the groups breaks its rule.
 fn groups_bad(metas: &[u8], addrs: &[u8], n: usize, group_len: usize, groups: usize) -> bool

@@ -12,8 +12,8 @@ use crate::Got;
 use crate::OrdFound;
 use group::BlockAddr;
 use group::BlockAddrBlockMetadata;
+use layout::META_LEN;
 
-pub const META_LEN: usize = 36;
 // The place of the first ordinal in a group record.
 const FIRST_ORDINAL: usize = 16;
 

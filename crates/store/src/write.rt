@@ -10,9 +10,7 @@ ghost use Rattle.store.specs.Store.{groupCount, groupRecord, groupAddrs,
 ghost use Rattle.store.specs.Answers.{storeAnswer, storeOut};
 ghost use Rattle.store.specs.Facts.{GroupLenOk, StoreArea};
 use crate::Serialized;
-
-// The bytes of a group record.
-const META_LEN: usize = 36;
+use layout::META_LEN;
 
 // How many groups n blocks make.
 pub fn group_count(n: usize, group_len: usize) -> usize

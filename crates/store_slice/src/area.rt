@@ -8,13 +8,11 @@ ghost use Rattle.store_slice.specs.Slice.{blockListNo, sliceStored, slic
 ghost use Rattle.store_slice.specs.Records.{numbersOf};
 use crate::Stored;
 use group::BlockAddr;
+use layout::STORE_BLOCK_LEN;
 use store::Serialized;
 
 // The numbers of a record.
 const STRIDE: usize = 3;
-
-// The blocks of a group.
-const STORE_BLOCK_LEN: usize = 128;
 
 // Copies the records out to the front of the area.
 pub fn copy_out(blocks: &[BlockAddr], area: &mut [u64])

@@ -12,15 +12,11 @@ ghost use Rattle.store_slice.specs.Numbers.{blockOfNumbers, blocksOfNumb
 use crate::Stored;
 use crate::rows::Seen;
 use group::BlockAddr;
+use layout::META_LEN;
+use layout::STORE_BLOCK_LEN;
 
 // The numbers of a record.
 const STRIDE: usize = 3;
-
-// The blocks of a group.
-const STORE_BLOCK_LEN: usize = 128;
-
-// The bytes of a group record.
-const META_LEN: usize = 36;
 
 fn record_of(numbers: [u64; 3]) -> BlockAddr
     ensures { λ r. ⌜ r ≡ blockOfNumbers numbers ⌝ }

@@ -3,9 +3,7 @@ ghost use mathlib.Core.Path.{_≡_};
 ghost use Rattle.store_slice.specs.Slice.{blockListNo};
 ghost use Rattle.store_slice.specs.Records.{seenNone, seenWith, seenNo};
 use group::BlockAddr;
-
-// The most records that a store has.
-const MAX_BLOCKS: usize = 65_536;
+use layout::MAX_BLOCKS;
 
 // Whether records seen so far break rows 3, 4 and 5, and the last of them, if there is some.
 pub struct Seen {

@@ -69,11 +69,11 @@ add-i c = search needs
 inside-requires : tie.Need-inside-requires Inv-loop μ-loop
 inside-requires c κs = search needs
 
-lowerPoint-with-requires : tie.Need-lower-with-requires Inv-loop μ-loop
-lowerPoint-with-requires c κs = search needs
+lower-with-requires : tie.Need-lower-with-requires Inv-loop μ-loop
+lower-with-requires c κs = search needs
 
-higherPoint-with-requires : tie.Need-higher-with-requires Inv-loop μ-loop
-higherPoint-with-requires c κs = search needs
+higher-with-requires : tie.Need-higher-with-requires Inv-loop μ-loop
+higher-with-requires c κs = search needs
 
 add-j : tie.Need-add-j Inv-loop μ-loop
 add-j c = search needs
@@ -117,8 +117,8 @@ best-slope-spec =
     sub-v
     add-i
     inside-requires
-    lowerPoint-with-requires
-    higherPoint-with-requires
+    lower-with-requires
+    higher-with-requires
     add-j
     loop-less
     loop-again

@@ -25,6 +25,6 @@ higher-requires c κs = search needs
 returns-3 : tie.Need-returns-3
 returns-3 c = higherPoint-new _ (c .before .new .result) (c .higher .result) _ _ (c .before .new .ensures) (c .higher .ensures)
 
-pub higherPoint-with-spec : {M : Type 1} → statement M
-higherPoint-with-spec =
+pub higher-with-spec : {M : Type 1} → statement M
+higher-with-spec =
     tie.close (tie.spec mul-at returns returns-2 new-requires higher-requires returns-3)

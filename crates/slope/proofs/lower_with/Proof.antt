@@ -28,6 +28,6 @@ lower-requires c κs = search needs
 returns-3 : tie.Need-returns-3
 returns-3 c = lowerPoint-new _ (c .before .new .result) (c .lower .result) _ _ (c .before .new .ensures) (c .lower .ensures)
 
-pub lowerPoint-with-spec : {M : Type 1} → statement M
-lowerPoint-with-spec =
+pub lower-with-spec : {M : Type 1} → statement M
+lower-with-spec =
     tie.close (tie.spec mul-at add-if2 returns returns-2 new-requires lower-requires returns-3)
