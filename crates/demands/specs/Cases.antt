@@ -1,4 +1,4 @@
--- The cases that document 01 marks in "Worked by hand", in its order, as one claim over one list of calls. Bytes stand as decimals.
+-- The marked worked cases, in their order, as one claim over one list of calls. Bytes stand as decimals.
 use Prim.Native.Nat.{ℕ, _+_, _*_, _^_, _≤_}
 use mathlib.Core.Path.{_≡_}
 use mathlib.Core.Bool.{Bool, true, false}
@@ -11,15 +11,20 @@ use Rattle.group.specs.declared.BlockAddr.{BlockAddr}
 use Rattle.group.specs.declared.BlockAddrBlockMetadata.{BlockAddrBlockMetadata}
 use Rattle.group.specs.Write.{rangeValues, ordinalValues, fields, metaOf, groupNumber}
 use Rattle.group.specs.Blocks.{noBlock}
+use Rattle.layout.specs.Layout.{storeBlockLen}
 use Rattle.store.specs.Store.{addrs, storeBytes}
-use Rattle.builder.specs.Calls.{After}
-use Rattle.builder.specs.Plain.{Call, add, blocksOf, separatorsOf, runNumbers}
+use Rattle.builder.specs.Calls.{State}
+use Rattle.builder.specs.Index.{standard}
+use Rattle.machine.specs.Plain.{Call, add, blocksOf, separatorsOf}
+use Rattle.machine.specs.Runs.{Fresh, runNumbers, finishedAfter}
 use Rattle.automaton.specs.Bits.{Exactly}
 use Rattle.automaton.specs.Table.{tableNo}
 use Rattle.automaton.specs.Words.{Hits}
 use Rattle.pruning.specs.Interval.{Marked}
+use Rattle.index.specs.declared.SSTableIndexV3.{SSTableIndexV3}
 use Rattle.index.specs.Opening.{Opens, openedOf}
-use Rattle.demands.specs.Demand3.{GetBlock, LocateWithOrd, entries, finished, index}
+use Rattle.index.specs.Lookups.{GetBlock, LocateWithOrd}
+use Rattle.demands.specs.Demand3.{entriesAfter, indexAfter}
 
 -- ---- the list
 
@@ -38,8 +43,8 @@ abbrev pub workedCalls : List Call
 workedCalls = add (98 ∷ []) block0 ∷ add (100 ∷ []) block1 ∷ add (102 ∷ []) block2 ∷ []
 
 -- a fresh builder with room for them in its areas, and for the index in the output
-pub record Room (fresh : After) (out : List ℕ) : Type 0 where
-  pub fresh-builder : fresh .builder .n ≡ 0
+pub record Room (fresh : State) (out : List ℕ) : Type 0 where
+  pub fresh-builder : Fresh fresh
   pub blocks : 15 ≤ length (fresh .blocks)
   pub keys : 3 ≤ length (fresh .keys)
   pub output : 85 ≤ length out
@@ -78,11 +83,18 @@ onlyEmpty = 2 ∷ 1 ∷ 0 ∷ replicate 512 1
 
 -- ---- the cases
 
-pub record Worked (fresh : After) (out : List ℕ) : Type 0 where
+-- the index that finish makes of the list, and its opened record
+abbrev pub workedIndex : State → List ℕ → List ℕ
+workedIndex fresh out = indexAfter standard workedCalls fresh out
+
+abbrev pub workedOpened : State → List ℕ → SSTableIndexV3
+workedOpened fresh out = openedOf (workedIndex fresh out)
+
+pub record Worked (fresh : State) (out : List ℕ) : Type 0 where
   -- the three adds are taken, and are the blocks and separators
   pub taken : runNumbers workedCalls fresh ≡ 0 ∷ 0 ∷ 0 ∷ []
-  pub blocks : blocksOf (entries workedCalls fresh) ≡ block0 ∷ block1 ∷ block2 ∷ []
-  pub separators : separatorsOf (entries workedCalls fresh) ≡ (98 ∷ []) ∷ (100 ∷ []) ∷ (102 ∷ []) ∷ []
+  pub blocks : blocksOf (entriesAfter workedCalls fresh) ≡ block0 ∷ block1 ∷ block2 ∷ []
+  pub separators : separatorsOf (entriesAfter workedCalls fresh) ≡ (98 ∷ []) ∷ (100 ∷ []) ∷ (102 ∷ []) ∷ []
   -- range slope 11 width 3, ordinal slope 5 width 2
   pub range-slope : group .«range_start_slope» ≡ 11
   pub range-width : group .«range_start_nbits» ≡ 3
@@ -92,24 +104,24 @@ pub record Worked (fresh : After) (out : List ℕ) : Type 0 where
   pub five-fields : inTurn rangeFields ordinalFields ≡ 3 ∷ 1 ∷ 7 ∷ 1 ∷ 1 ∷ []
   pub bits : groupNumber group block0 (block1 ∷ block2 ∷ []) ≡ 3 + 2 ^ 3 * (1 + 2 ^ 2 * (7 + 2 ^ 3 * (1 + 2 ^ 2 * 1)))
   -- address bytes EB 05; store 46 bytes
-  pub address-bytes : addrs bestSlope 128 1 (blocksOf (entries workedCalls fresh)) ≡ 235 ∷ 5 ∷ []
-  pub store : length (storeBytes bestSlope 128 (blocksOf (entries workedCalls fresh))) ≡ 46
+  pub address-bytes : addrs bestSlope storeBlockLen 1 (blocksOf (entriesAfter workedCalls fresh)) ≡ 235 ∷ 5 ∷ []
+  pub store : length (storeBytes bestSlope storeBlockLen (blocksOf (entriesAfter workedCalls fresh))) ≡ 46
   -- with keys 62, 64, 66 the index has 85; finish returns them, and they open
-  pub accepted : finished workedCalls fresh out .no ≡ 0
-  pub total : finished workedCalls fresh out .total ≡ 85
-  pub index-bytes : length (index workedCalls fresh out) ≡ 85
-  pub opens : Opens 128 (index workedCalls fresh out) (openedOf (index workedCalls fresh out))
+  pub accepted : finishedAfter standard workedCalls fresh out .no ≡ 0
+  pub total : finishedAfter standard workedCalls fresh out .total ≡ 85
+  pub index-bytes : length (workedIndex fresh out) ≡ 85
+  pub opens : Opens (workedIndex fresh out) (workedOpened fresh out)
   -- there: id 2 gives 25..30, id 3 gives 17
-  pub id-2 : (k : ℕ) (addr : BlockAddr) → GetBlock (index workedCalls fresh out) (openedOf (index workedCalls fresh out)) 2 k addr
+  pub id-2 : (k : ℕ) (addr : BlockAddr) → GetBlock (workedIndex fresh out) (workedOpened fresh out) 2 k addr
       → (k ≡ 0) × (addr ≡ block2)
-  pub id-3 : (k : ℕ) (addr : BlockAddr) → GetBlock (index workedCalls fresh out) (openedOf (index workedCalls fresh out)) 3 k addr
+  pub id-3 : (k : ℕ) (addr : BlockAddr) → GetBlock (workedIndex fresh out) (workedOpened fresh out) 3 k addr
       → (k ≡ 17) × (addr ≡ noBlock)
   -- ordinals 3, 4, 1,000,000 give blocks 0, 1, 2
-  pub ordinal-3 : (k id : ℕ) (addr : BlockAddr) → LocateWithOrd (index workedCalls fresh out) (openedOf (index workedCalls fresh out)) 3 k id addr
+  pub ordinal-3 : (k id : ℕ) (addr : BlockAddr) → LocateWithOrd (workedIndex fresh out) (workedOpened fresh out) 3 k id addr
       → (k ≡ 0) × (id ≡ 0) × (addr ≡ block0)
-  pub ordinal-4 : (k id : ℕ) (addr : BlockAddr) → LocateWithOrd (index workedCalls fresh out) (openedOf (index workedCalls fresh out)) 4 k id addr
+  pub ordinal-4 : (k id : ℕ) (addr : BlockAddr) → LocateWithOrd (workedIndex fresh out) (workedOpened fresh out) 4 k id addr
       → (k ≡ 0) × (id ≡ 1) × (addr ≡ block1)
-  pub ordinal-1000000 : (k id : ℕ) (addr : BlockAddr) → LocateWithOrd (index workedCalls fresh out) (openedOf (index workedCalls fresh out)) 1000000 k id addr
+  pub ordinal-1000000 : (k id : ℕ) (addr : BlockAddr) → LocateWithOrd (workedIndex fresh out) (workedOpened fresh out) 1000000 k id addr
       → (k ≡ 0) × (id ≡ 2) × (addr ≡ block2)
   -- point (1, 2^40): slope 0, width 42
   pub point-slope : bestSlope (2 ^ 40 ∷ []) ≡ 0

@@ -11,15 +11,20 @@ ghost use lib.ListN.{length};
 ghost use Rattle.replay.specs.Replay.{replayNo, Replayed};
 use cells::WIDTH;
 
-// 26: the bytes aren't a list; 27: the answers have no room.
+// This function's own numbers: the bytes aren't a list, and the answers have no room.
+const NO_LIST: u32 = 101;
+
+const NO_ROOM: u32 = 102;
+
+// The first of them that is hit, or 0.
 fn replay_no(calls: &[u8], room: usize) -> u32
     ensures { λ r. ⌜ r ≡ replayNo (now (calls .entry)) room ⌝ }
 {
     if format::list_bad(calls) {
-        return 26;
+        return NO_LIST;
     }
     if room < WIDTH * (format::call_count(calls) + 2 + format::question_count(calls)) {
-        return 27;
+        return NO_ROOM;
     }
     0
 }

@@ -31,7 +31,7 @@ room c =
     omega (arith, c .before .loop .inv .answers, s .pre .1, c .before .before .call-count .ensures .0)
 
 call-count-requires : tie.Need-call-count-requires Inv-loop μ-loop
-call-count-requires c κs = list-ok (c .before .before .before .before .args .list .now) (c .before .before .before .before .pre .0) .counts
+call-count-requires c κs = list-ok (c .before .before .before .before .args .list .now) (c .before .before .before .before .pre .0) .head
 
 loop-holds : tie.Need-loop-holds Inv-loop μ-loop
 loop-holds c = left-start _ _ _ _ _ (c .call-count .ensures .0)
