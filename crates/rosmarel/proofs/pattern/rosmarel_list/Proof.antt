@@ -9,8 +9,8 @@ opened-at-requires c κs = search needs
 get-block-for-automaton-requires : tie.Need-get-block-for-automaton-requires
 get-block-for-automaton-requires c κs = search needs
 
-enum-known-countOnes : tie.Need-enum-known-countOnes
-enum-known-countOnes c = search needs
+enum-known-ones : tie.Need-enum-known-ones
+enum-known-ones c = search needs
 
 enum-known-no : tie.Need-enum-known-no
 enum-known-no c = search needs
@@ -21,7 +21,7 @@ same-length c = search needs
 returns : tie.Need-returns
 returns c =
     let g = c .before .before .before .before .before in
-    rw (g .before .before .opened-at .ensures, c .before .countOnes .given .1) at (g .get-block-for-automaton .ensures)
+    rw (g .before .before .opened-at .ensures, c .before .ones .given .1) at (g .get-block-for-automaton .ensures)
 
 same-length-2 : tie.Need-same-length-2
 same-length-2 c = search needs
@@ -37,7 +37,7 @@ rosmarel-list-spec =
     (tie.spec
     opened-at-requires
     get-block-for-automaton-requires
-    enum-known-countOnes
+    enum-known-ones
     enum-known-no
     same-length
     returns
