@@ -115,8 +115,8 @@ number c =
     let n = read .before .before .before in
     let records = records-ok L f (good (read .before)) in
     c .store-no .ensures
-    ∙ ap₂ (λ (r l : List ℕ). storeNo L r l (n .deserialize-u32 .result)) (metas-part L f d m (footer s) (s .pre .2) groupRecords (read .deserialize-u64 .ensures))
-    (addrs-part L f d m (footer s) (s .pre .2) groupRecords (read .deserialize-u64 .ensures))
+    ∙ ap₂ (λ (r l : List ℕ). storeNo L r l (n .deserialize-u32 .result)) (metas-part L f d m (footer s) (s .pre .2) records (read .deserialize-u64 .ensures))
+    (addrs-part L f d m (footer s) (s .pre .2) records (read .deserialize-u64 .ensures))
     ∙ ap (storeNo L (groupRecordsPart f) (addrsPart f)) (count n)
     ∙ open-store L f (s .pre .1) (s .pre .3) (good (read .before))
 
