@@ -1,107 +1,109 @@
--- `builder::finish::rule_bad` meets its contract: record i and its key lie inside the areas.
 use borrow.Author.Needs.{needs}
-use Prim.Native.Nat.{_+_, _≤_}
-use native.Mathlib.Nat.{add-sub-cancel-left}
-use native.Mathlib.Omega.{arith}
-use lib.ListN.{length}
-use Rattle.builder.specs.Area.{areaKeyOffset, areaKeyLen, areaView}
-use Rattle.builder.proofs.Row8.{next-one}
 use Rattle.builder.proofs.finish.rule_bad.Statement.{statement}
 use Rattle.builder.proofs.finish.rule_bad.Tie as tie
+use Rattle.builder.proofs.finish.rule_bad.Reads as reads
+use Rattle.builder.proofs.finish.rule_bad.Lts as lts
+use Rattle.builder.proofs.SSTableIndexBuilder.new.Reads as new-reads
+use Rattle.builder.proofs.rows.block_no.Reads as block-no-reads
 
--- key i ends inside the key area
-inside : (c : tie.Start) → let a = c .args in areaKeyOffset (a .blocks .now) (a .i) + areaKeyLen (a .blocks .now) (a .i) ≤ length (a .keys .now)
-unfolding areaView
-inside c = omega (arith, c .pre .1 .within, next-one (c .args .blocks .now) (c .args .keys .now) (c .args .i))
-
+-- src/finish.rt:52:14
 mul-at : tie.Need-mul-at
-unfolding areaView
-mul-at c = search needs
+mul-at c = ?
 
-mul-t8 : tie.Need-mul-t8
-unfolding areaView
-mul-t8 c = search needs
+-- src/finish.rt:54:16
+mul-t9 : tie.Need-mul-t9
+mul-t9 c = ?
 
-shared-slice-read-t10 : tie.Need-shared-slice-read-t10
-unfolding areaView
-shared-slice-read-t10 c = search needs
+-- src/finish.rt:54:16
+shared-slice-read-t11 : tie.Need-shared-slice-read-t11
+shared-slice-read-t11 c = ?
 
-add-t11 : tie.Need-add-t11
-unfolding areaView
-add-t11 c = search needs
+-- src/finish.rt:55:21
+add-t12 : tie.Need-add-t12
+add-t12 c = ?
 
-mul-t12 : tie.Need-mul-t12
-unfolding areaView
-mul-t12 c = search needs
+-- src/finish.rt:55:14
+mul-t13 : tie.Need-mul-t13
+mul-t13 c = ?
 
-shared-slice-read-t14 : tie.Need-shared-slice-read-t14
-unfolding areaView
-shared-slice-read-t14 c = search needs
+-- src/finish.rt:55:14
+shared-slice-read-t15 : tie.Need-shared-slice-read-t15
+shared-slice-read-t15 c = ?
 
+-- src/finish.rt:56:31
 add-from : tie.Need-add-from
-unfolding areaView
-add-from c = search needs
+add-from c = ?
 
+-- src/finish.rt:56:24
 mul-from : tie.Need-mul-from
-unfolding areaView
-mul-from c = search needs
+mul-from c = ?
 
+-- src/finish.rt:56:24
 shared-slice-read-from : tie.Need-shared-slice-read-from
-unfolding areaView
-shared-slice-read-from c = search needs
+shared-slice-read-from c = ?
 
+-- src/finish.rt:58:23
 add-from-2 : tie.Need-add-from-2
-unfolding areaView
-add-from-2 c = search needs
+add-from-2 c = ?
 
+-- src/finish.rt:58:16
 mul-from-2 : tie.Need-mul-from-2
-unfolding areaView
-mul-from-2 c = search needs
+mul-from-2 c = ?
 
+-- src/finish.rt:58:16
 shared-slice-read-from-2 : tie.Need-shared-slice-read-from-2
-unfolding areaView
-shared-slice-read-from-2 c = search needs
+shared-slice-read-from-2 c = ?
 
+-- src/finish.rt:59:29
 add-end : tie.Need-add-end
-unfolding areaView
-add-end c = search needs
+add-end c = ?
 
+-- src/finish.rt:59:22
 mul-end : tie.Need-mul-end
-unfolding areaView
-mul-end c = search needs
+mul-end c = ?
 
+-- src/finish.rt:59:22
 shared-slice-read-end : tie.Need-shared-slice-read-end
-unfolding areaView
-shared-slice-read-end c = search needs
+shared-slice-read-end c = ?
 
+-- src/finish.rt:59:15
 add-end-2 : tie.Need-add-end-2
-add-end-2 c = omega (arith, inside (c .before .before .before .before .before .before .before))
+add-end-2 c = ?
 
-sub-block-no : tie.Need-sub-block-no
-sub-block-no c = search needs
+-- src/finish.rt:60:15
+sub-key : tie.Need-sub-key
+sub-key c = search needs
 
-part-block-no-start : tie.Need-part-block-no-start
-part-block-no-start c = search needs
+-- src/finish.rt:60:15
+part-key-start : tie.Need-part-key-start
+part-key-start c = search needs
 
-part-block-no-end : tie.Need-part-block-no-end
-part-block-no-end c = omega (arith, inside (c .before .before .before .before .before .before .before))
+-- src/finish.rt:60:15
+part-key-end : tie.Need-part-key-end
+part-key-end c = ?
 
+-- src/finish.rt:61:27
+new-requires : tie.Need-new-requires
+new-requires c κs = search needs
+
+-- src/finish.rt:61:5
 block-no-requires : tie.Need-block-no-requires
-block-no-requires c κs = search needs
+block-no-requires c κs = ?
 
+-- src/finish.rt:46:1
 returns : tie.Need-returns
-returns c = simp (c .block-no .ensures, add-sub-cancel-left)
+returns c = ?
 
 pub rule-bad-spec : {M : Type 1} → statement M
 rule-bad-spec =
     tie.close
     (tie.spec
     mul-at
-    mul-t8
-    shared-slice-read-t10
-    add-t11
-    mul-t12
-    shared-slice-read-t14
+    mul-t9
+    shared-slice-read-t11
+    add-t12
+    mul-t13
+    shared-slice-read-t15
     add-from
     mul-from
     shared-slice-read-from
@@ -112,8 +114,9 @@ rule-bad-spec =
     mul-end
     shared-slice-read-end
     add-end-2
-    sub-block-no
-    part-block-no-start
-    part-block-no-end
+    sub-key
+    part-key-start
+    part-key-end
+    new-requires
     block-no-requires
     returns)
