@@ -1,98 +1,99 @@
+-- `builder::finish::rule_bad` meets its contract: record i and its key lie inside the areas.
 use borrow.Author.Needs.{needs}
+use Prim.Native.Nat.{_+_, _≤_}
+use native.Mathlib.Nat.{add-sub-cancel-left}
+use native.Mathlib.Omega.{arith}
+use lib.ListN.{length}
+use Rattle.builder.specs.Area.{areaPlace, areaView}
+use Rattle.builder.proofs.Row8.{place-one}
 use Rattle.builder.proofs.finish.rule_bad.Statement.{statement}
 use Rattle.builder.proofs.finish.rule_bad.Tie as tie
-use Rattle.builder.proofs.finish.rule_bad.Reads as reads
-use Rattle.builder.proofs.finish.rule_bad.Lts as lts
-use Rattle.builder.proofs.SSTableIndexBuilder.new.Reads as new-reads
-use Rattle.builder.proofs.rows.block_no.Reads as block-no-reads
 
--- src/finish.rt:52:14
+-- key i ends inside the key area
+inside : (c : tie.Start)
+    → let p = areaPlace (c .args .blocks .now) (c .args .i) in p .offset + p .len ≤ length (c .args .keys .now)
+inside c = place-one (c .args .blocks .now) (c .args .keys .now) (c .args .i) (c .pre .1) .within
+
 mul-at : tie.Need-mul-at
-mul-at c = ?
+unfolding areaView
+mul-at c = search needs
 
--- src/finish.rt:54:16
 mul-t9 : tie.Need-mul-t9
-mul-t9 c = ?
+unfolding areaView
+mul-t9 c = search needs
 
--- src/finish.rt:54:16
 shared-slice-read-t11 : tie.Need-shared-slice-read-t11
-shared-slice-read-t11 c = ?
+unfolding areaView
+shared-slice-read-t11 c = search needs
 
--- src/finish.rt:55:21
 add-t12 : tie.Need-add-t12
-add-t12 c = ?
+unfolding areaView
+add-t12 c = search needs
 
--- src/finish.rt:55:14
 mul-t13 : tie.Need-mul-t13
-mul-t13 c = ?
+unfolding areaView
+mul-t13 c = search needs
 
--- src/finish.rt:55:14
 shared-slice-read-t15 : tie.Need-shared-slice-read-t15
-shared-slice-read-t15 c = ?
+unfolding areaView
+shared-slice-read-t15 c = search needs
 
--- src/finish.rt:56:31
 add-from : tie.Need-add-from
-add-from c = ?
+unfolding areaView
+add-from c = search needs
 
--- src/finish.rt:56:24
 mul-from : tie.Need-mul-from
-mul-from c = ?
+unfolding areaView
+mul-from c = search needs
 
--- src/finish.rt:56:24
 shared-slice-read-from : tie.Need-shared-slice-read-from
-shared-slice-read-from c = ?
+unfolding areaView
+shared-slice-read-from c = search needs
 
--- src/finish.rt:58:23
 add-from-2 : tie.Need-add-from-2
-add-from-2 c = ?
+unfolding areaView
+add-from-2 c = search needs
 
--- src/finish.rt:58:16
 mul-from-2 : tie.Need-mul-from-2
-mul-from-2 c = ?
+unfolding areaView
+mul-from-2 c = search needs
 
--- src/finish.rt:58:16
 shared-slice-read-from-2 : tie.Need-shared-slice-read-from-2
-shared-slice-read-from-2 c = ?
+unfolding areaView
+shared-slice-read-from-2 c = search needs
 
--- src/finish.rt:59:29
 add-end : tie.Need-add-end
-add-end c = ?
+unfolding areaView
+add-end c = search needs
 
--- src/finish.rt:59:22
 mul-end : tie.Need-mul-end
-mul-end c = ?
+unfolding areaView
+mul-end c = search needs
 
--- src/finish.rt:59:22
 shared-slice-read-end : tie.Need-shared-slice-read-end
-shared-slice-read-end c = ?
+unfolding areaView
+shared-slice-read-end c = search needs
 
--- src/finish.rt:59:15
 add-end-2 : tie.Need-add-end-2
-add-end-2 c = ?
+add-end-2 c = omega (arith, inside (c .before .before .before .before .before .before .before))
 
--- src/finish.rt:60:15
 sub-key : tie.Need-sub-key
 sub-key c = search needs
 
--- src/finish.rt:60:15
 part-key-start : tie.Need-part-key-start
 part-key-start c = search needs
 
--- src/finish.rt:60:15
 part-key-end : tie.Need-part-key-end
-part-key-end c = ?
+part-key-end c = omega (arith, inside (c .before .before .before .before .before .before .before))
 
--- src/finish.rt:61:27
 new-requires : tie.Need-new-requires
 new-requires c κs = search needs
 
--- src/finish.rt:61:5
 block-no-requires : tie.Need-block-no-requires
-block-no-requires c κs = ?
+block-no-requires c κs = rw (c .new .ensures) (c .before .before .before .before .before .before .before .before .before .pre .0)
 
--- src/finish.rt:46:1
 returns : tie.Need-returns
-returns c = ?
+returns c = simp (c .block-no .ensures, c .before .new .ensures, add-sub-cancel-left)
 
 pub rule-bad-spec : {M : Type 1} → statement M
 rule-bad-spec =
