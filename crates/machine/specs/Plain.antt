@@ -3,13 +3,16 @@
 use Prim.Native.Nat.{ℕ, zero, suc, _+_}
 use mathlib.Core.Path.{_≡_}
 use mathlib.Core.List.{List, [], _∷_, map, reverse}
+use mathlib.Core.Bool.{cond}
+use lib.Dec.{ltb}
 use lib.ListN.{length}
 use Rattle.keys.specs.Shorten.{shorten}
 use Rattle.group.specs.declared.BlockAddr.{BlockAddr}
 use Rattle.group.specs.Blocks.{noBlock}
-use Rattle.builder.specs.Area.{View}
+use Rattle.directory.specs.Directory.{directoryBytes}
+use Rattle.builder.specs.View.{noPlace, View}
 use Rattle.builder.specs.Rows.{addNo, shortenNo}
-use Rattle.builder.specs.Calls.{After, addDef, shortenDef}
+use Rattle.builder.specs.Index.{Settings, indexBytes}
 
 pub record Entry : Type 0 where
   pub block : BlockAddr
@@ -25,20 +28,18 @@ pub record Rooms : Type 0 where
   pub blocks : ℕ
   pub keys : ℕ
 
-abbrev pub roomsOf : After → Rooms
-roomsOf a = record { blocks = length (a .blocks); keys = length (a .keys) }
-
 -- the key bytes taken are its keys' lengths added up
 unfoldable pub keyBytesTaken : List Entry → ℕ
 keyBytesTaken [] = 0
 keyBytesTaken (e ∷ es) = keyBytesTaken es + length (e .key)
 
--- its n counts the entries, the last separator is the last key
+-- its n counts the entries, the last separator is the last key, which stands after the keys before it
 unfoldable pub plainView : Rooms → List Entry → View
 plainView rooms [] = record {
   n = 0;
   last = noBlock;
   lastKey = [];
+  place = noPlace;
   nextKey = 0;
   room = rooms .blocks;
   keyRoom = rooms .keys;
@@ -47,6 +48,7 @@ plainView rooms (e ∷ es) = record {
   n = length (e ∷ es);
   last = e .block;
   lastKey = e .key;
+  place = record { offset = keyBytesTaken es; len = length (e .key) };
   nextKey = keyBytesTaken (e ∷ es);
   room = rooms .blocks;
   keyRoom = rooms .keys;
@@ -90,15 +92,9 @@ pub record SameLists (es es′ : List Entry) : Type 0 where
   pub blocks : blocksOf es ≡ blocksOf es′
   pub separators : separatorsOf es ≡ separatorsOf es′
 
--- the same calls on the builder with its areas, each with the builder that the last one returned and the areas as it left them
-unfoldable pub callDef : Call → After → After
-callDef (add key block) a = addDef (a .builder) (a .blocks) (a .keys) key block
-callDef (shortenLast next) a = shortenDef (a .builder) (a .blocks) (a .keys) next
+-- the index of entries and its directory; of 0 or 1 there is none
+unfoldable pub plainIndex : Settings → List Entry → List ℕ
+plainIndex S es = cond (ltb (length es) 2) [] (indexBytes S (blocksOf es) (separatorsOf es))
 
-unfoldable pub runNumbers : List Call → After → List ℕ
-runNumbers [] a = []
-runNumbers (c ∷ cs) a = callDef c a .no ∷ runNumbers cs (callDef c a)
-
-unfoldable pub runEnd : List Call → After → After
-runEnd [] a = a
-runEnd (c ∷ cs) a = runEnd cs (callDef c a)
+unfoldable pub plainDirectory : List Entry → List ℕ
+plainDirectory es = cond (ltb (length es) 2) [] (directoryBytes (separatorsOf es))
