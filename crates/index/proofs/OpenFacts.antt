@@ -22,7 +22,7 @@ use Rattle.directory.proofs.Opened.{opened-good, opened-sorted}
 use Rattle.index.specs.declared.SSTableIndexV3.{SSTableIndexV3}
 use Rattle.index.specs.declared.Loaded.the-variants.{Opened}
 use Rattle.index.specs.Parts.{directoryLen, directoryPart, storeLen, groupRecordsLen, groupRecordsPart, addrsPart, countIn}
-use Rattle.index.specs.Opening.{footerNo, groupRecordsBad, openNo, openedOf, openStep, openDef, Opens}
+use Rattle.index.specs.Opening.{footerNo, groupRecordsBad, openNo, openedOf, openStep, openDef, OpensBy, groupOf, Opens}
 use Rattle.index.specs.Lookups.{directoryAt, OpenedFits}
 
 -- the group records and the address bytes that a record names
@@ -117,12 +117,20 @@ module _ (L : ℕ) (f : List ℕ) (len : GroupLenOk L) where
         within = recs .1;
       }
 
-pub opens-facts : (L : ℕ) (f : List ℕ) (opened : SSTableIndexV3) → GroupLenOk L → Opens L f opened → OpenFacts L f opened
+pub opens-facts-by : (L : ℕ) (f : List ℕ) (opened : SSTableIndexV3) → GroupLenOk L → OpensBy L f opened → OpenFacts L f opened
 unfolding openDef
-opens-facts L f opened len e =
+opens-facts-by L f opened len e =
     let a = opens-no f (openNo L f) opened e in
     rw (a .1) (accepted-facts L f len (a .0))
 
 -- bytes open to one record
-pub opens-unique : (L : ℕ) (f : List ℕ) (a b : SSTableIndexV3) → Opens L f a → Opens L f b → a ≡ b
+pub opens-unique : (L : ℕ) (f : List ℕ) (a b : SSTableIndexV3) → OpensBy L f a → OpensBy L f b → a ≡ b
 opens-unique L f a b p q = cc
+
+-- ---- the groups that a record has
+
+pub group-len : (opened : SSTableIndexV3) → GroupLenOk (groupOf opened)
+group-len opened = record { some = omega arith; few = omega arith }
+
+pub opens-facts : (f : List ℕ) (opened : SSTableIndexV3) → Opens f opened → OpenFacts (groupOf opened) f opened
+opens-facts f opened e = opens-facts-by (groupOf opened) f opened (group-len opened) e

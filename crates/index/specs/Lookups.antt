@@ -1,9 +1,10 @@
 -- The lookups (document 01, rows 17 to 20). What 01 leaves free is held to `..Allowed`, what it fixes to `..Exact`.
+-- A name that ends in By takes the group's length L; the same name without is for the groups that a record has.
 use Prim.Native.Nat.{ℕ, _+_, _*_, _≤_, _<_}
 use mathlib.Core.Path.{_≡_}
 use mathlib.Core.List.{List}
 use mathlib.Core.Logic.{_⊎_}
-use mathlib.Core.Bool.{Bool, _||_, cond}
+use mathlib.Core.Bool.{Bool, true, _||_, cond}
 use lib.Dec.{ltb, leb}
 use lib.ListN.{length, take, drop}
 use Rattle.layout.specs.Layout.{maxBlocks, metaLen}
@@ -13,18 +14,25 @@ use Rattle.group.specs.Legal.{NumbersOk}
 use Rattle.group.specs.Blocks.{noBlock}
 use Rattle.store.specs.Store.{groupCount}
 use Rattle.store.specs.Read.{Last}
-use Rattle.directory.specs.Read.{First, keyOffset, keyLength, keyOutside}
+use Rattle.directory.specs.Read.{First, keyPosition, keyLength, keyOutside}
 use Rattle.index.specs.declared.SSTableIndexV3.{SSTableIndexV3}
 use Rattle.index.specs.declared.Place.{Place}
 use Rattle.index.specs.declared.Place.the-variants.{Part, Missing}
+use Rattle.index.specs.Parts.{blockIn, separatorIn}
+use Rattle.index.specs.Opening.{OpensBy, groupOf}
 
--- row 20 for the record: n that no index has, a place that doesn't fit `len` bytes, or fewer group records than n blocks have
-unfoldable pub openedBad : ℕ → SSTableIndexV3 → ℕ → Bool
-openedBad L opened len =
+-- ---- row 20 for the record
+
+-- n that no index has, a place that doesn't fit `len` bytes, or fewer group records than n blocks have
+unfoldable pub openedBadBy : ℕ → SSTableIndexV3 → ℕ → Bool
+openedBadBy L opened len =
     ltb (opened .n) 1 || (ltb maxBlocks (opened .n)
     || (ltb len (opened .directory + opened .«directory_len»)
     || (ltb len (opened .metas + opened .«metas_len»)
     || (ltb len (opened .addrs + opened .«addrs_len») || ltb (opened .«metas_len») (metaLen * groupCount L (opened .n))))))
+
+abbrev pub openedBad : SSTableIndexV3 → ℕ → Bool
+openedBad opened len = openedBadBy (groupOf opened) opened len
 
 -- a record that doesn't hit it, in numbers
 pub record OpenedFits (L : ℕ) (opened : SSTableIndexV3) (len : ℕ) : Type 0 where
@@ -38,6 +46,8 @@ pub record OpenedFits (L : ℕ) (opened : SSTableIndexV3) (len : ℕ) : Type 0 w
 -- the directory that a record names
 abbrev pub directoryAt : SSTableIndexV3 → List ℕ → List ℕ
 directoryAt opened f = take (opened .«directory_len») (drop (opened .directory) f)
+
+-- ---- what an answer may be, and what it is
 
 -- a refusal: the call's own row, or 20
 abbrev pub Refuses : ℕ → ℕ → Type 0
@@ -74,8 +84,48 @@ AddrByKeyExact separator block n key k id addr =
     ((k ≡ 0) × First separator n key id × (addr ≡ block id))
     ⊎ ((k ≡ 19) × (id ≡ 0) × (addr ≡ noBlock) × ((i : ℕ) → i < n → separator i ≺ key))
 
+-- ---- what each lookup promises of its number k and its values
+
+pub record GetBlockBy (L : ℕ) (f : List ℕ) (opened : SSTableIndexV3) (id k : ℕ) (addr : BlockAddr) : Type 0 where
+  -- in every case
+  pub allowed : ByIdAllowed (opened .n) id k addr
+  -- a record that fails its own test gets exactly 20
+  pub unfit : openedBadBy L opened (length f) ≡ true → k ≡ 20
+  -- bytes and record of one opening
+  pub exact : OpensBy L f opened → ByIdExact (blockIn L f) (opened .n) id k addr
+
+abbrev pub GetBlock : List ℕ → SSTableIndexV3 → ℕ → ℕ → BlockAddr → Type 0
+GetBlock f opened id k addr = GetBlockBy (groupOf opened) f opened id k addr
+
+pub record LocateWithOrdBy (L : ℕ) (f : List ℕ) (opened : SSTableIndexV3) (ord k id : ℕ) (addr : BlockAddr) : Type 0 where
+  pub allowed : LocatedAllowed 18 (opened .n) k id addr
+  pub unfit : openedBadBy L opened (length f) ≡ true → k ≡ 20
+  pub exact : OpensBy L f opened → ByOrdExact (blockIn L f) (opened .n) ord k id addr
+
+abbrev pub LocateWithOrd : List ℕ → SSTableIndexV3 → ℕ → ℕ → ℕ → BlockAddr → Type 0
+LocateWithOrd f opened ord k id addr = LocateWithOrdBy (groupOf opened) f opened ord k id addr
+
+pub record LocateWithKeyBy (L : ℕ) (f : List ℕ) (opened : SSTableIndexV3) (key : List ℕ) (k id : ℕ) : Type 0 where
+  pub allowed : ByKeyAllowed (opened .n) k id
+  pub unfit : openedBadBy L opened (length f) ≡ true → k ≡ 20
+  pub exact : OpensBy L f opened → ByKeyExact (separatorIn f) (opened .n) key k id
+
+abbrev pub LocateWithKey : List ℕ → SSTableIndexV3 → List ℕ → ℕ → ℕ → Type 0
+LocateWithKey f opened key k id = LocateWithKeyBy (groupOf opened) f opened key k id
+
+pub record GetBlockWithKeyBy (L : ℕ) (f : List ℕ) (opened : SSTableIndexV3) (key : List ℕ) (k id : ℕ) (addr : BlockAddr) : Type 0 where
+  pub allowed : LocatedAllowed 19 (opened .n) k id addr
+  pub unfit : openedBadBy L opened (length f) ≡ true → k ≡ 20
+  pub exact : OpensBy L f opened → AddrByKeyExact (separatorIn f) (blockIn L f) (opened .n) key k id addr
+
+abbrev pub GetBlockWithKey : List ℕ → SSTableIndexV3 → List ℕ → ℕ → ℕ → BlockAddr → Type 0
+GetBlockWithKey f opened key k id addr = GetBlockWithKeyBy (groupOf opened) f opened key k id addr
+
 -- the place of the separator of block id; an unknown id or a hit on row 20 is a miss
-unfoldable pub placeDef : ℕ → SSTableIndexV3 → List ℕ → ℕ → Place
-placeDef L opened f id =
-    cond (openedBad L opened (length f) || leb (opened .n) id || keyOutside (directoryAt opened f) (opened .n) id) Missing
-    (Part (opened .directory + 4 + 8 * opened .n + keyOffset (directoryAt opened f) id) (keyLength (directoryAt opened f) id))
+unfoldable pub placeBy : ℕ → SSTableIndexV3 → List ℕ → ℕ → Place
+placeBy L opened f id =
+    cond (openedBadBy L opened (length f) || leb (opened .n) id || keyOutside (directoryAt opened f) (opened .n) id) Missing
+    (Part (opened .directory + keyPosition (directoryAt opened f) (opened .n) id) (keyLength (directoryAt opened f) id))
+
+abbrev pub placeDef : SSTableIndexV3 → List ℕ → ℕ → Place
+placeDef opened f id = placeBy (groupOf opened) opened f id

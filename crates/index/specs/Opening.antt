@@ -1,11 +1,11 @@
--- Opening (document 01, rows 10 to 16): the number, and the opened record.
+-- Opening (document 01, rows 10 to 16): the number, and the opened record. L is the group's length.
 use Prim.Native.Nat.{ℕ, zero, suc, _+_, _-_, _*_}
 use mathlib.Core.Path.{_≡_}
 use mathlib.Core.List.{List}
 use mathlib.Core.Bool.{Bool, not, _||_, cond}
 use lib.Dec.{eqb, ltb}
 use lib.ListN.{length}
-use Rattle.layout.specs.Layout.{metaLen}
+use Rattle.layout.specs.Layout.{metaLen, storeBlockLen}
 use Rattle.group.specs.Rows.{orRow}
 use Rattle.store.specs.Store.{groupCount}
 use Rattle.store.specs.Check.{storeNo}
@@ -45,10 +45,23 @@ abbrev pub openStep : ℕ → List ℕ → Loaded
 openStep zero f = Opened (openedOf f)
 openStep (suc k) f = Refused (suc k)
 
--- what opening the bytes f answers
+-- what opening the bytes f with groups of L blocks answers
 unfoldable pub openDef : ℕ → List ℕ → Loaded
 openDef L f = openStep (openNo L f) f
 
 -- bytes and record come from one successful opening: opening these bytes gives this record
-abbrev pub Opens : ℕ → List ℕ → SSTableIndexV3 → Type 0
-Opens L f opened = openDef L f ≡ Opened opened
+abbrev pub OpensBy : ℕ → List ℕ → SSTableIndexV3 → Type 0
+OpensBy L f opened = openDef L f ≡ Opened opened
+
+-- ---- the index as it is used
+
+-- the length of a record's groups
+abbrev pub groupOf : SSTableIndexV3 → ℕ
+groupOf opened = storeBlockLen
+
+-- what `load` answers
+abbrev pub loadDef : List ℕ → Loaded
+loadDef f = openDef storeBlockLen f
+
+abbrev pub Opens : List ℕ → SSTableIndexV3 → Type 0
+Opens f opened = OpensBy (groupOf opened) f opened

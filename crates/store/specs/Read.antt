@@ -44,6 +44,11 @@ unfoldable pub storeGet : ℕ → List ℕ → List ℕ → ℕ → ℕ → Got
 storeGet L recs addr n i =
     cond (metaBad L recs addr n (i / L)) Broken (cond (numbersBad (storeBlock L recs addr i)) Broken (Block (storeBlock L recs addr i)))
 
+-- document 01's number for it
+abbrev pub gotNo : Got → ℕ
+gotNo (Block b) = 0
+gotNo Broken = 20
+
 -- a store of n blocks that keeps rows 15 and 16
 pub record StoreOk (L : ℕ) (recs addr : List ℕ) (n : ℕ) : Type 0 where
   pub groups : (g : ℕ) → g < groupCount L n → metaBad L recs addr n g ≡ false
@@ -54,6 +59,12 @@ pub record Last (f : ℕ → ℕ) (n x i : ℕ) : Type 0 where
   pub inside : i < n
   pub at-most : f i ≤ x
   pub later : (j : ℕ) → i < j → j < n → x < f j
+
+-- document 01's number for what an ordinal's lookup finds
+abbrev pub ordFoundNo : OrdFound → ℕ
+ordFoundNo (At i b) = 0
+ordFoundNo Below = 18
+ordFoundNo Broken = 20
 
 -- what an ordinal's lookup may answer in every case, and what it answers in a store that keeps the rules:
 -- the last block whose first ordinal is at or below it, or that there is none

@@ -27,7 +27,7 @@ returns : tie.Need-returns
 returns c = let t = c .before in rw (sym (t .before .before .separator-place .ensures) ∙ t .enum-told .given .1)
 
 -- the place is a part
-placed : (c : tie.After-offset) → placeDef 128 (c .before .before .before .before .args .self) (c .before .before .before .before .args .«data» .now) (c .before .before .before .before .args .block-id) ≡ Part (c .offset .given .0 .0) (c .offset .given .0 .1 .0)
+placed : (c : tie.After-offset) → placeDef (c .before .before .before .before .args .self) (c .before .before .before .before .args .«data» .now) (c .before .before .before .before .args .block-id) ≡ Part (c .offset .given .0 .0) (c .offset .given .0 .1 .0)
 placed c = sym (c .before .before .separator-place .ensures) ∙ c .offset .given .1
 
 inside : (c : tie.After-offset) → c .offset .given .0 .0 + c .offset .given .0 .1 .0 ≤ length (c .before .before .before .before .args .«data» .now)
