@@ -48,14 +48,14 @@ enum rosmarel_no {
     ROSMAREL_ORDINAL = 5,        /* add, store: ordinal not above the one before */
     ROSMAREL_KEY_ORDER = 6,      /* add, shorten: key not above the last separator */
     ROSMAREL_FULL = 7,           /* add: no room for the block; store: over 65,536 blocks */
-    ROSMAREL_BLOCKS = 8,         /* finish: a lent block breaks 2 to 6, or the keys don't touch */
+    ROSMAREL_BLOCKS = 8,         /* finish: a block in the areas hits 2 to 6, or keys don't touch */
     ROSMAREL_OUTPUT_SHORT = 9,   /* finish, store: output shorter than the result (the calls say how to size it) */
     ROSMAREL_FOOTER = 10,        /* open: under 8 bytes; or, unless it is 11, directory length + 16 > file */
     ROSMAREL_NO_DIRECTORY = 11,  /* open: directory length 0 */
     ROSMAREL_DIRECTORY = 12,     /* open: n not 2 to 65,536, or offsets, key lengths or directory length broken */
     ROSMAREL_KEYS = 13,          /* open: keys not strictly rising */
     ROSMAREL_RECORDS = 14,       /* open: records' length not 36 for each group of n blocks, or beyond the store */
-    ROSMAREL_GROUPS = 15,        /* open: a width outside 1 to 56, a block count, or fields beyond the address bytes */
+    ROSMAREL_GROUPS = 15,        /* open: a width outside 1 to 56, another block count, or fields that end too late */
     ROSMAREL_VALUES = 16,        /* open, after 15 for all groups: a value out of range, or blocks that break 3 to 5 */
     ROSMAREL_ID = 17,            /* by id: not below n */
     ROSMAREL_BELOW = 18,         /* by ordinal: below the first */
