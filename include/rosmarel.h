@@ -27,6 +27,9 @@
 extern "C" {
 #endif
 
+/* The interface that these declarations are of: rosmarel_interface() of an archive that fits them. */
+#define ROSMAREL_INTERFACE 1
+
 /* A block: start <= end, both and the first ordinal below 2^48. */
 typedef struct rosmarel_block_addr {
     uint64_t start;
@@ -67,6 +70,9 @@ enum rosmarel_no {
     ROSMAREL_ROOM = 24,          /* list: under n bytes; example: under the longer key + 64 (an absent start is none) */
     ROSMAREL_NO_EXAMPLE = 25     /* example: no accepted string in the interval */
 };
+
+/* The number of the archive's interface, one more with each change of a call or of the opened record. */
+uint64_t rosmarel_interface(void);
 
 /*
  * Building. The builder is the count n, first 0, and two areas that the caller lends to each call: five numbers a block
