@@ -85,9 +85,9 @@ impl SSTableIndexBuilder {
         if rows::area_bad(self, blocks, keys) {
             return Answer::Refused(refusals::AREA_BAD, self);
         }
-        let no = rows::key_no(next_key);
-        if no != 0 {
-            return Answer::Refused(no, self);
+        let key_no = rows::key_no(next_key);
+        if key_no != 0 {
+            return Answer::Refused(key_no, self);
         }
         let common = rows::common_len(self, blocks, keys, next_key);
         if rows::key_bad_behind(self, blocks, keys, next_key, common) {

@@ -7,17 +7,20 @@ use lib.Dec.{eqb}
 use lib.ListN.{length, getD, length-reverse, length-map, List·getD-append}
 use lib.Seq.{getD-at}
 use borrow.Author.Tests.{eqb-true, eqb-false}
+use Rattle.layout.specs.Layout.{maxKeyLen}
 use Rattle.keys.specs.Order.{_≺_}
 use Rattle.keys.proofs.Order.{by-test}
 use Rattle.group.specs.Blocks.{blockOf}
 use Rattle.group.specs.Legal.{NumbersOk, Follows, Legal}
-use Rattle.builder.specs.Area.{View, areaKeyOffset, areaBlock, areaKey, areaView}
-use Rattle.builder.specs.Rows.{blockNo}
-use Rattle.builder.specs.Calls.{After}
-use Rattle.builder.specs.Plain.{Entry, Rooms, roomsOf, keyBytesTaken, plainView, blocksOf, separatorsOf}
+use Rattle.builder.specs.View.{View}
+use Rattle.builder.specs.Rows.{RecordOk, blockNo}
+use Rattle.builder.specs.Area.{areaBlock, areaPlace, areaKey, areaView}
+use Rattle.builder.specs.Calls.{builderOf, State}
 use Rattle.builder.proofs.Numbers.{BlockOk, block-good}
-use Rattle.builder.proofs.Entries.{Holds, Rep, rep-view, plain-next}
-use Rattle.builder.proofs.Rules.{EntryOk, Behind, EntriesOk, none, first, more}
+use Rattle.machine.specs.Plain.{Entry, Rooms, keyBytesTaken, plainView, blocksOf, separatorsOf}
+use Rattle.machine.specs.Runs.{roomsOf}
+use Rattle.machine.proofs.Entries.{Holds, Rep, rep-view, plain-next}
+use Rattle.machine.proofs.Rules.{EntryOk, Behind, EntriesOk, none, first, more}
 
 -- ---- entries oldest first
 
@@ -29,10 +32,13 @@ module _ {X : Type 0} (f : Entry → X) (e : Entry) (es : List Entry) (d : X) wh
   newest = rw (reverse-cons (f e) (map f es)) (getD-at (reverse (map f es)) (f e) [] d (length es) (length-oldest f es))
 
   older : (i : ℕ) → i < length es → getD (reverse (map f (e ∷ es))) i d ≡ getD (reverse (map f es)) i d
-  older i h = rw (reverse-cons (f e) (map f es)) (List·getD-append (reverse (map f es)) (f e ∷ []) d i (omega (arith, length-oldest f es)))
+  older i h =
+      rw (reverse-cons (f e) (map f es))
+      (List·getD-append (reverse (map f es)) (f e ∷ []) d i (omega (arith, length-oldest f es)))
 
 -- a claim on each index, from the newest entry and those before it
-each : (e : Entry) (es : List Entry) (P : ℕ → Type 0) → P (length es) → ((i : ℕ) → i < length es → P i) → (i : ℕ) → i < length (e ∷ es) → P i
+each : (e : Entry) (es : List Entry) (P : ℕ → Type 0) → P (length es) → ((i : ℕ) → i < length es → P i)
+    → (i : ℕ) → i < length (e ∷ es) → P i
 each e es P new old i h =
     by-test (eqb i (length es))
     (λ t. rw (eqb-true i (length es) t) new)
@@ -58,9 +64,12 @@ module _ (B K : List ℕ) where
       (λ i h. held-key es (w .1) i h ∙ sym (older (λ (x : Entry). x .key) e es [] i h))
 
 -- the entries before the newest one
-rep-before : (e : Entry) (es : List Entry) (a : After) → Rep (e ∷ es) a → Rep es (record { no = a .no; builder = record { n = length es }; blocks = a .blocks; keys = a .keys })
+abbrev before : List Entry → State → State
+before es s = record { builder = builderOf (length es); blocks = s .blocks; keys = s .keys }
+
+rep-before : (e : Entry) (es : List Entry) (s : State) → Rep (e ∷ es) s → Rep es (before es s)
 unfolding Holds keyBytesTaken
-rep-before e es a r = record {
+rep-before e es s r = record {
   count = refl;
   few = omega (arith, r .few);
   inside = omega (arith, r .inside);
@@ -68,10 +77,25 @@ rep-before e es a r = record {
   holds = r .holds .1;
 }
 
-behind-ok : (rooms : Rooms) (e : Entry) (es : List Entry) → EntriesOk (e ∷ es) → BlockOk (plainView rooms es) (e .key) (e .block)
+view-before : (e : Entry) (es : List Entry) (s : State) → Rep (e ∷ es) s
+    → areaView (length es) (s .blocks) (s .keys) ≡ plainView (roomsOf s) es
+view-before e es s r = rep-view es (before es s) (rep-before e es s r)
+
+after-ok : (rooms : Rooms) (e : Entry) (es : List Entry) → EntriesOk (e ∷ es)
+    → BlockOk (plainView rooms es) (e .key) (e .key) (e .block)
 unfolding plainView
-behind-ok rooms e [] (first k) = record { short = k .short; numbers = k .numbers; follows = λ some. absurd (some refl); above = λ some. absurd (some refl) }
-behind-ok rooms e (p ∷ es) (more k b ok) = record { short = k .short; numbers = k .numbers; follows = λ some. b .follows; above = λ some. b .rises }
+after-ok rooms e [] (first k) = record {
+  short = k .short;
+  numbers = k .numbers;
+  follows = λ some. absurd (some refl);
+  above = λ some. absurd (some refl);
+}
+after-ok rooms e (p ∷ es) (more k b ok) = record {
+  short = k .short;
+  numbers = k .numbers;
+  follows = λ some. b .follows;
+  above = λ some. b .rises;
+}
 
 entry-ok : (e : Entry) (es : List Entry) → EntriesOk (e ∷ es) → EntryOk e
 entry-ok e [] (first k) = k
@@ -81,28 +105,47 @@ before-ok : (e : Entry) (es : List Entry) → EntriesOk (e ∷ es) → EntriesOk
 before-ok e [] (first k) = none
 before-ok e (p ∷ es) (more k b ok) = ok
 
--- what the first i blocks show is what the entries before entry i show: keys touch, and no block breaks rows 2 to 6
-pub keys-touch : (es : List Entry) (a : After) → Rep es a → (i : ℕ) → i < length es → areaKeyOffset (a .blocks) i ≡ areaView i (a .blocks) (a .keys) .nextKey
+-- what the first i blocks show is what the entries before entry i show: keys touch and stand in the key area, and no block
+-- breaks rows 2 to 6
+pub keys-touch : (es : List Entry) (s : State) → Rep es s → (i : ℕ) → i < length es
+    → areaPlace (s .blocks) i .offset ≡ areaView i (s .blocks) (s .keys) .nextKey
 unfolding Holds
-keys-touch [] a r = λ i h. absurd (omega arith)
-keys-touch (e ∷ es) a r =
-    each e es (λ (i : ℕ). areaKeyOffset (a .blocks) i ≡ areaView i (a .blocks) (a .keys) .nextKey)
-    (r .holds .0 .offset ∙ sym (ap (λ (v : View). v .nextKey) (rep-view es _ (rep-before e es a r)) ∙ plain-next (roomsOf a) es))
-    (λ i h. keys-touch es _ (rep-before e es a r) i h)
+keys-touch [] s r = λ i h. absurd (omega arith)
+keys-touch (e ∷ es) s r =
+    each e es (λ (i : ℕ). areaPlace (s .blocks) i .offset ≡ areaView i (s .blocks) (s .keys) .nextKey)
+    (r .holds .0 .offset ∙ sym (ap (λ (v : View). v .nextKey) (view-before e es s r) ∙ plain-next (roomsOf s) es))
+    (λ i h. keys-touch es (before es s) (rep-before e es s r) i h)
 
-pub blocks-keep : (es : List Entry) (a : After) → Rep es a → EntriesOk es → (i : ℕ) → i < length es
-    → blockNo (areaView i (a .blocks) (a .keys)) (areaKey (a .blocks) (a .keys) i) (areaBlock (a .blocks) i) ≡ 0
+pub records-fit : (es : List Entry) (s : State) → Rep es s → (i : ℕ) → i < length es
+    → RecordOk (length (s .keys)) (areaPlace (s .blocks) i)
+unfolding Holds keyBytesTaken
+records-fit [] s r = λ i h. absurd (omega arith)
+records-fit (e ∷ es) s r =
+    each e es (λ (i : ℕ). RecordOk (length (s .keys)) (areaPlace (s .blocks) i))
+    (record { within = omega (arith, r .within, r .holds .0 .offset, r .holds .0 .len) })
+    (λ i h. records-fit es (before es s) (rep-before e es s r) i h)
+
+pub blocks-keep : (es : List Entry) (s : State) → Rep es s → EntriesOk es → (i : ℕ) → i < length es
+    → blockNo (areaView i (s .blocks) (s .keys)) (areaKey (s .blocks) (s .keys) i) (areaKey (s .blocks) (s .keys) i)
+    (areaBlock (s .blocks) i)
+    ≡ 0
 unfolding Holds
-blocks-keep [] a r ok = λ i h. absurd (omega arith)
-blocks-keep (e ∷ es) a r ok =
-    each e es (λ (i : ℕ). blockNo (areaView i (a .blocks) (a .keys)) (areaKey (a .blocks) (a .keys) i) (areaBlock (a .blocks) i) ≡ 0)
-    (rw (rep-view es _ (rep-before e es a r), r .holds .0 .key, r .holds .0 .block) (block-good (plainView (roomsOf a) es) (e .key) (e .block) (behind-ok (roomsOf a) e es ok)))
-    (λ i h. blocks-keep es _ (rep-before e es a r) (before-ok e es ok) i h)
+blocks-keep [] s r ok = λ i h. absurd (omega arith)
+blocks-keep (e ∷ es) s r ok =
+    each e es
+    (λ (i : ℕ).
+    blockNo (areaView i (s .blocks) (s .keys)) (areaKey (s .blocks) (s .keys) i) (areaKey (s .blocks) (s .keys) i)
+    (areaBlock (s .blocks) i)
+    ≡ 0)
+    (rw (view-before e es s r, r .holds .0 .key, r .holds .0 .block)
+    (block-good (plainView (roomsOf s) es) (e .key) (e .key) (e .block) (after-ok (roomsOf s) e es ok)))
+    (λ i h. blocks-keep es (before es s) (rep-before e es s r) (before-ok e es ok) i h)
 
 -- ---- the rules of blocks and separators
 
 module _ {X : Type 0} (f : Entry → X) (d : X) where
-  each-at : (P : X → Type 0) → ((e : Entry) → EntryOk e → P (f e)) → (es : List Entry) → EntriesOk es → (i : ℕ) → i < length es → P (getD (reverse (map f es)) i d)
+  each-at : (P : X → Type 0) → ((e : Entry) → EntryOk e → P (f e)) → (es : List Entry) → EntriesOk es
+      → (i : ℕ) → i < length es → P (getD (reverse (map f es)) i d)
   each-at P g [] ok = λ i h. absurd (omega arith)
   each-at P g (e ∷ es) ok =
       each e es (λ (i : ℕ). P (getD (reverse (map f (e ∷ es))) i d))
@@ -128,8 +171,9 @@ entries-legal es ok = record {
   follows = pairs-at (λ (x : Entry). x .block) _ Follows (λ p e b. b .follows) es ok;
 }
 
-pub separators-short : (es : List Entry) → EntriesOk es → (i : ℕ) → i < length es → length (getD (separatorsOf es) i []) ≤ 1024
-separators-short es ok = each-at (λ (x : Entry). x .key) [] (λ (k : List ℕ). length k ≤ 1024) (λ e k. k .short) es ok
+pub separators-short : (es : List Entry) → EntriesOk es → (i : ℕ) → i < length es → length (getD (separatorsOf es) i []) ≤ maxKeyLen
+separators-short es ok = each-at (λ (x : Entry). x .key) [] (λ (k : List ℕ). length k ≤ maxKeyLen) (λ e k. k .short) es ok
 
-pub separators-rise : (es : List Entry) → EntriesOk es → (i : ℕ) → suc i < length es → getD (separatorsOf es) i [] ≺ getD (separatorsOf es) (suc i) []
+pub separators-rise : (es : List Entry) → EntriesOk es → (i : ℕ) → suc i < length es
+    → getD (separatorsOf es) i [] ≺ getD (separatorsOf es) (suc i) []
 separators-rise es ok = pairs-at (λ (x : Entry). x .key) [] (λ (k l : List ℕ). k ≺ l) (λ p e b. b .rises) es ok

@@ -51,7 +51,8 @@ returns : tie.Need-returns Inv-loop μ-loop
 returns c =
     let l = c .before .before .before in
     let a = l .before .before .before .args in
-    offset-hit (a .blocks .now) (a .keys .now) (l .loop .i) (a .builder .n) (omega arith) (λ e. c .if1 .taken (e ∙ l .loop .inv .2))
+    offset-hit (a .blocks .now) (a .keys .now) (l .loop .i) (a .builder .n) (omega arith)
+    (λ e. omega (arith, c .if1 .taken, l .loop .inv .2))
 
 record-bad-requires : tie.Need-record-bad-requires Inv-loop μ-loop
 unfolding areaView
@@ -92,7 +93,7 @@ loop-again : tie.Need-loop-again Inv-loop μ-loop
 loop-again c =
     let l = c .before .before .before .before .before .before in
     let a = l .before .before .before .args in
-    let here = c .before .before .before .if1 .left in (
+    let here : areaPlace (a .blocks .now) (l .loop .i) .offset ≡ l .loop .next = omega (arith, c .before .before .before .if1 .left) in (
       omega arith,
       places-next (a .blocks .now) (a .keys .now) (l .loop .i) (l .loop .inv .1) (here ∙ sym (l .loop .inv .2))
           (sym (c .before .before .record-bad .ensures) ∙ c .before .if2 .left),
