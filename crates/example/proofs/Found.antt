@@ -1,4 +1,4 @@
--- An accepted string of an interval, of r bytes, that stands at the front of an output.
+-- An accepted string of an interval, of r bytes, that stands at the front of an output: in another interval, and made of its parts.
 use mathlib.Core.Path.{_≡_, sym, ap, _∙_}
 use mathlib.Core.List.{List, [], _∷_, _++_}
 use Prim.Native.Nat.{ℕ, _+_, _≤_, _<_}
@@ -11,11 +11,8 @@ use Rattle.automaton.specs.Table.{next}
 use Rattle.automaton.specs.Words.{Bytes, run, Hits, Accepts}
 use Rattle.automaton.proofs.Strings.{hits-cons, hits-append, bytes-take}
 use Rattle.serialize.proofs.Stores.{sets-append, copied}
+use Rattle.example.specs.Walk.{From, Under, Found}
 use Rattle.example.proofs.Bounds.{leaving}
-
--- L and U are the interval's bounds
-abbrev pub Found : (t : List ℕ) (L U : List ℕ → Type 0) (old new : List ℕ) (r : ℕ) → Type 0
-Found t L U old new r = Accepts t 0 (λ w. L w × U w × (r ≡ length w) × (new ≡ sets old 0 w))
 
 -- in another interval, where the output was untouched till then
 pub found-map : {t old old′ new : List ℕ} {r : ℕ} (L U L′ U′ : List ℕ → Type 0) → old ≡ old′ → ((w : List ℕ) → L w → U w → L′ w × U′ w) → Found t L U old new r → Found t L′ U′ old′ new r
@@ -35,7 +32,7 @@ module _ (t key out a : List ℕ) (len : ℕ) (within : len ≤ length key) (roo
   -- a byte and a tail behind them
   pub found-leaving : {c : List ℕ} (b lo hi k : ℕ) → lo ≤ b → b < hi → b < 256
       → Accepts t (next t (run t 0 (take len key)) b) (λ v. (length v ≡ k) × (c ≡ sets (set a len b) (len + 1) v))
-      → Found t (λ w. (take len key ++ (lo ∷ [])) ≼ w) (λ w. w ≺ (take len key ++ (hi ∷ []))) out c (len + 1 + k)
+      → Found t (From key len lo) (Under key len hi) out c (len + 1 + k)
   found-leaving {c} b lo hi k l h hb m =
       let p = take len key in
       let (low, high) = leaving p (m .string) b lo hi l h in

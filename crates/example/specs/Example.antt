@@ -2,7 +2,6 @@
 use Prim.Native.Nat.{ℕ, _+_, _≤_, _<_, max}
 use mathlib.Core.Path.{_≡_}
 use mathlib.Core.List.{List}
-use mathlib.Core.Logic.{_⊎_}
 use mathlib.Core.Option.{Option, none, some}
 use lib.ListN.{length}
 use lib.Seq.{sets}
@@ -36,14 +35,25 @@ pub record Shown (t : List ℕ) (start : Option (List ℕ)) (end out written : L
   pub bytes : written ≡ sets out 0 string
 
 -- document 01's number and length for each answer; a refusal has all else zero
-abbrev pub answerNo : ExampleAnswer → ℕ
-answerNo (Written len) = 0
-answerNo (Refused k) = k
+abbrev pub exampleAnswerNo : ExampleAnswer → ℕ
+exampleAnswerNo (Written len) = 0
+exampleAnswerNo (Refused k) = k
 
-abbrev pub answerLen : ExampleAnswer → ℕ
-answerLen (Written len) = len
-answerLen (Refused k) = 0
+abbrev pub exampleAnswerLen : ExampleAnswer → ℕ
+exampleAnswerLen (Written len) = len
+exampleAnswerLen (Refused k) = 0
 
--- what a call with number k leaves in the output: an example, or what was there
-abbrev pub ExampleLeaves : List ℕ → Option (List ℕ) → List ℕ → List ℕ → List ℕ → ℕ → ℕ → Type 0
-ExampleLeaves t start end out written k len = ((k ≡ 0) × Shown t start end out written len) ⊎ ((0 < k) × (len ≡ 0) × (written ≡ out))
+-- a refusal has a number above 0
+abbrev pub ExampleAnswerCased : ExampleAnswer → Type 0
+ExampleAnswerCased (Written len) = Unit {0}
+ExampleAnswerCased (Refused k) = 0 < k
+
+-- what a call with the number k leaves: its length, and the output
+pub record ExampleLeaves (t : List ℕ) (start : Option (List ℕ)) (end out written : List ℕ) (k len : ℕ) : Type 0 where
+  pub taken : k ≡ 0 → Shown t start end out written len
+  pub refused : 0 < k → (len ≡ 0) × (written ≡ out)
+
+-- a call for an example of the interval (start, end]
+pub record ExampleFor (t : List ℕ) (start : Option (List ℕ)) (end out written : List ℕ) (k len : ℕ) : Type 0 where
+  pub number : ExampleNo t start end (length out) k
+  pub leaves : ExampleLeaves t start end out written k len
