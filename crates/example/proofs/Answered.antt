@@ -42,8 +42,8 @@ Answered t start end out new r = ExampleFor t start end out new (exampleAnswerNo
 -- a refusal leaves the output as it was
 pub answered-refused : {t : List ℕ} {start : Option (List ℕ)} {end out : List ℕ} (k : ℕ) → 0 < k → ExampleNo t start end (length out) k
     → Answered t start end out out (Refused k)
-answered-refused k h no =
-    (record { number = no; leaves = record { taken = λ e. absurd (let z : ⊥ = omega arith in z); refused = λ p. (refl, refl) } }, h)
+answered-refused k h row =
+    (record { number = row; leaves = record { taken = λ e. absurd (let z : ⊥ = omega arith in z); refused = λ p. (refl, refl) } }, h)
 
 module _ {t : List ℕ} {start : Option (List ℕ)} {end out new : List ℕ} where
   shown-marked : {len : ℕ} → Shown t start end out new len → Marked t start end
