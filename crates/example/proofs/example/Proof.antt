@@ -2,7 +2,7 @@
 use mathlib.Core.Path.{_≡_, refl, sym, subst, _∙_}
 use mathlib.Core.Bool.{Bool, false}
 use mathlib.Core.Option.{some, none}
-use Prim.Native.Nat.{_+_, _≤_, zero-le}
+use Prim.Native.Nat.{_+_, _≤_, _<_, zero-le}
 use native.Mathlib.Omega.{arith}
 use borrow.Author.Needs.{needs}
 use lib.ListN.{length}
@@ -50,7 +50,8 @@ returns-2 : tie.Need-returns-2
 returns-2 c =
     let a = c .before .before .before .before .before .before .before .before .args in
     let n : longer (startOf (a .has-start) (a .start-key .now)) (a .end-key .now) + 64 ≤ length (a .out .now) → ⊥ = when-false (c .before .has-room .ensures) (not-true (c .before .has-room .result) (c .if2 .taken)) in
-    answered-refused 24 (omega arith) (ExampleNo.short (taken (c .before .before)) (omega (arith, n)))
+    let short : length (a .out .now) < longer (startOf (a .has-start) (a .start-key .now)) (a .end-key .now) + 64 = omega (arith, n) in
+    answered-refused 24 (omega arith) (ExampleNo.short (taken (c .before .before)) short)
 
 distances-requires : tie.Need-distances-requires
 distances-requires c κs = formed c
