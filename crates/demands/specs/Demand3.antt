@@ -1,12 +1,12 @@
 -- Demand 3: one claim about every list of add and shorten calls from a fresh builder, refused ones included, then finish, opening
 -- and what is found there. The calls are those of the contracts; the plain machine sees their arguments and the areas' lengths.
-use Prim.Native.Nat.{ℕ, zero, suc, _+_, _*_, _≤_, _<_}
+use Prim.Native.Nat.{ℕ, _+_, _*_, _≤_, _<_}
 use mathlib.Core.Path.{_≡_}
 use mathlib.Core.Bool.{cond}
-use mathlib.Core.List.{List, [], _∷_}
+use mathlib.Core.List.{List, []}
 use lib.Dec.{ltb}
 use lib.ListN.{length, getD, take}
-use Rattle.layout.specs.Layout.{maxBlocks}
+use Rattle.layout.specs.Layout.{maxBlocks, pairLen}
 use Rattle.group.specs.declared.BlockAddr.{BlockAddr}
 use Rattle.group.specs.Rows.{orRow}
 use Rattle.group.specs.Blocks.{blockOf}
@@ -23,6 +23,7 @@ use Rattle.index.specs.Opening.{Opens, openedOf}
 use Rattle.index.specs.Answers.{partAt}
 use Rattle.index.specs.Lookups.{ByIdExact, ByOrdExact, ByKeyExact, AddrByKeyExact, GetBlock, LocateWithOrd, LocateWithKey, GetBlockWithKey, placeDef}
 use Rattle.listing.specs.Listing.{ListingLeaves, GetBlockForAutomaton}
+use Rattle.written_index.specs.Written.{lengthsBefore}
 
 -- entry i is block i, its final key separator i
 abbrev pub entryBlock : List Entry → ℕ → BlockAddr
@@ -31,16 +32,10 @@ entryBlock es i = blockOf (blocksOf es) i
 abbrev pub entrySeparator : List Entry → ℕ → List ℕ
 entrySeparator es i = getD (separatorsOf es) i []
 
--- the lengths of the first i keys, added up
-unfoldable pub lengthsBefore : List (List ℕ) → ℕ → ℕ
-lengthsBefore keys zero = 0
-lengthsBefore [] (suc i) = 0
-lengthsBefore (key ∷ keys) (suc i) = length key + lengthsBefore keys i
-
 -- where separator i stands in the index: after n, the pairs and the separators before it; other ids have no place
 unfoldable pub entryPlace : List Entry → ℕ → Place
 entryPlace es i =
-    cond (ltb i (length es)) (Part (4 + 8 * length es + lengthsBefore (separatorsOf es) i) (length (entrySeparator es i))) Missing
+    cond (ltb i (length es)) (Part (4 + pairLen * length es + lengthsBefore (separatorsOf es) i) (length (entrySeparator es i))) Missing
 
 -- what is found in the index f of the entries, opened
 pub record Finds (es : List Entry) (f : List ℕ) (opened : SSTableIndexV3) : Type 0 where
