@@ -80,11 +80,11 @@ module _ (S : Settings) (b : SSTableIndexBuilder) (B K : List ℕ) where
         group-count-le (set .group .some) (b .n),
       )
 
--- what is left of the output behind a place
+-- what is left of the output after a place
 pub length-rest : (out : List ℕ) (to : ℕ) → length (take (length out - to) (drop to out)) ≡ length out - to
 length-rest out to = ap length (rest-part out to) ∙ length-drop to out
 
--- the parts of an index: the second written into what is left of the output behind the first, the third behind both
+-- the parts of an index: the second written into what is left of the output after the first, the third after both
 pub index-written : (d s out a p w : List ℕ) (x y : ℕ) → x ≡ length d → y ≡ length s
     → a ≡ sets out 0 d
     → p ≡ sets (take (length a - x) (drop x a)) 0 s
@@ -93,5 +93,6 @@ pub index-written : (d s out a p w : List ℕ) (x y : ℕ) → x ≡ length d �
 index-written d s out a p w x y ex ey first second third =
     let two : putMid x (length a - x) a p ≡ sets a x s = rw (second, sets-in-part a s x 0, add-zero x) in
     let all : sets (sets a x s) (x + y) (leBytes 8 x) ≡ sets a x (s ++ leBytes 8 x) = rw ey (sets-append a s (leBytes 8 x) x) in
-    let front : sets (sets out 0 d) x (s ++ leBytes 8 x) ≡ sets out 0 (d ++ (s ++ leBytes 8 x)) = rw (zero-add (length d), ← ex) at (sets-append out d (s ++ leBytes 8 x) 0) in
+    let front : sets (sets out 0 d) x (s ++ leBytes 8 x) ≡ sets out 0 (d ++ (s ++ leBytes 8 x)) =
+    rw (zero-add (length d), ← ex) at (sets-append out d (s ++ leBytes 8 x) 0) in
     rw (← ex, ← front, ← first, ← all, ← two) third

@@ -19,7 +19,7 @@ use Rattle.group.proofs.RowOrder.{orRow-first, orRow-zero}
 use Rattle.builder.specs.declared.SSTableIndexBuilder.{SSTableIndexBuilder}
 use Rattle.builder.specs.View.{stride, View}
 use Rattle.builder.specs.Rows.{areaBad, AreaOk, keyLong, keyNo, keyBad, roomBad, blockNo, addNo, shortenNo}
-use Rattle.builder.specs.Area.{numbersOf, viewOf}
+use Rattle.builder.specs.Area.{recordNumbers, viewOf}
 use Rattle.builder.specs.Calls.{
   withBlocks,
   calledWith,
@@ -108,7 +108,7 @@ cond-zero : (t : Bool) (k r : ℕ) → cond t (suc k) r ≡ 0 → (t ≡ false) 
 cond-zero true k r e = absurd (omega arith)
 cond-zero false k r e = (refl, e)
 
--- a row that asks only behind a block
+-- a row that asks only after a block
 behind : (n : ℕ) (t : Bool) → (ltb 0 n && t) ≡ false → (n ≡ 0 → ⊥) → t ≡ false
 behind n t e some = rw (lt-ltb 0 n (omega arith)) at e
 
@@ -223,7 +223,7 @@ module _ (s : SSTableIndexBuilder) (B K key : List ℕ) where
 
     pub add-taken : (s′ : SSTableIndexBuilder) (B′ K′ : List ℕ) → addNo (viewOf s B K) key b ≡ 0
         → s′ ≡ withBlocks s (s .n + 1)
-        → B′ ≡ sets B (stride * s .n) (numbersOf b (record { offset = viewOf s B K .nextKey; len = length key }))
+        → B′ ≡ sets B (stride * s .n) (recordNumbers b (record { offset = viewOf s B K .nextKey; len = length key }))
         → K′ ≡ sets K (viewOf s B K .nextKey) key
         → calledWith 0 s′ B′ K′ ≡ addDef s B K key b
     unfolding addDef addStep

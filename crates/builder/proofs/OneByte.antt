@@ -41,7 +41,9 @@ module _ (K next : List ℕ) (at len : ℕ) (fits : at + len ≤ length K) where
         place = at + p;
         behind = omega arith;
         within = omega arith;
-        result = rw (r .result, take-take p len (drop at K) (omega arith), byte) (sets-part-one K at p (getD K (at + p) 0 + 1) (omega arith));
+        result =
+            rw (r .result, take-take p len (drop at K) (omega arith), byte)
+            (sets-part-one K at p (getD K (at + p) 0 + 1) (omega arith));
       }
 
   one-byte : (sets K at (shorten (take len (drop at K)) next) ≡ K) ⊎ OneRaised at len K (sets K at (shorten (take len (drop at K)) next))

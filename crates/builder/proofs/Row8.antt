@@ -15,9 +15,9 @@ use Rattle.group.specs.Legal.{Follows}
 use Rattle.directory.specs.Facts.{KeysArea}
 use Rattle.store.specs.Facts.{StoreArea}
 use Rattle.builder.specs.View.{stride}
-use Rattle.builder.specs.Rows.{recordBad, RecordOk, areaBad, AreaOk, blockNo}
+use Rattle.builder.specs.Rows.{recordBad, RecordOk, areaBad, AreaOk}
 use Rattle.builder.specs.Area.{keyField, areaBlock, areaPlace, areaKey, areaView, viewOf}
-use Rattle.builder.specs.Finish.{placesBad, rulesBad, listNo}
+use Rattle.builder.specs.Finish.{placeBad, ruleBad, placesBad, rulesBad, listNo}
 use Rattle.builder.specs.declared.SSTableIndexBuilder.{SSTableIndexBuilder}
 use Rattle.builder.proofs.Numbers.{BlockOk, block-ok}
 use Rattle.builder.proofs.Views.{record-ok, none-ok, area-ok, next-some, last-some, last-place}
@@ -74,55 +74,49 @@ module _ (B K : List ℕ) where
 
   -- ---- the keys' places
 
-  placesTest : ℕ → Bool
-  placesTest k = not (eqb (areaPlace B k .offset) (areaView k B K .nextKey)) || recordBad (length K) (areaPlace B k)
-
-  places-turn : (m : ℕ) → placesBad (suc m) B K ≡ (placesBad m B K || placesTest m)
-  unfolding placesBad placesTest
-  places-turn m = refl
-
   pub offset-hit : (m n : ℕ) → m < n → (areaPlace B m .offset ≡ areaView m B K .nextKey → ⊥) → true ≡ placesBad n B K
-  unfolding placesTest
+  unfolding placesBad
   offset-hit m n h ne =
-      sym (some-hit (λ (k : ℕ). placesBad k B K) placesTest places-turn m n h (or-left _ _ (ap not (ne-eqb _ _ ne))))
+      sym
+      (some-hit (λ (k : ℕ). placesBad k B K) (λ (k : ℕ). placeBad k B K) (λ k. refl) m n h (or-left _ _ (ap not (ne-eqb _ _ ne))))
 
   pub record-hit : (m n : ℕ) → m < n → recordBad (length K) (areaPlace B m) ≡ true → true ≡ placesBad n B K
-  unfolding placesTest
-  record-hit m n h t = sym (some-hit (λ (k : ℕ). placesBad k B K) placesTest places-turn m n h (or-right (not (eqb (areaPlace B m .offset) (areaView m B K .nextKey))) _ t))
+  unfolding placesBad
+  record-hit m n h t =
+      sym
+      (some-hit (λ (k : ℕ). placesBad k B K) (λ (k : ℕ). placeBad k B K) (λ k. refl) m n h
+      (or-right (not (eqb (areaPlace B m .offset) (areaView m B K .nextKey))) _ t))
 
   pub places-next : (m : ℕ) → placesBad m B K ≡ false → areaPlace B m .offset ≡ areaView m B K .nextKey
       → recordBad (length K) (areaPlace B m) ≡ false → placesBad (m + 1) B K ≡ false
-  unfolding placesTest
+  unfolding placesBad
   places-next m f e t =
-      none-next (λ (k : ℕ). placesBad k B K) placesTest places-turn m f (rw (eq-eqb (areaPlace B m .offset) (areaView m B K .nextKey) e, t))
+      none-next (λ (k : ℕ). placesBad k B K) (λ (k : ℕ). placeBad k B K) (λ k. refl) m f
+      (rw (eq-eqb (areaPlace B m .offset) (areaView m B K .nextKey) e, t))
 
   pub places-at : (n : ℕ) → placesBad n B K ≡ false → (i : ℕ) → i < n
       → (areaPlace B i .offset ≡ areaView i B K .nextKey) × RecordOk (length K) (areaPlace B i)
-  unfolding placesTest
+  unfolding placesBad
   places-at n f i h =
-      let p = neither _ _ (none-at (λ (k : ℕ). placesBad k B K) placesTest places-turn n f i h) in
+      let p = neither _ _ (none-at (λ (k : ℕ). placesBad k B K) (λ (k : ℕ). placeBad k B K) (λ k. refl) n f i h) in
       (eqb-true (areaPlace B i .offset) (areaView i B K .nextKey) (not-false _ (p .0)), record-ok (length K) (areaPlace B i) (p .1))
 
   -- ---- rows 2 to 6
 
-  pub rules-hit : (m n : ℕ) → m < n → not (eqb (blockNo (areaView m B K) (areaKey B K m) (areaKey B K m) (areaBlock B m)) 0) ≡ true
-      → true ≡ rulesBad n B K
+  pub rules-hit : (m n : ℕ) → m < n → ruleBad m B K ≡ true → true ≡ rulesBad n B K
   unfolding rulesBad
-  rules-hit m n h t =
-      sym (some-hit (λ (k : ℕ). rulesBad k B K) (λ (k : ℕ). not (eqb (blockNo (areaView k B K) (areaKey B K k) (areaKey B K k) (areaBlock B k)) 0)) (λ k. refl) m n h t)
+  rules-hit m n h t = sym (some-hit (λ (k : ℕ). rulesBad k B K) (λ (k : ℕ). ruleBad k B K) (λ k. refl) m n h t)
 
-  pub rules-next : (m : ℕ) → rulesBad m B K ≡ false
-      → not (eqb (blockNo (areaView m B K) (areaKey B K m) (areaKey B K m) (areaBlock B m)) 0) ≡ false → rulesBad (m + 1) B K ≡ false
+  pub rules-next : (m : ℕ) → rulesBad m B K ≡ false → ruleBad m B K ≡ false → rulesBad (m + 1) B K ≡ false
   unfolding rulesBad
-  rules-next m f t =
-      none-next (λ (k : ℕ). rulesBad k B K) (λ (k : ℕ). not (eqb (blockNo (areaView k B K) (areaKey B K k) (areaKey B K k) (areaBlock B k)) 0)) (λ k. refl) m f t
+  rules-next m f t = none-next (λ (k : ℕ). rulesBad k B K) (λ (k : ℕ). ruleBad k B K) (λ k. refl) m f t
 
   pub rules-at : (n : ℕ) → rulesBad n B K ≡ false → (i : ℕ) → i < n
       → BlockOk (areaView i B K) (areaKey B K i) (areaKey B K i) (areaBlock B i)
   unfolding rulesBad
   rules-at n f i h =
-      block-ok (areaView i B K) (areaKey B K i) (areaKey B K i) (areaBlock B i)
-      (eqb-true _ 0 (not-false _ (none-at (λ (k : ℕ). rulesBad k B K) (λ (k : ℕ). not (eqb (blockNo (areaView k B K) (areaKey B K k) (areaKey B K k) (areaBlock B k)) 0)) (λ k. refl) n f i h)))
+      let t = none-at (λ (k : ℕ). rulesBad k B K) (λ (k : ℕ). ruleBad k B K) (λ k. refl) n f i h in
+      block-ok (areaView i B K) (areaKey B K i) (areaKey B K i) (areaBlock B i) (eqb-true _ 0 (not-false _ t))
 
   -- ---- every front of the blocks fits the areas
 

@@ -19,8 +19,8 @@ abbrev pub keyLenField : ℕ
 keyLenField = keyField + 1
 
 -- the five numbers of a block whose key stands at `place`
-abbrev pub numbersOf : BlockAddr → KeyPlace → List ℕ
-numbersOf b place = b .start ∷ b .end ∷ b .«first_ordinal» ∷ place .offset ∷ place .len ∷ []
+abbrev pub recordNumbers : BlockAddr → KeyPlace → List ℕ
+recordNumbers b place = b .start ∷ b .end ∷ b .«first_ordinal» ∷ place .offset ∷ place .len ∷ []
 
 -- block i, its key's place, and its key
 abbrev pub areaBlock : List ℕ → ℕ → BlockAddr

@@ -9,7 +9,7 @@ use Rattle.keys.specs.Shorten.{shorten}
 use Rattle.group.specs.declared.BlockAddr.{BlockAddr}
 use Rattle.builder.specs.View.{stride}
 use Rattle.builder.specs.Rows.{addNo, shortenNo}
-use Rattle.builder.specs.Area.{keyLenField, numbersOf, areaPlace, areaKey, viewOf}
+use Rattle.builder.specs.Area.{keyLenField, recordNumbers, areaPlace, areaKey, viewOf}
 use Rattle.builder.specs.declared.SSTableIndexBuilder.{SSTableIndexBuilder}
 use Rattle.builder.specs.declared.Answer.{Answer}
 use Rattle.builder.specs.declared.Answer.the-variants.{Taken, Refused}
@@ -56,7 +56,7 @@ AnswerCased (Refused k b) = 0 < k
 unfoldable pub addStep : ℕ → SSTableIndexBuilder → List ℕ → List ℕ → List ℕ → BlockAddr → Called
 addStep zero b B K key block =
     calledWith 0 (withBlocks b (b .n + 1))
-    (sets B (stride * b .n) (numbersOf block (record { offset = viewOf b B K .nextKey; len = length key })))
+    (sets B (stride * b .n) (recordNumbers block (record { offset = viewOf b B K .nextKey; len = length key })))
     (sets K (viewOf b B K .nextKey) key)
 addStep (suc k) b B K key block = calledWith (suc k) b B K
 

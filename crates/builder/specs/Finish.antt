@@ -19,17 +19,22 @@ use Rattle.builder.specs.declared.Finished.the-variants.{Written, Unwrit
 use Rattle.builder.specs.declared.FinishLen.{FinishLen}
 use Rattle.builder.specs.declared.FinishLen.the-variants.{Total, Refused}
 
--- a key stands wrong: its offset isn't where the one before ends, the first isn't 0, or its record breaks row 1's rule
+-- key m stands wrong: its offset isn't where the one before ends (0 for the first), or its record breaks row 1's rule
+abbrev pub placeBad : ℕ → List ℕ → List ℕ → Bool
+placeBad m B K = not (eqb (areaPlace B m .offset) (areaView m B K .nextKey)) || recordBad (length K) (areaPlace B m)
+
+-- block m breaks 2 to 6 after the m blocks before it
+abbrev pub ruleBad : ℕ → List ℕ → List ℕ → Bool
+ruleBad m B K = not (eqb (blockNo (areaView m B K) (areaKey B K m) (areaKey B K m) (areaBlock B m)) 0)
+
+-- one of the first m does
 unfoldable pub placesBad : ℕ → List ℕ → List ℕ → Bool
 placesBad zero B K = false
-placesBad (suc m) B K =
-    placesBad m B K || (not (eqb (areaPlace B m .offset) (areaView m B K .nextKey)) || recordBad (length K) (areaPlace B m))
+placesBad (suc m) B K = placesBad m B K || placeBad m B K
 
--- a lent block breaks 2 to 6
 unfoldable pub rulesBad : ℕ → List ℕ → List ℕ → Bool
 rulesBad zero B K = false
-rulesBad (suc m) B K =
-    rulesBad m B K || not (eqb (blockNo (areaView m B K) (areaKey B K m) (areaKey B K m) (areaBlock B m)) 0)
+rulesBad (suc m) B K = rulesBad m B K || ruleBad m B K
 
 -- rows 1 and 8
 unfoldable pub listNo : SSTableIndexBuilder → List ℕ → List ℕ → ℕ

@@ -5,7 +5,7 @@ ghost use lib.ListN.{length};
 ghost use lib.Seq.{sets};
 ghost use Rattle.builder.specs.View.{stride};
 ghost use Rattle.builder.specs.Rows.{AreaOk};
-ghost use Rattle.builder.specs.Area.{numbersOf, viewOf};
+ghost use Rattle.builder.specs.Area.{recordNumbers, viewOf};
 use crate::SSTableIndexBuilder;
 use crate::rows::END;
 use crate::rows::FIRST_ORDINAL;
@@ -25,7 +25,7 @@ pub fn append(
 )
     requires { ⌜ AreaOk (viewOf builder (now blocks) (now keys)) × (stride * builder .n + stride ≤ length (now blocks))
         × (viewOf builder (now blocks) (now keys) .nextKey + length (now key) ≤ length (now keys)) ⌝ }
-    ensures { λ _. ⌜ now (blocks .exit) ≡ sets (now (blocks .entry)) (stride * builder .n) (numbersOf block (record {
+    ensures { λ _. ⌜ now (blocks .exit) ≡ sets (now (blocks .entry)) (stride * builder .n) (recordNumbers block (record {
       offset = viewOf builder (now (blocks .entry)) (now (keys .entry)) .nextKey;
       len = length (now (key .entry));
     })) ⌝ }

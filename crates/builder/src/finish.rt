@@ -1,15 +1,14 @@
 // Finishing: the index of the builder's areas.
 ghost use mathlib.Core.Path.{_≡_};
 ghost use Prim.Native.Nat.{_+_, _*_, _≤_, _<_};
-ghost use mathlib.Core.Bool.{false, not};
-ghost use lib.Dec.{eqb};
+ghost use mathlib.Core.Bool.{false};
 ghost use lib.ListN.{length};
 ghost use lib.Seq.{sets};
 ghost use Rattle.store.specs.Facts.{GroupLenOk};
-ghost use Rattle.builder.specs.Rows.{AreaOk, blockNo};
-ghost use Rattle.builder.specs.Area.{areaBlock, areaKey, areaView, viewOf};
+ghost use Rattle.builder.specs.Rows.{AreaOk};
+ghost use Rattle.builder.specs.Area.{areaView, viewOf};
 ghost use Rattle.builder.specs.Index.{settingsOf};
-ghost use Rattle.builder.specs.Finish.{placesBad, rulesBad, listNo, areaIndex, areaDirectory};
+ghost use Rattle.builder.specs.Finish.{ruleBad, placesBad, rulesBad, listNo, areaIndex, areaDirectory};
 use crate::SSTableIndexBuilder;
 use crate::refusals::AREA_BAD;
 use crate::refusals::LIST_BAD;
@@ -45,9 +44,7 @@ fn places_bad(builder: SSTableIndexBuilder, blocks: &[u64], keys: &[u8]) -> bool
 // Whether block i breaks rows 2 to 6 after the i blocks before it.
 fn rule_bad(i: usize, blocks: &[u64], keys: &[u8]) -> bool
     requires { ⌜ AreaOk (areaView i (now blocks) (now keys)) × AreaOk (areaView (i + 1) (now blocks) (now keys)) ⌝ }
-    ensures { λ r. ⌜ r ≡ not (eqb (blockNo (areaView i (now (blocks .entry)) (now (keys .entry)))
-        (areaKey (now (blocks .entry)) (now (keys .entry)) i) (areaKey (now (blocks .entry)) (now (keys .entry)) i)
-        (areaBlock (now (blocks .entry)) i)) 0) ⌝ }
+    ensures { λ r. ⌜ r ≡ ruleBad i (now (blocks .entry)) (now (keys .entry)) ⌝ }
 {
     let at = STRIDE * i;
     let block = BlockAddr {

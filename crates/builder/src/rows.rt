@@ -1,7 +1,8 @@
 // Rows 1 to 7 of the table.
 ghost use mathlib.Core.Path.{_≡_};
-ghost use Prim.Native.Nat.{_+_, _*_, _≤_};
+ghost use Prim.Native.Nat.{_+_, _*_, _≤_, _<_};
 ghost use lib.ListN.{length};
+ghost use Rattle.layout.specs.Layout.{maxBlocks};
 ghost use Rattle.keys.specs.Order.{commonPrefixLen};
 ghost use Rattle.builder.specs.View.{stride};
 ghost use Rattle.builder.specs.Rows.{recordBad, areaBad, AreaOk, keyNo, keyBad, roomBad, blockNo, addNo};
@@ -31,7 +32,7 @@ pub const KEY_LEN: usize = 4;
 
 // Whether the key of record i ends beyond the key area.
 pub fn record_bad(i: usize, blocks: &[u64], keys: &[u8]) -> bool
-    requires { ⌜ (i ≤ 65535) × (stride * i + stride ≤ length (now blocks)) ⌝ }
+    requires { ⌜ (i < maxBlocks) × (stride * i + stride ≤ length (now blocks)) ⌝ }
     ensures { λ r. ⌜ r ≡ recordBad (length (now (keys .entry))) (areaPlace (now (blocks .entry)) i) ⌝ }
 {
     let at = STRIDE * i;

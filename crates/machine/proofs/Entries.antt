@@ -11,10 +11,10 @@ use Rattle.layout.specs.Layout.{maxBlocks}
 use Rattle.serialize.proofs.Stores.{sets-part, sets-outside-take}
 use Rattle.group.specs.declared.BlockAddr.{BlockAddr}
 use Rattle.builder.specs.View.{stride, KeyPlace}
-use Rattle.builder.specs.Area.{keyLenField, numbersOf, areaBlock, areaPlace, areaKey, areaView, viewOf}
+use Rattle.builder.specs.Area.{keyLenField, recordNumbers, areaBlock, areaPlace, areaKey, areaView, viewOf}
 use Rattle.builder.specs.Calls.{State}
 use Rattle.machine.specs.Plain.{Entry, Rooms, keyBytesTaken, plainView}
-use Rattle.machine.specs.Runs.{Fresh, roomsOf}
+use Rattle.machine.specs.Runs.{FreshState, roomsOf}
 
 -- e is block i, and its key starts at `at`
 pub record Held (e : Entry) (i at : ℕ) (B K : List ℕ) : Type 0 where
@@ -37,7 +37,7 @@ pub record Rep (es : List Entry) (s : State) : Type 0 where
   pub holds : Holds es (s .blocks) (s .keys)
 
 -- whatever the areas hold, no block is no entry
-pub fresh : (s : State) → Fresh s → Rep [] s
+pub fresh : (s : State) → FreshState s → Rep [] s
 unfolding Holds keyBytesTaken
 fresh s e = record { count = e; few = omega arith; inside = omega arith; within = omega arith; holds = tt }
 
@@ -139,9 +139,9 @@ abbrev pub placeAt : ℕ → List ℕ → KeyPlace
 placeAt at key = record { offset = at; len = length key }
 
 added-held : (b : BlockAddr) (key : List ℕ) (i at : ℕ) (B K : List ℕ) → stride * i + stride ≤ length B → at + length key ≤ length K
-    → Held (record { block = b; key = key }) i at (sets B (stride * i) (numbersOf b (placeAt at key))) (sets K at key)
+    → Held (record { block = b; key = key }) i at (sets B (stride * i) (recordNumbers b (placeAt at key))) (sets K at key)
 added-held b key i at B K h g =
-    let w : List ℕ = numbersOf b (placeAt at key) in
+    let w : List ℕ = recordNumbers b (placeAt at key) in
     let n : (j : ℕ) → j < stride → getD (sets B (stride * i) w) (stride * i + j) 0 ≡ getD w j 0 = λ j l. getD-sets B w (stride * i) j h l in
     record {
       block = rw (rw (add-zero (stride * i)) at (n 0 (omega arith)), n 1 (omega arith), n 2 (omega arith));
@@ -153,12 +153,12 @@ added-held b key i at B K h g =
 pub holds-added : (es : List Entry) (b : BlockAddr) (key B K : List ℕ)
     → stride * length es + stride ≤ length B → keyBytesTaken es + length key ≤ length K → Holds es B K
     → Holds (record { block = b; key = key } ∷ es)
-    (sets B (stride * length es) (numbersOf b (placeAt (keyBytesTaken es) key))) (sets K (keyBytesTaken es) key)
+    (sets B (stride * length es) (recordNumbers b (placeAt (keyBytesTaken es) key))) (sets K (keyBytesTaken es) key)
 unfolding Holds
 holds-added es b key B K h g w = (
   added-held b key (length es) (keyBytesTaken es) B K h g,
   holds-kept es B K _ _ (stride * length es) (keyBytesTaken es) (omega arith) (omega arith)
-      (sets-outside-take B (numbersOf b (placeAt (keyBytesTaken es) key)) (stride * length es) (stride * length es) (omega arith))
+      (sets-outside-take B (recordNumbers b (placeAt (keyBytesTaken es) key)) (stride * length es) (stride * length es) (omega arith))
       (sets-outside-take K key (keyBytesTaken es) (keyBytesTaken es) (omega arith)) w,
 )
 

@@ -34,7 +34,7 @@ use Rattle.builder.specs.Finish.{
 use Rattle.builder.proofs.Views.{record-good}
 use Rattle.machine.specs.Plain.{Entry, Call, plainEnd, blocksOf, separatorsOf, plainIndex, plainDirectory}
 use Rattle.machine.specs.Finished.{plainFinish}
-use Rattle.machine.specs.Runs.{Fresh, roomsOf, runEnd, finishedAfter}
+use Rattle.machine.specs.Runs.{FreshState, roomsOf, runEnd, finishedAfter}
 use Rattle.machine.proofs.Entries.{Rep, rep-view}
 use Rattle.machine.proofs.NeverHit.{never-one}
 use Rattle.machine.proofs.Rules.{EntriesOk, run-rules}
@@ -120,7 +120,7 @@ module _ (es : List Entry) (s : State) (r : Rep es s) where
         (λ t. rw (rep-list, rep-index S, t, rep-index S, rep-directory, rep-builder))
 
 -- a list of calls from a fresh builder, then a finish with any settings
-pub finish-plain : (S : Settings) (cs : List Call) (s : State) → Fresh s → (out : List ℕ)
+pub finish-plain : (S : Settings) (cs : List Call) (s : State) → FreshState s → (out : List ℕ)
     → finishedAfter S cs s out ≡ plainFinish S (plainEnd (roomsOf s) cs []) out
 finish-plain S cs s e out =
     let both = run-rules cs s e in

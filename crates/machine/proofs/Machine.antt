@@ -14,7 +14,7 @@ use Rattle.keys.proofs.Shorten.{shorten-length}
 use Rattle.group.specs.declared.BlockAddr.{BlockAddr}
 use Rattle.builder.specs.View.{stride, View}
 use Rattle.builder.specs.Rows.{addNo, shortenNo}
-use Rattle.builder.specs.Area.{numbersOf, viewOf}
+use Rattle.builder.specs.Area.{recordNumbers, viewOf}
 use Rattle.builder.specs.Calls.{
   withBlocks,
   State,
@@ -40,7 +40,7 @@ use Rattle.machine.specs.Plain.{
   plainNumbers,
   plainEnd,
 }
-use Rattle.machine.specs.Runs.{Fresh, roomsOf, callDef, runNumbers, runEnd}
+use Rattle.machine.specs.Runs.{FreshState, roomsOf, callDef, runNumbers, runEnd}
 use Rattle.machine.proofs.Entries.{
   Rep,
   fresh,
@@ -68,7 +68,7 @@ module _ (es : List Entry) (s : State) (r : Rep es s) (key : List ℕ) (b : Bloc
       → Rep (record { block = b; key = key } ∷ es) (record {
         builder = withBlocks (s .builder) (s .builder .n + 1);
         blocks =
-            sets (s .blocks) (stride * s .builder .n) (numbersOf b (placeAt (viewOf (s .builder) (s .blocks) (s .keys) .nextKey) key));
+            sets (s .blocks) (stride * s .builder .n) (recordNumbers b (placeAt (viewOf (s .builder) (s .blocks) (s .keys) .nextKey) key));
         keys = sets (s .keys) (viewOf (s .builder) (s .blocks) (s .keys) .nextKey) key;
       })
   unfolding keyBytesTaken
@@ -175,5 +175,5 @@ run (c ∷ cs) es s r =
       rep = rw w at (ih .rep);
     }
 
-pub run-fresh : (cs : List Call) (s : State) → Fresh s → Run cs [] s
+pub run-fresh : (cs : List Call) (s : State) → FreshState s → Run cs [] s
 run-fresh cs s e = run cs [] s (fresh s e)

@@ -14,7 +14,7 @@ use Rattle.builder.specs.Rows.{areaBad, keyLong, keyNo, keyBad, roomBad, blockN
 use Rattle.builder.specs.Calls.{State}
 use Rattle.builder.proofs.Views.{area-good}
 use Rattle.machine.specs.Plain.{Entry, Call, add, shortenLast, keyBytesTaken, plainView, callNo}
-use Rattle.machine.specs.Runs.{Fresh, roomsOf, callDef, runNumbers}
+use Rattle.machine.specs.Runs.{FreshState, roomsOf, callDef, runNumbers}
 use Rattle.machine.proofs.Entries.{Rep, fresh, plain-n, plain-place, plain-room}
 use Rattle.machine.proofs.Machine.{step}
 
@@ -22,7 +22,7 @@ use Rattle.machine.proofs.Machine.{step}
 pub never-one : (es : List Entry) (s : State) → Rep es s → areaBad (plainView (roomsOf s) es) ≡ false
 never-one es s r =
     let n = plain-n (roomsOf s) es in
-    let k : plainView (roomsOf s) es .place .offset + plainView (roomsOf s) es .place .len ≡ keyBytesTaken es = plain-place (roomsOf s) es in
+    let k = plain-place (roomsOf s) es in
     let m = plain-room (roomsOf s) es in
     area-good (plainView (roomsOf s) es)
     (record {
@@ -75,8 +75,8 @@ run-other [] es s r i = other 0 refl refl
 run-other (c ∷ cs) es s r zero = rw (step c es s r .number) (call-other (plainView (roomsOf s) es) c (never-one es s r))
 run-other (c ∷ cs) es s r (suc i) = run-other cs _ (callDef c s .state) (step c es s r .rep) i
 
-pub fresh-not-one : (cs : List Call) (s : State) → Fresh s → (i : ℕ) → getD (runNumbers cs s) i 0 ≡ 1 → ⊥
+pub fresh-not-one : (cs : List Call) (s : State) → FreshState s → (i : ℕ) → getD (runNumbers cs s) i 0 ≡ 1 → ⊥
 fresh-not-one cs s e i = run-other cs [] s (fresh s e) i .0
 
-pub fresh-not-eight : (cs : List Call) (s : State) → Fresh s → (i : ℕ) → getD (runNumbers cs s) i 0 ≡ 8 → ⊥
+pub fresh-not-eight : (cs : List Call) (s : State) → FreshState s → (i : ℕ) → getD (runNumbers cs s) i 0 ≡ 8 → ⊥
 fresh-not-eight cs s e i = run-other cs [] s (fresh s e) i .1

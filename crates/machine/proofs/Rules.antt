@@ -14,7 +14,7 @@ use Rattle.group.specs.Legal.{NumbersOk, Follows}
 use Rattle.builder.specs.Calls.{State}
 use Rattle.builder.proofs.Numbers.{BlockOk, add-ok}
 use Rattle.machine.specs.Plain.{Entry, Call, add, shortenLast, Rooms, plainView, callNo, taken, plainNext, plainEnd}
-use Rattle.machine.specs.Runs.{Fresh, roomsOf}
+use Rattle.machine.specs.Runs.{FreshState, roomsOf}
 use Rattle.machine.proofs.Machine.{Run, run-fresh}
 
 -- rows 2 and 3: an entry by itself
@@ -87,5 +87,5 @@ pub entries-ok : (rooms : Rooms) (cs : List Call) → EntriesOk (plainEnd rooms 
 entries-ok rooms cs = entries-run rooms cs [] none
 
 -- a fresh builder's areas stand for entries that keep the rows
-pub run-rules : (cs : List Call) (s : State) → Fresh s → Run cs [] s × EntriesOk (plainEnd (roomsOf s) cs [])
+pub run-rules : (cs : List Call) (s : State) → FreshState s → Run cs [] s × EntriesOk (plainEnd (roomsOf s) cs [])
 run-rules cs s e = (run-fresh cs s e, entries-ok (roomsOf s) cs)

@@ -22,7 +22,7 @@ use Rattle.builder.specs.Calls.{State}
 use Rattle.builder.specs.Index.{Settings, SettingsOk, indexBytes}
 use Rattle.builder.proofs.IndexBytes.{length-indexBytes}
 use Rattle.machine.specs.Plain.{Entry, Call, plainEnd, blocksOf, separatorsOf, SameLists, plainIndex}
-use Rattle.machine.specs.Runs.{Fresh, roomsOf}
+use Rattle.machine.specs.Runs.{FreshState, roomsOf}
 use Rattle.machine.proofs.Rules.{EntriesOk, run-rules}
 use Rattle.machine.proofs.Indexed.{length-oldest, entries-legal, separators-short, separators-rise}
 use Rattle.machine.proofs.PlainFinish.{plain-none, plain-some}
@@ -88,7 +88,7 @@ module _ (S S′ : Settings) (groups : S .groupLen ≡ S′ .groupLen) where
       (λ t. ltb-false (length es′) 2 t)
 
   -- of two lists of calls, the indexes have equal bytes only when blocks and separators are equal, whatever slopes were chosen
-  pub fresh-inj : SettingsOk S → SettingsOk S′ → (cs cs′ : List Call) (s s′ : State) → Fresh s → Fresh s′
+  pub fresh-inj : SettingsOk S → SettingsOk S′ → (cs cs′ : List Call) (s s′ : State) → FreshState s → FreshState s′
       → 2 ≤ length (plainEnd (roomsOf s) cs [])
       → plainIndex S (plainEnd (roomsOf s) cs []) ≡ plainIndex S′ (plainEnd (roomsOf s′) cs′ [])
       → SameLists (plainEnd (roomsOf s) cs []) (plainEnd (roomsOf s′) cs′ [])

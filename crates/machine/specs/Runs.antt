@@ -9,8 +9,8 @@ use Rattle.builder.specs.Finish.{Finish, finishDef}
 use Rattle.machine.specs.Plain.{Call, add, shortenLast, Rooms}
 
 -- no block yet; areas of any length and content
-abbrev pub Fresh : State → Type 0
-Fresh s = s .builder .n ≡ 0
+abbrev pub FreshState : State → Type 0
+FreshState s = s .builder .n ≡ 0
 
 abbrev pub roomsOf : State → Rooms
 roomsOf s = record { blocks = length (s .blocks); keys = length (s .keys) }

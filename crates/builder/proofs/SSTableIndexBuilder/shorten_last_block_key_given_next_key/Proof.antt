@@ -1,4 +1,4 @@
--- `builder::SSTableIndexBuilder::shorten_last_block_key_given_next_key` meets its contract: rows 1, 2 and 6 in their order, then the shortening.
+-- `shorten_last_block_key_given_next_key` meets its contract: rows 1, 2 and 6 in their order, then the shortening.
 use borrow.Author.Needs.{needs}
 use mathlib.Core.Path.{_≡_, sym, _∙_}
 use mathlib.Core.Bool.{false}
@@ -89,7 +89,11 @@ shorten-last-requires c κs =
     let d = f .before .before .before in
     let a = d .before .before .before .before .before .before .before .before .before .args in (
       ok (d .before .before),
-      omega (arith, f .common-len .ensures, commonPrefixLen-left (viewOf (a .self) (a .blocks .now) (a .keys .now) .lastKey) (a .next-key .now)),
+      omega (
+        arith,
+        f .common-len .ensures,
+        commonPrefixLen-left (viewOf (a .self) (a .blocks .now) (a .keys .now) .lastKey) (a .next-key .now),
+      ),
     )
 
 same-length-7 : tie.Need-same-length-7

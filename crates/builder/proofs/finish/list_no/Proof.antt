@@ -34,10 +34,14 @@ rules-bad-requires : tie.Need-rules-bad-requires
 rules-bad-requires c κs = (area-ok _ (area (c .before .before)), places c)
 
 returns-3 : tie.Need-returns-3
-returns-3 c = list-rules _ _ _ (area (c .before .before .before .before)) (places (c .before .before)) (sym (c .before .rules-bad .ensures) ∙ c .if3 .taken)
+returns-3 c =
+    list-rules _ _ _ (area (c .before .before .before .before)) (places (c .before .before))
+    (sym (c .before .rules-bad .ensures) ∙ c .if3 .taken)
 
 returns-4 : tie.Need-returns-4
-returns-4 c = list-none _ _ _ (area (c .before .before .before .before)) (places (c .before .before)) (sym (c .before .rules-bad .ensures) ∙ c .if3 .left)
+returns-4 c =
+    list-none _ _ _ (area (c .before .before .before .before)) (places (c .before .before))
+    (sym (c .before .rules-bad .ensures) ∙ c .if3 .left)
 
 pub list-no-spec : {M : Type 1} → statement M
 list-no-spec =

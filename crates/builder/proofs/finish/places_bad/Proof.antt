@@ -1,4 +1,4 @@
--- `builder::finish::places_bad` meets its contract. The loop's invariant: the keys so far stand right, and `next` is where the next one starts.
+-- `builder::finish::places_bad` meets its contract. Invariant: the keys so far stand right, and `next` is where the next one starts.
 use borrow.Author.Needs.{needs}
 use Prim.Native.Nat.{ℕ, _+_, _-_, _≤_}
 use mathlib.Core.Path.{_≡_, refl, sym, ap, _∙_}

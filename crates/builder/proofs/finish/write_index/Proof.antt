@@ -40,7 +40,8 @@ sub-serialize : tie.Need-sub-serialize
 sub-serialize c = omega (arith, room (c .before .before .before .before .before .before .before), c .before .before .serialize .ensures .0)
 
 part-serialize-start : tie.Need-part-serialize-start
-part-serialize-start c = omega (arith, room (c .before .before .before .before .before .before .before), c .before .before .serialize .ensures .0)
+part-serialize-start c =
+    omega (arith, room (c .before .before .before .before .before .before .before), c .before .before .serialize .ensures .0)
 
 part-serialize-end : tie.Need-part-serialize-end
 part-serialize-end c = search needs

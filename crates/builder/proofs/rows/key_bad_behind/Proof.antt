@@ -1,4 +1,4 @@
--- `builder::rows::key_bad_behind` meets its contract: row 6 asks only behind a block.
+-- `builder::rows::key_bad_behind` meets its contract: row 6 asks only after a block.
 use borrow.Author.Needs.{needs}
 use borrow.Author.Tests.{lt-ltb, le-ltb}
 use mathlib.Core.Path.{_≡_, sym, ap, _∙_}
