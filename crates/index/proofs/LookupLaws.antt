@@ -5,7 +5,7 @@ use mathlib.Core.List.{List}
 use Prim.Native.Nat.{ℕ, _<_}
 use native.Mathlib.Nat.{zero-add}
 use native.Mathlib.Omega.{arith}
-use lib.ListN.{take, drop, length-take}
+use lib.ListN.{length-take}
 use Rattle.serialize.proofs.Numbers.{part-of-front}
 use Rattle.group.specs.Legal.{Legal}
 use Rattle.directory.specs.Read.{keyLength, keyPosition, keyOutside}

@@ -3,14 +3,13 @@ use mathlib.Core.Path.{_≡_, refl}
 use mathlib.Core.Bool.{Bool, true, false, not, cond}
 use mathlib.Core.List.{List}
 use mathlib.Core.Logic.{⊎-elim}
-use Prim.Native.Nat.{ℕ, zero, suc, _+_, _-_, _*_, _≤_}
+use Prim.Native.Nat.{ℕ, zero, suc, _+_, _*_, _≤_}
 use native.Mathlib.Nat.{eq-zero-or-pos}
 use native.Mathlib.Omega.{arith}
 use lib.Dec.{eqb, ltb}
 use lib.ListN.{length, take, drop}
 use borrow.Author.Tests.{ltb-false, eqb-true, eqb-false, not-false}
 use Rattle.serialize.proofs.Tests.{neither}
-use Rattle.group.specs.Rows.{orRow}
 use Rattle.group.proofs.RowOrder.{orRow-zero}
 use Rattle.store.specs.Store.{groupCount}
 use Rattle.store.specs.Read.{StoreOk}

@@ -11,7 +11,6 @@ use lib.ListN.{length, take, drop, length-drop}
 use lib.Seq.{length-take-le, take-take}
 use Rattle.serialize.specs.Digits.{leVal}
 use Rattle.serialize.proofs.Tests.{neither}
-use Rattle.group.specs.Rows.{orRow}
 use Rattle.group.proofs.RowOrder.{orRow-first, orRow-zero}
 use Rattle.store.specs.Store.{groupCount}
 use Rattle.store.specs.Facts.{GroupRecordsOk}

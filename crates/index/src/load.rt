@@ -13,11 +13,13 @@ use layout::META_LEN;
 
 const FOOTER_LEN: usize = 8;
 
-// The rows of the table that are tested here: bytes that are too short, no directory, the records' length.
+// Row 10 of the table: fewer bytes than the lengths need.
 const TOO_SHORT: u32 = 10;
 
+// Row 11: no directory.
 const NO_DIRECTORY: u32 = 11;
 
+// Row 14: the group records' length.
 const RECORDS_BAD: u32 = 14;
 
 // Rows 10 and 11.

@@ -17,21 +17,21 @@ use crate::Located;
 use crate::LocatedId;
 use crate::Place;
 use crate::SSTableIndexV3;
+use crate::UNFIT;
 use directory::read::Found;
 use group::BlockAddr;
 use layout::MAX_BLOCKS;
 use layout::META_LEN;
 use store::OrdFound;
 
-// The rows of the table that are tested here: an id, an ordinal or a key without a block, and a record or bytes that
-// don't fit.
+// Row 17 of the table: an id without a block.
 const UNKNOWN_ID: u32 = 17;
 
+// Row 18: an ordinal below the first.
 const ORDINAL_BELOW: u32 = 18;
 
+// Row 19: a key above the last separator.
 const KEY_ABOVE: u32 = 19;
-
-const UNFIT: u32 = 20;
 
 // Whether a part lies outside `len` bytes.
 fn part_outside(offset: usize, part_len: usize, len: usize) -> bool

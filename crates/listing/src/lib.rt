@@ -18,10 +18,14 @@ use automaton::reach::can_match;
 use automaton::table::accept;
 use directory::read::key;
 use index::SSTableIndexV3;
+use index::UNFIT;
 use index::opened_bad;
 use pruning::block_match_automaton::accept_prefix;
 use pruning::block_match_automaton::can_block_match;
 use pruning::block_match_automaton::can_block_match_from;
+
+// Row 24 of the table: fewer bytes for marks than blocks.
+const FEW_MARKS: u32 = 24;
 
 // How many blocks are marked, or a row's number.
 pub enum Listed {
@@ -287,20 +291,20 @@ pub fn get_block_for_automaton(
     ensures { λ r. ⌜ ListedCased r ⌝ }
 {
     if opened_bad(opened, data.len()) {
-        return Listed::Refused(20);
+        return Listed::Refused(UNFIT);
     }
     let from = opened.directory;
     let end = from + opened.directory_len;
     let directory = &data[from..end];
     if keys_outside(directory, opened.n) {
-        return Listed::Refused(20);
+        return Listed::Refused(UNFIT);
     }
     let no = automaton::table::check(table);
     if no != 0 {
         return Listed::Refused(no);
     }
     if marks.len() < opened.n {
-        return Listed::Refused(24);
+        return Listed::Refused(FEW_MARKS);
     }
     Listed::Count(mark_blocks(directory, opened.n, table, marks))
 }

@@ -1,5 +1,5 @@
 -- A listing in a written index: for every table and room its number, and for every call what it leaves in the marks.
-use Prim.Native.Nat.{ℕ, _<_}
+use Prim.Native.Nat.{ℕ}
 use mathlib.Core.Path.{_≡_, subst, _∙_}
 use mathlib.Core.List.{List, []}
 use mathlib.Core.Bool.{cond}
