@@ -44,7 +44,7 @@ fn front(report: &Report) -> String {
     }
     out += "## The bars\n\n";
     let head = [
-        "call", "beside", "bar", "ratios", "over", "least", "median", "most",
+        "call", "beside", "bar", "rows", "over", "least", "median", "most",
     ];
     out += &table_head(&head.map(str::to_string));
     for group in groups(report) {
@@ -54,7 +54,7 @@ fn front(report: &Report) -> String {
             group.call.whose.name().to_string(),
             group.bar(),
             group.rows.len().to_string(),
-            group.over().to_string(),
+            group.over(),
             told(group.least()),
             ratio(group.median()),
             told(group.most()),

@@ -12,18 +12,19 @@ pub const END: &str = "<!-- to here -->";
 /// Ratios of all calls, a line for each group of rows.
 pub fn table(report: &Report) -> String {
     let head = [
-        "call", "beside", "least", "median", "most", "bar", "over it",
+        "call", "beside", "rows", "least", "median", "most", "bar", "over",
     ];
     let mut out = table_head(&head.map(str::to_string));
     for group in groups(report) {
         out += &table_line(&[
             group.name.to_string(),
             group.call.whose.name().to_string(),
+            group.rows.len().to_string(),
             ratio(group.least()),
             ratio(group.median()),
             ratio(group.most()),
             group.bar(),
-            format!("{} of {}", group.over(), group.rows.len()),
+            group.over(),
         ]);
     }
     out

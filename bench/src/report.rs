@@ -8,7 +8,7 @@ use crate::measure::{Effort, Side, Taken, race};
 
 /// How often all rows are gone through, and the runs of a side each time.
 const PASSES: usize = 4;
-const ROUNDS: usize = 6;
+const ROUNDS: usize = 8;
 
 /// Sizes that are looked at in quick runs, unless one is named.
 const QUICK_SIZES: [usize; 3] = [2, 1_000, 65_536];

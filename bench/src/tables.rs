@@ -86,8 +86,11 @@ impl<'a> Group<'a> {
         bar.map_or("none".to_string(), |bar| bar.to_string())
     }
 
-    pub fn over(&self) -> usize {
-        self.rows.iter().filter(|row| row.over()).count()
+    /// How many are over their bar, if there is one.
+    pub fn over(&self) -> String {
+        let over = self.rows.iter().filter(|row| row.over()).count();
+        let bar = self.rows[0].bar;
+        bar.map_or(String::new(), |_| over.to_string())
     }
 
     pub fn least(&self) -> &'a Row {

@@ -46,7 +46,8 @@ pub const METHOD: &str = "\
   after the last block's first; of the keys half are separators and half are a separator and one more byte, 00.
 - Listing: equal work on both sides, once as marks alone and once with the address of each marked block. Inside the time the Rust's
   automaton is made from the table's bytes, as ours is; \"table ready\" leaves that out on the Rust's side alone. Both sides put
-  addresses into a list that has the room.
+  addresses into a list that has the room. Up to 65,536 blocks with keys short and long-shared, 4,096 with long-early and 1,000 with
+  the longest keys, for which one listing takes the Rust a tenth of a second and more.
 - A pattern doesn't end early (\"far\") if in a third of the blocks or more the Rust's search reads 100 bytes of a key or more from
   states that can match. There the bar is 0.1, elsewhere 0.5.
 ";

@@ -35,6 +35,8 @@ fn report(quick: bool) -> Report {
     let far =
         Row::new("listing, marks", "long-early, follows (3)", 2).grouped("listing, marks, far");
     report.rows.push(row(far.held(0.1), 1.0, 4.0));
+    let add = Row::new("add", "short", 2);
+    report.rows.push(row(add, 7.0, 2.0));
     let load = Row::new("opening beside load", "short", 2).unequal();
     report.rows.push(row(load, 70_000.0, 7.0));
     report
@@ -121,12 +123,13 @@ fn only_tables_have_long_lines() {
 fn the_table_of_the_readme() {
     let table = readme::table(&report(false));
     assert!(table.contains(
-        "| get by id | tantivy + stand-ins | 1.00 | **1.50** | **1.50** | 1 | 1 of 2 |\n"
+        "| get by id | tantivy + stand-ins | 2 | 1.00 | **1.50** | **1.50** | 1 | 1 |\n"
     ));
     assert!(table.contains(
-        "| listing, marks | tantivy + stand-ins | 0.010 | 0.010 | 0.010 | 0.5 | 0 of 1 |\n"
+        "| listing, marks | tantivy + stand-ins | 1 | 0.010 | 0.010 | 0.010 | 0.5 | 0 |\n"
     ));
-    assert!(table.contains("| listing, marks, far | tantivy + stand-ins | **0.25** | **0.25** | **0.25** | 0.1 | 1 of 1 |\n"));
+    assert!(table.contains("| listing, marks, far | tantivy + stand-ins | 1 | **0.25** | **0.25** | **0.25** | 0.1 | 1 |\n"));
+    assert!(table.contains("| add | tantivy | 1 | 3.50 | 3.50 | 3.50 | none |  |\n"));
     assert!(!table.contains("load"));
     let text = format!("one\n{}\nold\n{}\ntwo\n", readme::BEGIN, readme::END);
     let new = format!("one\n{}\n{table}{}\ntwo\n", readme::BEGIN, readme::END);

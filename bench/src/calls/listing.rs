@@ -53,21 +53,24 @@ const READY: Call = Call {
 /// 129 and 16,384 blocks show nothing here that their neighbours don't.
 const SIZES: [usize; 6] = [2, 16, 128, 1_000, 4_096, 65_536];
 
-/// The Rust takes long for one listing over more of the longest keys.
-const MOST_OF_LONGEST: usize = 1_000;
-
 /// From so many bytes of a key on a pattern doesn't end early.
 const FAR: usize = 100;
 
-/// Whether patterns are looked at in an index of this size. Quick runs leave out what takes seconds.
+/// How many blocks patterns are looked at in: fewer where the Rust takes long for one listing. Quick runs leave out what
+/// takes seconds in all.
+fn most(kind: Keys, quick: bool) -> usize {
+    match kind {
+        Keys::SharedLongest | Keys::EarlyLongest => 1_000,
+        Keys::Early => 4_096,
+        Keys::Short | Keys::Shared if quick => 4_096,
+        Keys::Short | Keys::Shared => 65_536,
+    }
+}
+
+/// Whether patterns are looked at in an index of this size.
 pub fn of_size(report: &Report, input: &Input) -> bool {
-    let longest = matches!(input.kind, Keys::SharedLongest | Keys::EarlyLongest);
-    let most = match (longest, report.options.quick && !report.names_a_size()) {
-        (true, _) => MOST_OF_LONGEST,
-        (_, true) => 4_096,
-        (_, false) => 65_536,
-    };
-    SIZES.contains(&input.n) && input.n <= most
+    let quick = report.options.quick && !report.names_a_size();
+    SIZES.contains(&input.n) && input.n <= most(input.kind, quick)
 }
 
 fn measure(report: &mut Report, input: &Input) {
