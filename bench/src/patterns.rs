@@ -216,7 +216,7 @@ fn live(flags: &[u8], next: &[[u8; 256]]) -> u64 {
     live
 }
 
-/// Whether a byte leads to one of the states. Eight equal ones are passed at once.
+/// Whether a byte leads to one of the states. Eight next states that repeat the eight before them are passed at once.
 fn leads_to(row: &[u8; 256], states: u64) -> bool {
     let (eights, _) = row.as_chunks::<8>();
     let mut passed = None;

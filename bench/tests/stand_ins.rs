@@ -33,7 +33,7 @@ fn fields_of_all_widths_are_packed() {
     let mut numbers = Numbers(5);
     for width in 1..=64 {
         let highest = u64::MAX >> (64 - width);
-        for count in 0..130 {
+        for count in 0..40 {
             let fields: Vec<(u64, u8)> = (0..count)
                 .map(|_| (numbers.next() & highest, width))
                 .collect();
