@@ -139,6 +139,23 @@ fn the_table_of_the_readme() {
 }
 
 #[test]
+fn the_table_is_written_between_the_marks() {
+    let file = env::temp_dir().join(format!("rosmarel-readme-{}.md", process::id()));
+    fs::write(
+        &file,
+        format!("a\n{}\nold\n{}\nb\n", readme::BEGIN, readme::END),
+    )
+    .unwrap();
+    readme::write(&report(false), &file).unwrap();
+    let text = fs::read_to_string(&file).unwrap();
+    fs::write(&file, "a\nb\n").unwrap();
+    assert!(readme::write(&report(false), &file).is_err());
+    fs::remove_file(&file).unwrap();
+    assert!(text.starts_with("a\n<!--") && text.ends_with("-->\nb\n"));
+    assert!(text.contains("| get by id |") && !text.contains("old"));
+}
+
+#[test]
 fn the_repository_has_a_place_for_the_table() {
     let readme = fs::read_to_string(concat!(env!("CARGO_MANIFEST_DIR"), "/../README.md")).unwrap();
     assert!(readme::splice(&readme, "").is_some());
