@@ -38,7 +38,7 @@ fn clear(plots: &Path) -> io::Result<()> {
 fn front(report: &Report) -> String {
     let (held, over) = report.verdict();
     let mut out = String::from(words::FRONT);
-    out += &format!("Of {held} ratios that are held to a bar, {over} are over it.\n\n");
+    out += &format!("\nOf {held} ratios that are held to a bar, {over} are over it.\n\n");
     if report.options.quick {
         out += "**A draft: these figures are from a quick run. `bench/run` takes them anew.**\n\n";
     }

@@ -5,7 +5,8 @@ pub const FRONT: &str = "\
 
 `bench/run` writes this file, the plots and the table in README.md: the exported functions of `librosmarel.a`, and the Rust crate
 over them (bindings/rust), beside the Rust of tantivy-sstable 0.27.0. A ratio is our time / the other side's; below 1 ours is
-faster. A ratio over its bar is bold.
+faster. A ratio over its bar is bold. The bench's own tests are `cargo test --offline` in bench/; its build scripts put together
+what they need, in a fresh clone too.
 ";
 
 pub const WHOSE: &str = "

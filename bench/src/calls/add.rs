@@ -7,7 +7,7 @@ use tantivy_sstable::access;
 
 use super::{Call, Family, Plots, Whose};
 use crate::ffi;
-use crate::inputs::{Input, areas, our_builder, rust_builder, theirs};
+use crate::inputs::{Input, areas, our_builder, theirs};
 use crate::measure::{making, side};
 use crate::plot::Scale;
 use crate::report::{Report, Row};
@@ -59,15 +59,14 @@ fn rust(input: &Input) -> access::Builder {
     builder
 }
 
-/// Both sides hold the same at the end.
-fn check(input: &Input) {
-    let mut bytes = Vec::new();
-    rust_builder(&input.keys, &input.blocks).serialize(&mut bytes);
-    assert!(our_builder(&input.keys, &input.blocks).finish() == Ok(bytes));
-}
-
 fn measure_lent(report: &mut Report, input: &Input, row: Row) {
     let (mut numbers, mut bytes) = areas(&input.keys, &input.blocks);
+    if report.first_pass() {
+        // the Rust's builder wrote the input's index
+        let mut out = vec![0; input.index.len()];
+        ffi::finish(input.n as u64, &numbers, &bytes, &mut out).unwrap();
+        assert!(out == input.index);
+    }
     let batch = ADDS.div_ceil(input.n);
     let ours = side(|| {
         for _ in 0..batch {
@@ -84,7 +83,8 @@ fn measure_lent(report: &mut Report, input: &Input, row: Row) {
 
 fn measure_grown(report: &mut Report, input: &Input, row: Row) {
     if report.first_pass() {
-        check(input);
+        let index = our_builder(&input.keys, &input.blocks).finish().unwrap();
+        assert!(index == input.index);
     }
     let batch = ADDS.div_ceil(input.n);
     let ours = making(batch, || {
