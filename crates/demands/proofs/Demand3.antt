@@ -13,7 +13,7 @@ use Rattle.builder.specs.Index.{SettingsOk, standard}
 use Rattle.builder.specs.Finish.{Finish}
 use Rattle.machine.specs.Plain.{Call, plainIndex}
 use Rattle.machine.specs.Finished.{plainFinish}
-use Rattle.machine.specs.Runs.{Fresh, finishedAfter}
+use Rattle.machine.specs.Runs.{FreshState, finishedAfter}
 use Rattle.machine.proofs.NeverHit.{fresh-not-one, fresh-not-eight}
 use Rattle.machine.proofs.Rules.{run-rules}
 use Rattle.machine.proofs.Finishing.{finish-plain}
@@ -27,7 +27,7 @@ module _ (choose : List ℕ → ℕ) (slopes : (vs : List ℕ) → choose vs < 2
   settings-ok : SettingsOk (settings choose)
   settings-ok = record { slopes = slopes; group = record { some = omega arith; few = omega arith } }
 
-  module _ (cs : List Call) (fresh : State) (out : List ℕ) (none : Fresh fresh) where
+  module _ (cs : List Call) (fresh : State) (out : List ℕ) (none : FreshState fresh) where
     finishes : finishedAfter (settings choose) cs fresh out ≡ plainFinish (settings choose) (entriesAfter cs fresh) out
     finishes = finish-plain (settings choose) cs fresh none out
 
@@ -56,7 +56,7 @@ module _ (choose : List ℕ → ℕ) (slopes : (vs : List ℕ) → choose vs < 2
           (found choose slopes (entriesAfter cs fresh) (both .1) (both .0 .rep .few) (h .two))
 
   -- for every choice of slopes
-  pub demand-3-of : (cs : List Call) (fresh : State) (out : List ℕ) → Fresh fresh → Demand3 (settings choose) cs fresh out
+  pub demand-3-of : (cs : List Call) (fresh : State) (out : List ℕ) → FreshState fresh → Demand3 (settings choose) cs fresh out
   demand-3-of cs fresh out none = record {
     answers = run-rules cs fresh none .0 .numbers;
     never-1 = fresh-not-one cs fresh none;
@@ -76,5 +76,5 @@ module _ (choose : List ℕ → ℕ) (slopes : (vs : List ℕ) → choose vs < 2
   }
 
 -- for the slopes that finish takes
-pub demand-3 : (cs : List Call) (fresh : State) (out : List ℕ) → Fresh fresh → Demand3 standard cs fresh out
+pub demand-3 : (cs : List Call) (fresh : State) (out : List ℕ) → FreshState fresh → Demand3 standard cs fresh out
 demand-3 = demand-3-of bestSlope bestSlope-lt

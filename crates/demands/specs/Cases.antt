@@ -16,7 +16,7 @@ use Rattle.store.specs.Store.{addrs, storeBytes}
 use Rattle.builder.specs.Calls.{State}
 use Rattle.builder.specs.Index.{standard}
 use Rattle.machine.specs.Plain.{Call, add, blocksOf, separatorsOf}
-use Rattle.machine.specs.Runs.{Fresh, runNumbers, finishedAfter}
+use Rattle.machine.specs.Runs.{FreshState, runNumbers, finishedAfter}
 use Rattle.automaton.specs.Bits.{Exactly}
 use Rattle.automaton.specs.Table.{tableNo}
 use Rattle.automaton.specs.Words.{Hits}
@@ -44,7 +44,7 @@ workedCalls = add (98 ∷ []) block0 ∷ add (100 ∷ []) block1 ∷ add (102 �
 
 -- a fresh builder with room for them in its areas, and for the index in the output
 pub record Room (fresh : State) (out : List ℕ) : Type 0 where
-  pub fresh-builder : Fresh fresh
+  pub fresh-builder : FreshState fresh
   pub blocks : 15 ≤ length (fresh .blocks)
   pub keys : 3 ≤ length (fresh .keys)
   pub output : 85 ≤ length out

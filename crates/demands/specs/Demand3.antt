@@ -14,7 +14,7 @@ use Rattle.builder.specs.Calls.{State}
 use Rattle.builder.specs.Index.{Settings}
 use Rattle.machine.specs.Plain.{Call, Entry, SameLists, plainNumbers, plainEnd, blocksOf, separatorsOf}
 use Rattle.machine.specs.Finished.{plainFinish}
-use Rattle.machine.specs.Runs.{Fresh, roomsOf, runNumbers, finishedAfter}
+use Rattle.machine.specs.Runs.{FreshState, roomsOf, runNumbers, finishedAfter}
 use Rattle.automaton.specs.Table.{tableNo}
 use Rattle.index.specs.declared.SSTableIndexV3.{SSTableIndexV3}
 use Rattle.index.specs.declared.Place.{Place}
@@ -85,9 +85,9 @@ pub record Demand3 (S : Settings) (cs : List Call) (fresh : State) (out : List �
   pub opens : Finishes S cs fresh out → Opens (indexAfter S cs fresh out) (openedOf (indexAfter S cs fresh out))
   pub finds : Finishes S cs fresh out → Finds (entriesAfter cs fresh) (indexAfter S cs fresh out) (openedOf (indexAfter S cs fresh out))
   -- the indexes of two such lists have equal bytes exactly when their blocks and separators are equal
-  pub equal : (cs′ : List Call) (fresh′ : State) (out′ : List ℕ) → Fresh fresh′
+  pub equal : (cs′ : List Call) (fresh′ : State) (out′ : List ℕ) → FreshState fresh′
       → Finishes S cs fresh out → Finishes S cs′ fresh′ out′
       → indexAfter S cs fresh out ≡ indexAfter S cs′ fresh′ out′ → SameLists (entriesAfter cs fresh) (entriesAfter cs′ fresh′)
-  pub equal-bytes : (cs′ : List Call) (fresh′ : State) (out′ : List ℕ) → Fresh fresh′
+  pub equal-bytes : (cs′ : List Call) (fresh′ : State) (out′ : List ℕ) → FreshState fresh′
       → Finishes S cs fresh out → Finishes S cs′ fresh′ out′
       → SameLists (entriesAfter cs fresh) (entriesAfter cs′ fresh′) → indexAfter S cs fresh out ≡ indexAfter S cs′ fresh′ out′

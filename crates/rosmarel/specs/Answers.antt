@@ -13,11 +13,11 @@ blockWith start end first = record { start = start; end = end; «first_ordinal»
 
 -- an add or a shorten: its number, the builder's count and both areas
 abbrev pub calledWith : ℕ → ℕ → List ℕ → List ℕ → Called
-calledWith no n B K = record { no = no; state = record { builder = builderOf n; blocks = B; keys = K } }
+calledWith k n B K = record { no = k; state = record { builder = builderOf n; blocks = B; keys = K } }
 
 -- a finish: its number, the builder's count, the output, the total and the directory's length
 abbrev pub finishWith : ℕ → ℕ → List ℕ → ℕ → ℕ → Finish
-finishWith no n out total directory = record { no = no; builder = builderOf n; out = out; total = total; directory = directory }
+finishWith k n out total directory = record { no = k; builder = builderOf n; out = out; total = total; directory = directory }
 
 -- the total that a finish would need: its number and the total; a refusal has all else zero
 abbrev pub lenNo : FinishLen → ℕ
