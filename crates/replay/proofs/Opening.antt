@@ -2,20 +2,18 @@
 use Prim.Native.Nat.{ℕ, _≤_, _<_}
 use mathlib.Core.Path.{_≡_, refl, sym, ap, subst, _∙_}
 use mathlib.Core.List.{List, []}
-use mathlib.Core.Bool.{true, false, cond}
+use mathlib.Core.Logic.{⊎-elim}
 use native.Mathlib.Omega.{arith}
 use lib.Dec.{eqb, ltb}
 use lib.ListN.{length, take}
-use lib.Seq.{sets}
-use borrow.Author.Tests.{eqb-true, eqb-false, ltb-true, ltb-false, lt-ltb, ne-eqb}
+use borrow.Author.Tests.{eqb-true, eqb-false, ltb-true, ltb-false}
 use Rattle.keys.proofs.Order.{by-test}
 use Rattle.serialize.proofs.Stores.{sets-part}
-use Rattle.builder.specs.Calls.{builderOf}
 use Rattle.builder.specs.Index.{Settings}
-use Rattle.builder.specs.Finish.{Finish, unwritten}
-use Rattle.machine.specs.Plain.{Entry, plainIndex, plainDirectory}
+use Rattle.builder.specs.Finish.{Finish}
+use Rattle.machine.specs.Plain.{Entry, plainIndex}
 use Rattle.machine.specs.Finished.{plainFinish}
-use Rattle.machine.specs.Runs.{finishedAfter}
+use Rattle.machine.proofs.PlainFinish.{plain-none, plain-refused, plain-taken, plain-number}
 use Rattle.index.specs.declared.Loaded.{Loaded}
 use Rattle.index.specs.Opening.{footerNo, openNo, openDef, loadDef, openedOf}
 use Rattle.demands.specs.Demand3.{Finishes, indexAfter}
@@ -27,44 +25,41 @@ use Rattle.replay.proofs.Entries.{list-demand, list-finish}
 -- ---- a finish of entries
 
 -- its first total bytes are the index, or none
-module _ (S : Settings) (es : List Entry) (out : List ℕ) where
-  pub record FinishParts : Type 0 where
-    pub fits : plainFinish S es out .total ≤ length out
-    pub none : plainFinish S es out .total ≡ 0 → take (plainFinish S es out .total) (plainFinish S es out .out) ≡ []
-    pub some : (plainFinish S es out .total ≡ 0 → ⊥) → take (plainFinish S es out .total) (plainFinish S es out .out) ≡ plainIndex S es
-    pub two : (plainFinish S es out .total ≡ 0 → ⊥) → 2 ≤ length es
-    pub taken : (plainFinish S es out .total ≡ 0 → ⊥) → plainFinish S es out .no ≡ 0
+pub record FinishParts (S : Settings) (es : List Entry) (out : List ℕ) (f : Finish) : Type 0 where
+  pub fits : f .total ≤ length out
+  pub none : f .total ≡ 0 → take (f .total) (f .out) ≡ []
+  pub some : (f .total ≡ 0 → ⊥) → take (f .total) (f .out) ≡ plainIndex S es
+  pub two : (f .total ≡ 0 → ⊥) → 2 ≤ length es
+  pub taken : (f .total ≡ 0 → ⊥) → f .no ≡ 0
 
+module _ (S : Settings) (es : List Entry) (out : List ℕ) where
   take-none : (n : ℕ) (l : List ℕ) → n ≡ 0 → take n l ≡ []
   take-none n l e = rw e
 
-  short-index : length es < 2 → length (plainIndex S es) ≡ 0
-  unfolding plainIndex
-  short-index h = rw (lt-ltb (length es) 2 h)
+  has-two : (length (plainIndex S es) ≡ 0 → ⊥) → 2 ≤ length es
+  has-two f =
+      by-test (ltb (length es) 2)
+      (λ u. absurd (f (ap length (plain-none es S (ltb-true (length es) 2 u)))))
+      (λ u. ltb-false (length es) 2 u)
 
-  pub finish-parts : FinishParts
-  unfolding plainFinish
+  pub finish-parts : FinishParts S es out (plainFinish S es out)
   finish-parts =
-      by-test (ltb (length out) (length (plainIndex S es)))
-      (λ t. rw t (record {
+      ⊎-elim
+      (λ p. subst (FinishParts S es out) (sym (plain-refused S es out (p .0))) (record {
         fits = omega arith;
         none = λ e. refl;
         some = λ f. absurd (f refl);
         two = λ f. absurd (f refl);
         taken = λ f. absurd (f refl);
       }))
-      (λ t.
-      let long : length (plainIndex S es) ≤ length out = ltb-false (length out) (length (plainIndex S es)) t in
-      rw t (record {
-        fits = long;
+      (λ p. subst (FinishParts S es out) (sym (plain-taken S es out (p .0))) (record {
+        fits = p .0;
         none = λ e. take-none _ _ e;
-        some = λ f. sets-part out (plainIndex S es) 0 (omega arith);
-        two = λ f.
-            by-test (ltb (length es) 2)
-            (λ u. absurd (f (short-index (ltb-true (length es) 2 u))))
-            (λ u. ltb-false (length es) 2 u);
+        some = λ f. sets-part out (plainIndex S es) 0 (omega (arith, p .0));
+        two = has-two;
         taken = λ f. refl;
       }))
+      (plain-number S es out)
 
 -- no bytes get 10
 opens-none : (S : Settings) (es : List Entry) → OpenedAs 10 S es [] (loadDef [])
@@ -77,7 +72,7 @@ module _ (s B K out : List ℕ) where
   abbrev f : Finish
   f = finishOfList s B K out
 
-  parts : FinishParts (listSettings s) (entriesOf s B K) out
+  parts : FinishParts (listSettings s) (entriesOf s B K) out f
   parts = finish-parts (listSettings s) (entriesOf s B K) out
 
   -- as demand 3 has them
@@ -96,11 +91,14 @@ module _ (s B K out : List ℕ) where
       let d = list-demand s B K out in
       let finishes = list-finishes some in
       let opens : loadDef (take (f .total) (f .out)) ≡ Loaded.Opened (openedOf (take (f .total) (f .out))) = rw list-after at (d .opens finishes) in
-      rw opens (refl, record {
-        bytes = parts .some some;
-        few = d .few;
-        finds = rw list-after at (d .finds finishes);
-      })
+      rw opens (
+        refl,
+        record {
+          bytes = parts .some some;
+          few = d .few;
+          finds = rw list-after at (d .finds finishes);
+        },
+      )
 
   pub list-opened : OpenedAs (openNumber f) (listSettings s) (entriesOf s B K) (take (f .total) (f .out)) (loadDef (take (f .total) (f .out)))
   unfolding openNumber

@@ -12,7 +12,7 @@ use lib.Dec.{eqb, ltb, leb}
 use lib.ListN.{length, getD, take, drop}
 use Rattle.serialize.specs.Digits.{numberAt}
 use Rattle.group.specs.declared.BlockAddr.{BlockAddr}
-use Rattle.builder.specs.Plain.{Call, add, shortenLast}
+use Rattle.machine.specs.Plain.{Call, add, shortenLast}
 
 -- what is asked of the finished index
 pub data Question : Type 0 where
