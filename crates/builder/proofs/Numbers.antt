@@ -127,6 +127,10 @@ pub short-ok : (key : List ℕ) → keyNo key ≡ 0 → length key ≤ maxKeyLen
 unfolding keyNo keyLong
 short-ok key e = ltb-false maxKeyLen (length key) (cond-zero (ltb maxKeyLen (length key)) 1 0 e .0)
 
+pub long-hit : (key : List ℕ) → maxKeyLen < length key → keyNo key ≡ 2
+unfolding keyNo keyLong
+long-hit key h = simp (lt-ltb maxKeyLen (length key) h)
+
 pub short-good : (key : List ℕ) → length key ≤ maxKeyLen → keyNo key ≡ 0
 unfolding keyNo keyLong
 short-good key h = simp (le-ltb maxKeyLen (length key) h)

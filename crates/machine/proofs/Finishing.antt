@@ -8,20 +8,17 @@ use native.Mathlib.Omega.{arith}
 use lib.Dec.{ltb}
 use lib.ListN.{length}
 use lib.Seq.{ext-getD}
-use borrow.Author.Tests.{eq-eqb}
 use Rattle.keys.proofs.Order.{by-test}
 use Rattle.group.specs.Blocks.{noBlock, blockAt, blocksAt}
 use Rattle.group.proofs.Blocks.{length-blocksAt, blocksAt-at}
 use Rattle.directory.specs.Keys.{keyAt}
 use Rattle.directory.proofs.Keys.{length-keysAt, keysAt-at}
-use Rattle.builder.specs.declared.SSTableIndexBuilder.{SSTableIndexBuilder}
 use Rattle.builder.specs.View.{stride}
-use Rattle.builder.specs.Rows.{RecordOk, blockNo}
-use Rattle.builder.specs.Area.{keyField, areaBlock, areaPlace, areaKey, areaView}
+use Rattle.builder.specs.Rows.{blockNo}
+use Rattle.builder.specs.Area.{keyField, areaBlock, areaKey, areaView}
 use Rattle.builder.specs.Calls.{builderOf, State}
 use Rattle.builder.specs.Index.{Settings}
 use Rattle.builder.specs.Finish.{
-  placesBad,
   rulesBad,
   listNo,
   areaKeys,
@@ -31,7 +28,7 @@ use Rattle.builder.specs.Finish.{
   finishStep,
   finishDef,
 }
-use Rattle.builder.proofs.Views.{record-good}
+use Rattle.builder.proofs.Touching.{places-good}
 use Rattle.machine.specs.Plain.{Entry, Call, plainEnd, blocksOf, separatorsOf, plainIndex, plainDirectory}
 use Rattle.machine.specs.Finished.{plainFinish}
 use Rattle.machine.specs.Runs.{FreshState, roomsOf, runEnd, finishedAfter}
@@ -47,23 +44,11 @@ use Rattle.machine.proofs.Indexed.{
   blocks-keep,
 }
 
-module _ (B K : List ℕ) where
-  places-good : (m : ℕ) → ((i : ℕ) → i < m → areaPlace B i .offset ≡ areaView i B K .nextKey)
-      → ((i : ℕ) → i < m → RecordOk (length K) (areaPlace B i)) → placesBad m B K ≡ false
-  unfolding placesBad
-  places-good zero h g = refl
-  places-good (suc m) h g =
-      rw (
-        places-good m (λ i l. h i (omega arith)) (λ i l. g i (omega arith)),
-        eq-eqb (areaPlace B m .offset) (areaView m B K .nextKey) (h m (omega arith)),
-        record-good (length K) (areaPlace B m) (g m (omega arith)),
-      )
-
-  rules-good : (m : ℕ)
-      → ((i : ℕ) → i < m → blockNo (areaView i B K) (areaKey B K i) (areaKey B K i) (areaBlock B i) ≡ 0) → rulesBad m B K ≡ false
-  unfolding rulesBad
-  rules-good zero h = refl
-  rules-good (suc m) h = rw (rules-good m (λ i l. h i (omega arith)), h m (omega arith))
+rules-good : (B K : List ℕ) (m : ℕ)
+    → ((i : ℕ) → i < m → blockNo (areaView i B K) (areaKey B K i) (areaKey B K i) (areaBlock B i) ≡ 0) → rulesBad m B K ≡ false
+unfolding rulesBad
+rules-good B K zero h = refl
+rules-good B K (suc m) h = rw (rules-good B K m (λ i l. h i (omega arith)), h m (omega arith))
 
 module _ (es : List Entry) (s : State) (r : Rep es s) where
   -- the areas' blocks and keys are the entries'
