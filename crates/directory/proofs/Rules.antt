@@ -9,7 +9,8 @@ use native.Mathlib.Numerals.{add-one}
 use native.Mathlib.Omega.{arith}
 use lib.Dec.{eqb, ltb}
 use borrow.Author.Tests.{lt-ltb, le-ltb, eq-eqb, ne-eqb, ltb-false, eqb-true, not-false}
-use lib.ListN.{length, take, drop}
+use lib.ListN.{length, take, drop, length-drop}
+use lib.Seq.{length-take-le}
 use Rattle.serialize.proofs.Tests.{neither}
 use Rattle.keys.specs.Order.{less, _≺_}
 use Rattle.keys.proofs.Order.{by-test}
@@ -61,6 +62,10 @@ module _ (d : List ℕ) (n i : ℕ) where
   is-inside e =
       let both = neither (ltb (length d) (12 + 8 * i)) _ e in
       record { pair = ltb-false (length d) (12 + 8 * i) (both .0); bytes = ltb-false (length d) (keyPosition d n i + keyLength d i) (both .1) }
+
+  pub length-keyOf : Inside → length (keyOf d n i) ≡ keyLength d i
+  length-keyOf h =
+      length-take-le (keyLength d i) (drop (keyPosition d n i) d) (omega (arith, length-drop (keyPosition d n i) d, h .bytes))
 
   pub inside-is : Inside → keyOutside d n i ≡ false
   unfolding keyOutside

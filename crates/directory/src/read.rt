@@ -5,7 +5,7 @@ ghost use Prim.Native.Nat.{_+_, _*_, _^_, _≤_, _<_, min};
 ghost use lib.ListN.{length, take, drop};
 ghost use Rattle.serialize.specs.Digits.{numberAt};
 ghost use Rattle.keys.specs.Order.{less, commonPrefixLen};
-ghost use Rattle.directory.specs.Read.{countOf, keyPosition, keyLength, keyOf, keyOutside};
+ghost use Rattle.directory.specs.Read.{countOf, keyPosition, keyOf, keyOutside};
 ghost use Rattle.directory.specs.Read.{pairsBad, directoryBad, keysBad, directoryNo, Sorted, FoundIn, FoundAs};
 use layout::MAX_BLOCKS;
 use layout::MAX_KEY_LEN;
@@ -82,21 +82,13 @@ pub fn key_position(directory: &[u8], n: usize, i: usize) -> usize
     4 + PAIR_LEN * n + number(directory, 4 + PAIR_LEN * i)
 }
 
-// How long key i of n is.
-pub fn key_length(directory: &[u8], n: usize, i: usize) -> usize
-    requires { ⌜ (n ≤ 65536) × (i < n) × (keyOutside (now directory) n i ≡ false) ⌝ }
-    ensures { λ r. ⌜ r ≡ keyLength (now (directory .entry)) i ⌝ }
-{
-    number(directory, 8 + PAIR_LEN * i)
-}
-
 // Key i of n.
 pub fn key(directory: &[u8], n: usize, i: usize) -> &[u8]
     requires { ⌜ (n ≤ 65536) × (i < n) × (keyOutside (now directory) n i ≡ false) ⌝ }
     ensures { λ r. ⌜ now r ≡ keyOf (now (directory .entry)) n i ⌝ }
 {
     let from = key_position(directory, n, i);
-    let end = from + key_length(directory, n, i);
+    let end = from + number(directory, 8 + PAIR_LEN * i);
     &directory[from..end]
 }
 

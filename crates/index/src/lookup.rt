@@ -223,5 +223,5 @@ pub fn separator_place(
         return Place::Missing;
     }
     let position = opened.directory + directory::read::key_position(keys, opened.n, id);
-    Place::Part(position, directory::read::key_length(keys, opened.n, id))
+    Place::Part(position, directory::read::key(keys, opened.n, id).len())
 }

@@ -8,8 +8,16 @@ use Rattle.directory.proofs.read.key.Tie as tie
 key-position-requires : tie.Need-key-position-requires
 key-position-requires c κs = search needs
 
-key-length-requires : tie.Need-key-length-requires
-key-length-requires c κs = search needs
+mul-number : tie.Need-mul-number
+mul-number c = search needs
+
+add-number : tie.Need-add-number
+add-number c = search needs
+
+number-requires : tie.Need-number-requires
+number-requires c κs =
+    let s = c .before .before in
+    omega (arith, is-inside (s .args .directory .now) (s .args .n) (s .args .i) (s .pre .2) .pair)
 
 add-end : tie.Need-add-end
 add-end c =
@@ -32,15 +40,17 @@ returns c =
     let second = c .before in
     let first = second .before in
     let a = first .before .before .args in
-    key-part (a .directory .now) (a .n) (a .i) (first .key-position .result) (second .key-length .result)
-    (first .key-position .ensures) (second .key-length .ensures)
+    key-part (a .directory .now) (a .n) (a .i) (first .key-position .result) (second .number .result)
+    (first .key-position .ensures) (second .number .ensures .0)
 
 pub key-spec : {M : Type 1} → statement M
 key-spec =
     tie.close
     (tie.spec
     key-position-requires
-    key-length-requires
+    mul-number
+    add-number
+    number-requires
     add-end
     sub-result
     part-result-start

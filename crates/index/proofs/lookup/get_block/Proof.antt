@@ -1,4 +1,4 @@
--- `index::lookup::get_block` meets its contract: a record that fails its own test gets 20, else what the store gives, read through the table's numbers.
+-- `index::lookup::get_block` meets its contract: the record's own test, then what the store gives.
 use borrow.Author.Needs.{needs}
 use mathlib.Core.Path.{refl, sym, _∙_}
 use mathlib.Core.Logic.{inl, inr}

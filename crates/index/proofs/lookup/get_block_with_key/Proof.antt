@@ -1,4 +1,4 @@
--- `index::lookup::get_block_with_key` meets its contract: a record that fails its own test gets 20, else the directory's answer, then the store's.
+-- `index::lookup::get_block_with_key` meets its contract: the record's own test, then the directory's answer, then the store's.
 use borrow.Author.Needs.{needs}
 use mathlib.Core.Path.{refl, sym, _∙_}
 use mathlib.Core.Logic.{inl, inr}

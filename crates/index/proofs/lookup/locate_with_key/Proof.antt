@@ -1,4 +1,4 @@
--- `index::lookup::locate_with_key` meets its contract: a record that fails its own test gets 20, else what the directory finds, read through the table's numbers.
+-- `index::lookup::locate_with_key` meets its contract: the record's own test, then what the directory finds.
 use borrow.Author.Needs.{needs}
 use mathlib.Core.Path.{refl, sym, _∙_}
 use mathlib.Core.Logic.{inl, inr}

@@ -1,4 +1,4 @@
--- `index::lookup::locate_with_ord` meets its contract: a record that fails its own test gets 20, else what the store finds, read through the table's numbers.
+-- `index::lookup::locate_with_ord` meets its contract: the record's own test, then what the store finds.
 use borrow.Author.Needs.{needs}
 use mathlib.Core.Path.{refl, sym, _∙_}
 use mathlib.Core.Logic.{inl, inr}

@@ -1,11 +1,11 @@
 -- `index::lookup::separator_place` meets its contract: the directory gives the key's position and length, and the record the directory's.
 use borrow.Author.Needs.{needs}
-use mathlib.Core.Path.{_≡_, sym, _∙_}
+use mathlib.Core.Path.{_≡_, sym, ap, _∙_}
 use mathlib.Core.Bool.{false}
 use native.Mathlib.Omega.{arith}
 use lib.ListN.{length, drop, length-take}
 use Rattle.directory.specs.Read.{keyOutside}
-use Rattle.directory.proofs.Rules.{is-inside}
+use Rattle.directory.proofs.Rules.{is-inside, length-keyOf}
 use Rattle.index.specs.Lookups.{OpenedFits}
 use Rattle.index.proofs.Fits.{opened-fits}
 use Rattle.index.proofs.Places.{place-bad, place-unknown, place-outside, place-read}
@@ -63,8 +63,8 @@ add-position c =
       rw (← (p .part .ensures)) at (length-take (a .opened .«directory_len») (drop (a .opened .directory) (a .«data» .now))),
     )
 
-key-length-requires : tie.Need-key-length-requires
-key-length-requires c κs =
+key-requires : tie.Need-key-requires
+key-requires c κs =
     let e = c .before .before in
     (fits (e .before .before .before .before) .few, e .before .before .before .if2 .left, inside e)
 
@@ -76,7 +76,7 @@ returns-4 c =
     let t = p .before in
     let a = t .before .before .before .before .args in
     place-read (a .group-len) (a .opened) (a .«data» .now) (a .block-id) (fits (t .before)) (t .if2 .left) _ (p .part .ensures) (inside e)
-    _ _ (k .key-position .ensures) (c .key-length .ensures)
+    _ _ (k .key-position .ensures) (ap length (c .key .ensures) ∙ length-keyOf _ _ _ (is-inside _ _ _ (inside e)))
 
 pub separator-place-spec : {M : Type 1} → statement M
 separator-place-spec =
@@ -90,5 +90,5 @@ separator-place-spec =
     returns-3
     key-position-requires
     add-position
-    key-length-requires
+    key-requires
     returns-4)
