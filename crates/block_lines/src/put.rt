@@ -1,6 +1,6 @@
 // The parts of a line, each written from `at` on. Each writer returns where the next part goes.
 ghost use mathlib.Core.Path.{_≡_};
-ghost use mathlib.Core.List.{_∷_};
+ghost use mathlib.Core.List.{[], _∷_};
 ghost use Prim.Native.Nat.{_+_, _*_, _≤_, _<_};
 ghost use lib.ListN.{length, drop};
 ghost use lib.Seq.{sets};
@@ -84,6 +84,15 @@ fn put_separator(out: &mut [u8], at: usize, bytes: &[u8]) -> usize
     put_hex(out, at + 1, bytes)
 }
 
+// A line's end.
+fn put_end(out: &mut [u8], at: usize) -> usize
+    requires { ⌜ at < length (now out) ⌝ }
+    ensures { λ r. ⌜ (r ≡ at + 1) × (now (out .exit) ≡ sets (now (out .entry)) at (10 ∷ [])) ⌝ }
+{
+    out[at] = b'\n';
+    at + 1
+}
+
 // Writes a line to the front of `out`. Returns its length.
 pub fn put_line(out: &mut [u8], id: usize, block: BlockAddr, separator: &[u8]) -> usize
     requires { ⌜ (id < 65536) × NumbersOk block × (length (now separator) ≤ 1024) × (2103 ≤ length (now out)) ⌝ }
@@ -95,8 +104,7 @@ pub fn put_line(out: &mut [u8], id: usize, block: BlockAddr, separator: &[u8]) -
     at = put_number(out, at, block.end);
     at = put_number(out, at, block.first_ordinal);
     at = put_separator(out, at, separator);
-    out[at] = b'\n';
-    at + 1
+    put_end(out, at)
 }
 
 // Writes the line of an input that is too long to the front of `out`. Returns its length.
@@ -114,6 +122,5 @@ pub fn put_refusal(out: &mut [u8], row: u32) -> usize
 {
     let mut at = bytes::copy(b"refused ", out);
     at = put_decimal(out, at, row as u64);
-    out[at] = b'\n';
-    at + 1
+    put_end(out, at)
 }

@@ -56,7 +56,7 @@ line-requires : tie.Need-line-requires
 line-requires c κs =
     let o = c .before .before in
     let s = o .before .before .before .before .before in
-    (opens o, below o, s .pre .2)
+    (opens o, omega (arith, below o), s .pre .2)
 
 enum-known-loaded-2 : tie.Need-enum-known-loaded-2
 enum-known-loaded-2 c = search needs

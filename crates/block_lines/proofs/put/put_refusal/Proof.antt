@@ -1,10 +1,10 @@
 -- `block_lines::put::put_refusal` meets its contract: after each part the output's front is the line up to there.
 use borrow.Author.Needs.{needs}
-use mathlib.Core.Path.{_≡_, refl, _∙_}
-use mathlib.Core.List.{List, [], _∷_, _++_, append-assoc}
-use Prim.Native.Nat.{ℕ, _+_, _<_}
+use mathlib.Core.Path.{_≡_, _∙_}
+use mathlib.Core.List.{[], _∷_, _++_, append-assoc}
+use Prim.Native.Nat.{ℕ, _<_}
 use native.Mathlib.Omega.{arith}
-use lib.ListN.{length, set, length-append, length-set}
+use lib.ListN.{length, length-append}
 use Rattle.serialize.proofs.Stores.{copied}
 use Rattle.block_lines.specs.Lines.{decimal}
 use Rattle.block_lines.specs.Text.{refusedText, refusedLine}
@@ -29,11 +29,11 @@ wrote-2 : (c : tie.After-put-decimal) → let a = c .before .before .before .bef
     Wrote (a .out .now) (c .put-decimal .last .0) (c .put-decimal .result) (refusedText ++ decimal (a .row))
 wrote-2 c = wrote-next (wrote-1 (c .before .before .before .before)) _ _ _ (c .put-decimal .ensures)
 
-all : (c : tie.After-put-decimal) → let a = c .before .before .before .before .before .before .before .before .args in
-    Wrote (a .out .now) (set (c .put-decimal .last .0) (c .put-decimal .result) 10) (c .put-decimal .result + 1) (refusedLine (a .row))
+all : (c : tie.After-put-end) → let a = c .before .before .before .before .before .before .before .before .before .before .before .before .args in
+    Wrote (a .out .now) (c .put-end .last .0) (c .put-end .result) (refusedLine (a .row))
 all c =
-    let a = c .before .before .before .before .before .before .before .before .args in
-    rw (parts-line (a .row)) at (wrote-next (wrote-2 c) (set (c .put-decimal .last .0) (c .put-decimal .result) 10) (10 ∷ []) (c .put-decimal .result + 1) (refl, refl))
+    let d = c .before .before .before .before in
+    rw (parts-line (d .before .before .before .before .before .before .before .before .args .row)) at (wrote-next (wrote-2 d) (c .put-end .last .0) (10 ∷ []) (c .put-end .result) (c .put-end .ensures))
 
 slice-aggregate-copy : tie.Need-slice-aggregate-copy
 slice-aggregate-copy c = search needs
@@ -50,14 +50,11 @@ room c =
     let a = c .before .before .before .before .before .before .before .before .args in
     omega (arith, wrote-2 c .end, wrote-length (wrote-2 c), length-append refusedText (decimal (a .row)), length-fuel 19 (a .row) [])
 
-slice-write-out : tie.Need-slice-write-out
-slice-write-out c = room (c .before .before)
-
-add-result : tie.Need-add-result
-add-result c = omega (arith, room (c .before .before))
+put-end-requires : tie.Need-put-end-requires
+put-end-requires c κs = room (c .before .before .before)
 
 same-length : tie.Need-same-length
-same-length c = simp length-set (wrote-length (wrote-2 (c .before .before)))
+same-length c = wrote-length (all (c .before .before))
 
 returns : tie.Need-returns
 returns c = let w = all (c .before .before) in (w .end, w .stored)
@@ -69,7 +66,6 @@ put-refusal-spec =
     slice-aggregate-copy
     copy-requires
     put-decimal-requires
-    slice-write-out
-    add-result
+    put-end-requires
     same-length
     returns)
