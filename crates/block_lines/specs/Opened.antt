@@ -17,5 +17,5 @@ abbrev pub OpensTo : List ℕ → SSTableIndexV3 → Type 0
 OpensTo f opened = Opens storeBlockLen f opened
 
 -- block id of an opened record
-abbrev pub blockOf : SSTableIndexV3 → List ℕ → ℕ → BlockAddr
-blockOf opened f id = blockIn storeBlockLen f id
+abbrev pub openedBlock : SSTableIndexV3 → List ℕ → ℕ → BlockAddr
+openedBlock opened f id = blockIn storeBlockLen f id

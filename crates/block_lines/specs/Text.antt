@@ -10,7 +10,7 @@ use Rattle.index.specs.declared.SSTableIndexV3.{SSTableIndexV3}
 use Rattle.index.specs.declared.Loaded.{Loaded}
 use Rattle.index.specs.declared.Loaded.the-variants.{Opened, Refused}
 use Rattle.index.specs.Parts.{separatorIn}
-use Rattle.block_lines.specs.Opened.{loadedOf, blockOf}
+use Rattle.block_lines.specs.Opened.{loadedOf, openedBlock}
 use Rattle.block_lines.specs.Lines.{decimal, lineOf}
 
 -- the longest input that is taken
@@ -31,7 +31,7 @@ refusedLine k = refusedText ++ (decimal k ++ (10 ∷ []))
 
 -- the line of block id of an opened index
 abbrev pub lineAt : SSTableIndexV3 → List ℕ → ℕ → List ℕ
-lineAt opened f id = lineOf id (blockOf opened f id) (separatorIn f id)
+lineAt opened f id = lineOf id (openedBlock opened f id) (separatorIn f id)
 
 -- the lines of `count` blocks from id on
 unfoldable pub linesFrom : SSTableIndexV3 → List ℕ → ℕ → ℕ → List (List ℕ)

@@ -6,7 +6,7 @@ ghost use Prim.Native.Nat.{_≤_, _<_};
 ghost use lib.ListN.{length};
 ghost use lib.Seq.{sets};
 ghost use Rattle.group.specs.Legal.{NumbersOk};
-ghost use Rattle.block_lines.specs.Opened.{loadedOf, OpensTo, blockOf};
+ghost use Rattle.block_lines.specs.Opened.{loadedOf, OpensTo, openedBlock};
 ghost use Rattle.block_lines.specs.Text.{lineAt, blocksPieces, WritesPiece};
 use group::BlockAddr;
 use index::BlockById;
@@ -22,7 +22,7 @@ pub const MAX_LEN: usize = 65536;
 // The address of a block of an opened index.
 fn block(opened: SSTableIndexV3, data: &[u8], id: usize) -> BlockAddr
     requires { ⌜ OpensTo (now «data») opened × (id < opened .n) ⌝ }
-    ensures { λ r. ⌜ (r ≡ blockOf opened (now («data» .entry)) id) × NumbersOk r ⌝ }
+    ensures { λ r. ⌜ (r ≡ openedBlock opened (now («data» .entry)) id) × NumbersOk r ⌝ }
 {
     let BlockById::Block(block) = opened.get_block(data, id as u64) else {
         // No block of an opened index is refused; a refusal's address is zero.

@@ -8,7 +8,7 @@ use Rattle.group.specs.declared.BlockAddr.{BlockAddr}
 use Rattle.index.specs.Answers.{byIdAddr}
 use Rattle.index.specs.Lookups.{ByIdExact}
 use Rattle.group.specs.Legal.{NumbersOk}
-use Rattle.block_lines.specs.Opened.{blockOf}
+use Rattle.block_lines.specs.Opened.{openedBlock}
 use Rattle.block_lines.proofs.Opened.{block-small}
 use Rattle.block_lines.proofs.block.Statement.{statement}
 use Rattle.block_lines.proofs.block.Tie as tie
@@ -19,11 +19,11 @@ answered block n id k b h (inr p) = absurd (let z : ⊥ = omega arith in z)
 
 -- whatever the answer, its address is the block's
 exact : (c : tie.After-get-block) → let s = c .before .before in
-    (byIdAddr (c .get-block .result) ≡ blockOf (s .args .opened) (s .args .«data» .now) (s .args .id)) × NumbersOk (byIdAddr (c .get-block .result))
+    (byIdAddr (c .get-block .result) ≡ openedBlock (s .args .opened) (s .args .«data» .now) (s .args .id)) × NumbersOk (byIdAddr (c .get-block .result))
 exact c =
     let s = c .before .before in
     let f = s .args .«data» .now in
-    let e = answered (blockOf (s .args .opened) f) (s .args .opened .n) (s .args .id) _ _ (s .pre .1) (c .get-block .ensures .1 (s .pre .0)) in
+    let e = answered (openedBlock (s .args .opened) f) (s .args .opened .n) (s .args .id) _ _ (s .pre .1) (c .get-block .ensures .1 (s .pre .0)) in
     (e, rw e (block-small f (s .args .opened) (s .pre .0) (s .args .id) (s .pre .1)))
 
 get-block-requires : tie.Need-get-block-requires
