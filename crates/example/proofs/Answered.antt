@@ -18,7 +18,7 @@ use Rattle.automaton.specs.Words.{Accepts}
 use Rattle.automaton.proofs.Strings.{hits-nil, word-cases, hits-cons}
 use Rattle.pruning.specs.Interval.{startOf, Marked}
 use Rattle.example.specs.Example.{longer, ExampleNo, Shown, exampleAnswerNo, exampleAnswerLen, ExampleAnswerCased, ExampleLeaves, ExampleFor}
-use Rattle.example.specs.Walk.{From, Found}
+use Rattle.example.specs.Walk.{FromByte, InFront}
 use Rattle.example.specs.declared.ExampleAnswer.{ExampleAnswer}
 use Rattle.example.specs.declared.ExampleAnswer.the-variants.{Written, Refused}
 use Rattle.example.proofs.Bounds.{next-string}
@@ -70,14 +70,14 @@ module _ (t end : List ℕ) where
   pub empty-shown : {out : List ℕ} → flag t 0 ≡ 1 → Shown t none end out out 0
   empty-shown e = record { string = []; hits = hits-nil e; above = tt; not-above = prefix-≼ [] end; whole = refl; short = zero-le; bytes = refl }
 
-  pub absent-none : (flag t 0 ≡ 1 → ⊥) → (Accepts t 0 (λ w. From end 0 0 w × (w ≼ end)) → ⊥) → Marked t none end → ⊥
+  pub absent-none : (flag t 0 ≡ 1 → ⊥) → (Accepts t 0 (λ w. FromByte end 0 0 w × (w ≼ end)) → ⊥) → Marked t none end → ⊥
   absent-none dead nothing =
       word-cases (λ w. Unit {0} × (w ≼ end)) ⊥ (λ e p. dead e)
       (λ b w h i p. nothing (record { string = b ∷ w; hits = hits-cons 0 b h i; good = (next-string [] (b ∷ w) (prefix-≺ [] b w), p .1) }))
 
-  pub absent-shown : {out new : List ℕ} {len : ℕ} → len ≤ length end + 64 → Found t (From end 0 0) (λ w. w ≼ end) out new len → Shown t none end out new len
+  pub absent-shown : {out new : List ℕ} {len : ℕ} → len ≤ length end + 64 → InFront t (FromByte end 0 0) (λ w. w ≼ end) out new len → Shown t none end out new len
   absent-shown h m = record { string = m .string; hits = m .hits; above = tt; not-above = m .good .1; whole = m .good .2; short = h; bytes = m .good .3 }
 
 -- ---- a start
-pub between-shown : {t start end out new : List ℕ} {len : ℕ} → len ≤ longer (some start) end + 64 → Found t (λ w. start ≺ w) (λ w. w ≼ end) out new len → Shown t (some start) end out new len
+pub between-shown : {t start end out new : List ℕ} {len : ℕ} → len ≤ longer (some start) end + 64 → InFront t (λ w. start ≺ w) (λ w. w ≼ end) out new len → Shown t (some start) end out new len
 between-shown h m = record { string = m .string; hits = m .hits; above = m .good .0; not-above = m .good .1; whole = m .good .2; short = h; bytes = m .good .3 }

@@ -11,11 +11,11 @@ use Rattle.automaton.specs.Table.{next}
 use Rattle.automaton.specs.Words.{Bytes, run, Hits, Accepts}
 use Rattle.automaton.proofs.Strings.{hits-cons, hits-append, bytes-take}
 use Rattle.serialize.proofs.Stores.{sets-append, copied}
-use Rattle.example.specs.Walk.{From, Under, Found}
+use Rattle.example.specs.Walk.{FromByte, UnderByte, InFront}
 use Rattle.example.proofs.Bounds.{leaving}
 
 -- in another interval, where the output was untouched till then
-pub found-map : {t old old′ new : List ℕ} {r : ℕ} (L U L′ U′ : List ℕ → Type 0) → old ≡ old′ → ((w : List ℕ) → L w → U w → L′ w × U′ w) → Found t L U old new r → Found t L′ U′ old′ new r
+pub found-map : {t old old′ new : List ℕ} {r : ℕ} (L U L′ U′ : List ℕ → Type 0) → old ≡ old′ → ((w : List ℕ) → L w → U w → L′ w × U′ w) → InFront t L U old new r → InFront t L′ U′ old′ new r
 found-map {new = new} L U L′ U′ e f m =
     let (l, u) = f (m .string) (m .good .0) (m .good .1) in
     record { string = m .string; hits = m .hits; good = (l, u, m .good .2, m .good .3 ∙ ap (λ (x : List ℕ). sets x 0 (m .string)) e) }
@@ -26,13 +26,13 @@ module _ (t key out a : List ℕ) (len : ℕ) (within : len ≤ length key) (roo
   long = length-take-le len key within
 
   -- the key's first bytes alone
-  pub found-front : {L U : List ℕ → Type 0} → Hits t 0 (take len key) → L (take len key) → U (take len key) → Found t L U out a len
+  pub found-front : {L U : List ℕ → Type 0} → Hits t 0 (take len key) → L (take len key) → U (take len key) → InFront t L U out a len
   found-front h l u = record { string = take len key; hits = h; good = (l, u, sym long, copy ∙ copied out (take len key) (omega (arith, long))) }
 
   -- a byte and a tail behind them
   pub found-leaving : {c : List ℕ} (b lo hi k : ℕ) → lo ≤ b → b < hi → b < 256
       → Accepts t (next t (run t 0 (take len key)) b) (λ v. (length v ≡ k) × (c ≡ sets (set a len b) (len + 1) v))
-      → Found t (From key len lo) (Under key len hi) out c (len + 1 + k)
+      → InFront t (FromByte key len lo) (UnderByte key len hi) out c (len + 1 + k)
   found-leaving {c} b lo hi k l h hb m =
       let p = take len key in
       let (low, high) = leaving p (m .string) b lo hi l h in

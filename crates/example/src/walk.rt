@@ -11,7 +11,7 @@ ghost use Rattle.automaton.specs.Table.{WellFormed, states, next};
 ghost use Rattle.automaton.specs.Words.{run};
 ghost use Rattle.automaton.specs.Live.{LiveByte};
 ghost use Rattle.example.specs.Distance.{Distances};
-ghost use Rattle.example.specs.Walk.{From, Under, Wrote};
+ghost use Rattle.example.specs.Walk.{FromByte, UnderByte, Walked};
 
 // The first byte from lo on and below hi that leads to a state that can match; hi or more where there is none.
 fn first_byte(table: &[u8], distances: &[u8; 64], state: usize, lo: usize, hi: usize) -> usize
@@ -44,7 +44,7 @@ fn write_leaving(
     requires { ⌜ WellFormed (now table) × Distances (now table) (now distances) × (state < states (now table))
         × (state ≡ run (now table) 0 (take len (now key))) ⌝ }
     requires { ⌜ (len ≤ length (now key)) × (length (now key) + 64 ≤ length (now out)) × (hi ≤ 256) ⌝ }
-    ensures { λ r. ⌜ Wrote (now (table .entry)) (From (now (key .entry)) len lo) (Under (now (key .entry)) len hi)
+    ensures { λ r. ⌜ Walked (now (table .entry)) (FromByte (now (key .entry)) len lo) (UnderByte (now (key .entry)) len hi)
         (length (now (key .entry)) + 64) (now (out .entry)) (now (out .exit)) r ⌝ }
 {
     let byte = first_byte(table, distances, state, lo, hi);
@@ -74,7 +74,7 @@ fn write_range_start(
     requires { ⌜ WellFormed (now table) × Distances (now table) (now distances) × (state < states (now table))
         × (state ≡ run (now table) 0 (take n (now key))) ⌝ }
     requires { ⌜ (n ≤ length (now key)) × (length (now key) + 64 ≤ length (now out)) ⌝ }
-    ensures { λ r. ⌜ Wrote (now (table .entry)) (λ w. now (key .entry) ≺ w) (Under (now (key .entry)) n 256)
+    ensures { λ r. ⌜ Walked (now (table .entry)) (λ w. now (key .entry) ≺ w) (UnderByte (now (key .entry)) n 256)
         (length (now (key .entry)) + 64) (now (out .entry)) (now (out .exit)) r ⌝ }
 {
     let mut at = state;
@@ -104,7 +104,7 @@ pub fn write_range_end(
     requires { ⌜ WellFormed (now table) × Distances (now table) (now distances) × (state < states (now table))
         × (state ≡ run (now table) 0 (take n (now key))) ⌝ }
     requires { ⌜ (n ≤ length (now key)) × (lo ≤ getD (now key) n 0) × (length (now key) + 64 ≤ length (now out)) ⌝ }
-    ensures { λ r. ⌜ Wrote (now (table .entry)) (From (now (key .entry)) n lo) (λ w. w ≼ now (key .entry))
+    ensures { λ r. ⌜ Walked (now (table .entry)) (FromByte (now (key .entry)) n lo) (λ w. w ≼ now (key .entry))
         (length (now (key .entry)) + 64) (now (out .entry)) (now (out .exit)) r ⌝ }
 {
     let mut at = state;
@@ -136,7 +136,7 @@ pub fn write_between(
 ) -> usize
     requires { ⌜ WellFormed (now table) × Distances (now table) (now distances)
         × (max (length (now «start_key»)) (length (now «end_key»)) + 64 ≤ length (now out)) ⌝ }
-    ensures { λ r. ⌜ Wrote (now (table .entry)) (λ w. now («start_key» .entry) ≺ w) (λ w. w ≼ now («end_key» .entry))
+    ensures { λ r. ⌜ Walked (now (table .entry)) (λ w. now («start_key» .entry) ≺ w) (λ w. w ≼ now («end_key» .entry))
         (max (length (now («start_key» .entry))) (length (now («end_key» .entry))) + 64) (now (out .entry)) (now (out .exit)) r ⌝ }
 {
     let n = keys::common_prefix_len(start_key, end_key);

@@ -12,7 +12,7 @@ use Rattle.automaton.specs.Words.{run, Accepts}
 use Rattle.automaton.specs.Live.{LiveByte}
 use Rattle.automaton.proofs.Strings.{bytes-of}
 use Rattle.example.proofs.Bounds.{leaving-byte}
-use Rattle.example.specs.Walk.{From, Under, Found}
+use Rattle.example.specs.Walk.{FromByte, UnderByte, InFront}
 use Rattle.example.proofs.Found.{found-leaving}
 use Rattle.example.proofs.walk.write_leaving.Statement.{statement}
 use Rattle.example.proofs.walk.write_leaving.Tie as tie
@@ -92,7 +92,7 @@ returns-2 c =
       none = λ z. absurd (omega (arith, tail .ensures .0));
       some = λ h. (
         omega (arith, tail .ensures .0, near-state acc, s .pre .1),
-        subst (λ (r : ℕ). Found t (From (a .key .now) (a .len) (a .lo)) (Under (a .key .now) (a .len) (a .hi)) (a .out .now) (tail .last .1 .1 .1 .0) r) {x = a .len + 1 + getD d to 0} (sym (tail .ensures .0))
+        subst (λ (r : ℕ). InFront t (FromByte (a .key .now) (a .len) (a .lo)) (UnderByte (a .key .now) (a .len) (a .hi)) (a .out .now) (tail .last .1 .1 .1 .0) r) {x = a .len + 1 + getD d to 0} (sym (tail .ensures .0))
             (found-leaving t (a .key .now) (a .out .now) (copy .last .1 .0) (a .len) (s .pre .1 .0) (omega (arith, s .pre .1)) (bytes-of (a .key .now) (λ i. omega (arith, acc .before .before .before .before .before .before .before .before .before .shared-slice-known2 .given i))) (copy .ensures .1)
             (byte .result) (a .lo) (a .hi) (getD d to 0) (byte .ensures .0 below .0) below (omega (arith, s .pre .1 .2))
             (subst (λ (q : ℕ). Accepts t q (λ v. (length v ≡ getD d to 0) × (tail .last .1 .1 .1 .0 ≡ sets (set (copy .last .1 .0) (a .len) (byte .result)) (a .len + 1) v))) e (tail .ensures .1))),

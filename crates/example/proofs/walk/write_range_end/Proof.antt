@@ -11,7 +11,7 @@ use Rattle.automaton.specs.Table.{flag, next}
 use Rattle.automaton.specs.Words.{run}
 use Rattle.automaton.proofs.Strings.{bytes-of, bytes-take}
 use Rattle.example.proofs.Shortest.{at-zero, zero-at}
-use Rattle.example.specs.Walk.{From, Found}
+use Rattle.example.specs.Walk.{FromByte, InFront}
 use Rattle.example.proofs.Found.{found-map, found-front}
 use Rattle.example.proofs.Walks.{Upto, upto-start, upto-leaving, upto-front, upto-turn, upto-end, next-state}
 use Rattle.example.proofs.walk.write_range_end.Statement.{statement}
@@ -106,13 +106,13 @@ returns-2 c =
     let bytes = bytes-of key (λ i. omega (arith, l .before .before .shared-slice-known2 .given i)) in
     let ends : flag t (run t 0 (take n key)) ≡ 1 = subst (λ (q : ℕ). flag t q ≡ 1) (acc .accept .ensures .0 ∙ next-state (l .loop .inv .0) (test .loop-test .taken)) (at-zero (s .pre .0 .1) (acc .accept .result) (acc .accept .ensures .1) (c .before .before .before .before .before .if2 .taken)) in
     let (lower, upper) = upto-front (l .loop .inv .0) (test .loop-test .taken) in
-    let L : List ℕ → Type 0 = From key (a .n) (a .lo) in
+    let L : List ℕ → Type 0 = FromByte key (a .n) (a .lo) in
     let U : List ℕ → Type 0 = λ v. v ≼ key in
     record {
       none = λ z. absurd (omega arith);
       some = λ h. (
         omega (arith, l .loop .inv .0 .place),
-        subst (Found t L U (a .out .now) (copy .last .1 .0)) (sym r)
+        subst (InFront t L U (a .out .now) (copy .last .1 .0)) (sym r)
             (found-map L U L U (w .ensures .none (acc .before .if1 .left) .0 ∙ l .loop .inv .1) (λ v x y. (x, y))
             (found-front t key (w .last .1 .1 .1 .1 .1 .1 .1 .0) (copy .last .1 .0) n (omega (arith, test .loop-test .taken)) (omega (arith, w .kept .1 .1 .1 .1 .1 .1 .1 .0, ap length (l .loop .inv .1), s .pre .1)) bytes (copy .ensures .1) {L = L} {U = U} (record { bytes = bytes-take n key bytes; ends = ends }) lower upper)),
       );
