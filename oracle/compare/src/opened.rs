@@ -1,8 +1,8 @@
 //! Files that the library opens, and its lookups in them, beside the model and the Rust.
 
 use model::automaton::Table;
-use model::blocks::LIMIT;
 use model::opening::{self, Opened, Opening};
+use model::settings::LIMIT;
 use tantivy_sstable::access::{Block, Index};
 
 use crate::lent::{Lent, Out};

@@ -3,9 +3,7 @@
 use tantivy_sstable::access::{self, Block, Store};
 
 use crate::numbers::Numbers;
-
-/// Where ends and ordinals stop.
-pub const LIMIT: u64 = 1 << 48;
+use crate::settings::LIMIT;
 
 /// The three blocks of the worked case.
 pub const WORKED: [Block; 3] = [

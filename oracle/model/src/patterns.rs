@@ -2,11 +2,12 @@
 
 use crate::automaton::{Interval, Table};
 use crate::numbers::Numbers;
+use crate::settings::MOST_STATES;
 
-/// A count of states, a third of them 64.
+/// A count of states, a third of them the most.
 pub fn many(rng: &mut Numbers, round: usize) -> usize {
     match round % 3 {
-        0 => 64,
+        0 => MOST_STATES,
         1 => rng.within(1, 4) as usize,
         _ => rng.within(5, 63) as usize,
     }

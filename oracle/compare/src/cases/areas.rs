@@ -1,8 +1,9 @@
 //! Builders over any areas: rows 1 and 8, and what a broken last record allows.
 
 use model::areas::Areas;
-use model::blocks::{LIMIT, block};
+use model::blocks::block;
 use model::numbers::Numbers;
+use model::settings::LIMIT;
 use tantivy_sstable::access::Block;
 
 use crate::builder::Builder;

@@ -1,11 +1,12 @@
 //! Damaged files: opened, then looked up with the record of the whole file.
 
-use model::blocks::{LIMIT, random, touching};
+use model::blocks::{random, touching};
 use model::faults::faults;
 use model::files::{File as Parts, rising, smallest, two_group_file, worked_file};
 use model::foreign::{self, Group};
 use model::numbers::Numbers;
 use model::opening::{self, Opened};
+use model::settings::LIMIT;
 
 use super::lookups;
 use crate::opened::{self, File};

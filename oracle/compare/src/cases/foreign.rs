@@ -1,9 +1,10 @@
 //! Files that keep the rules and that the writer wouldn't write.
 
-use model::blocks::{LIMIT, random, touching};
+use model::blocks::{random, touching};
 use model::files::{File as Parts, rising};
 use model::foreign::{self, Group, group, near};
 use model::numbers::Numbers;
+use model::settings::LIMIT;
 use tantivy_sstable::access::Block;
 
 use super::lookups;

@@ -1,7 +1,8 @@
 //! Lists of add and shorten calls from a fresh builder.
 
-use model::blocks::{LIMIT, block};
+use model::blocks::block;
 use model::numbers::Numbers;
+use model::settings::LIMIT;
 use tantivy_sstable::access::Block;
 
 use crate::builder::Builder;

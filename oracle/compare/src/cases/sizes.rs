@@ -1,8 +1,9 @@
 //! Builders of the named sizes: added one by one, finished, opened and looked up.
 
 use model::areas::{Areas, by_rule};
-use model::blocks::{LIMIT, block, random, touching};
+use model::blocks::{block, random, touching};
 use model::numbers::Numbers;
+use model::settings::LIMIT;
 use tantivy_sstable::access::Block;
 
 use super::lookups;

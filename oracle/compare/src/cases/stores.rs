@@ -1,7 +1,8 @@
 //! Slices of blocks.
 
-use model::blocks::{LIMIT, block, by_rule, random, touching};
+use model::blocks::{block, by_rule, random, touching};
 use model::numbers::Numbers;
+use model::settings::LIMIT;
 use tantivy_sstable::access::Block;
 
 use crate::stores::store;

@@ -1,6 +1,7 @@
 //! Blocks and keys that are handed over, and automata.
 
-use model::blocks::{LIMIT, block, touching};
+use model::blocks::{block, touching};
+use model::settings::LIMIT;
 use tantivy_fst::Automaton;
 use tantivy_sstable::access::{self, Block, Store};
 

@@ -1,7 +1,8 @@
 //! Files, and lookups in them.
 
-use model::blocks::{LIMIT, touching};
+use model::blocks::touching;
 use model::files::{File as Parts, keys_of_one_byte};
+use model::settings::LIMIT;
 use tantivy_sstable::access::{self, Block, Index};
 
 use super::{Difference, checked, difference};
