@@ -2,13 +2,14 @@
 
 use model::blocks::touching;
 use model::files::{File as Parts, keys_of_one_byte};
-use model::settings::LIMIT;
+use model::settings::{LIMIT, OPENED_LEN};
 use tantivy_sstable::access::{self, Block, Index};
 
-use super::{Difference, checked, difference};
-use crate::lent::{Lent, Out};
-use crate::library;
-use crate::tally::rust;
+use super::{Difference, difference};
+use crate::asked::{overflow_checks, rust};
+use crate::calls::{lookups, opened};
+use crate::memory::lent::Lent;
+use crate::memory::out::Out;
 
 /// What the Rust does with a file.
 fn opens(bytes: &[u8]) -> String {
@@ -34,9 +35,9 @@ fn gives(bytes: &[u8], id: u64) -> String {
 
 /// The library's number for a file.
 fn number(bytes: &[u8]) -> String {
-    let mut opened = Out::new();
-    let no = library::open(&Lent::new(bytes), &mut opened);
-    let more = if no == 0 || opened.is([0; 7]) {
+    let mut record = Lent::buffer(OPENED_LEN);
+    let no = opened::call(&Lent::new(bytes), &mut record);
+    let more = if no == 0 || record.holds(&[0; OPENED_LEN]) {
         ""
     } else {
         " and a record"
@@ -167,7 +168,7 @@ fn widths() -> Vec<Difference> {
     let none = smallest().with(|file| file.widths(0, 1, 0)).bytes();
     let wide = smallest().with(|file| file.widths(0, 1, 57)).bytes();
     let panics = "opens it and panics at id 0";
-    let read = if checked() {
+    let read = if overflow_checks() {
         panics
     } else {
         "opens it and gives id 0 as 0..9223372036854775809 from 0"
@@ -290,11 +291,9 @@ fn below() -> Difference {
         None => "panics".to_string(),
         Some((id, _)) => format!("gives id {id}"),
     };
-    let mut record = Out::new();
-    let lent = Lent::new(&bytes);
-    assert_eq!(library::open(&lent, &mut record), 0);
-    let mut found = [Out::new(), Out::new(), Out::new(), Out::new()];
-    let no = library::locate_with_ord(&lent, &record, 0, &mut found);
+    let (lent, mut record) = (Lent::new(&bytes), Lent::buffer(OPENED_LEN));
+    assert_eq!(opened::call(&lent, &mut record), 0);
+    let no = lookups::locate_with_ord(&lent, &record, 0, &mut Out::some());
     difference(
         "D21",
         "ordinal 0 in a file whose first is 1",
