@@ -94,7 +94,7 @@ fn into(
     let by = if due == 0 { By::Rust } else { By::Model };
     let print = Print::of(&STORE).part(&before).number(room as u64);
     let case = Case::new(&STORE, by, print, no, right);
-    tally.case(case.outside((row != 0).then_some((row, outside))), || {
+    tally.case(case.outside((due != 0).then_some((due, outside))), || {
         let (count, shown) = (before.len() / 3, &before[..before.len().min(60)]);
         let asked = if bytes.is_some() {
             ""

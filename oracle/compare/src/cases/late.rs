@@ -180,7 +180,7 @@ fn footers(tally: &mut Tally, whole: &Whole) {
     // row 11 comes before all that the file breaks besides
     let faults: [fn(&mut Parts); 6] = [
         |_| {},
-        |parts| drop(parts.addresses.pop()),
+        |parts| parts.addresses.truncate(parts.addresses.len() - 1),
         |parts| parts.records_len += 1,
         |parts| parts.directory[0] ^= 1,
         |parts| parts.widths(0, 0, 0),

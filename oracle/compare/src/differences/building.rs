@@ -13,7 +13,7 @@ use crate::memory::lent::Lent;
 use crate::memory::out::{Out, values};
 
 /// What the Rust does with a slice of blocks.
-fn writes(blocks: &[Block]) -> String {
+pub fn writes(blocks: &[Block]) -> String {
     let Some(bytes) = rust(|| access::write_store(blocks)) else {
         return "panics".to_string();
     };
@@ -42,7 +42,7 @@ fn store(blocks: &[Block]) -> String {
 }
 
 /// What the Rust's builder does with blocks and keys.
-fn builds(blocks: &[(Block, &[u8])]) -> String {
+pub fn builds(blocks: &[(Block, &[u8])]) -> String {
     match rust(|| access::write_index(blocks)) {
         None => "takes them, and fails when it writes".to_string(),
         Some(bytes) => format!("takes them and writes {} bytes", bytes.len()),
@@ -50,7 +50,7 @@ fn builds(blocks: &[(Block, &[u8])]) -> String {
 }
 
 /// The library's numbers for the same adds, then that of a finish.
-fn adds(blocks: &[(Block, &[u8])], room: usize, key_room: usize, out: usize) -> String {
+pub fn adds(blocks: &[(Block, &[u8])], room: usize, key_room: usize, out: usize) -> String {
     let (mut places, mut keys) = (Lent::buffer(room), Lent::buffer(key_room));
     let mut n = Out::of(0);
     for &(block, key) in blocks {
@@ -142,7 +142,7 @@ fn slices() -> Vec<Difference> {
 }
 
 /// An empty block from ordinal 0 on and, with a second key, one from 1 on.
-fn with_keys<'a>(keys: &[&'a [u8]]) -> Vec<(Block, &'a [u8])> {
+pub fn with_keys<'a>(keys: &[&'a [u8]]) -> Vec<(Block, &'a [u8])> {
     let ords = 0..keys.len() as u64;
     ords.zip(keys)
         .map(|(ord, &key)| (block(0, 0, ord), key))

@@ -1,6 +1,7 @@
 //! The differences that docs/DIFFERENCES.md lists: the smallest input of each on both sides, and where the cases met them.
 
 mod building;
+mod further;
 mod met;
 mod opening;
 
@@ -32,20 +33,31 @@ fn difference(
     }
 }
 
-/// Shows each difference, and holds the list to those that were shown and to those that the cases met.
+/// Shows each difference, holds the list to them, and the differences that the cases met to the list. The further ones are listed
+/// all together or not at all.
 pub fn run(tally: &mut Tally, root: &Path) {
     tally.section("differences");
-    let mut shown = BTreeSet::new();
-    for found in opening::all().into_iter().chain(building::all()) {
-        assert!(shown.insert(found.id.to_string()), "{} twice", found.id);
-        show(tally, found);
-    }
     let listed = listed(root);
+    let mut all: Vec<Difference> = opening::all().into_iter().chain(building::all()).collect();
+    let further = further::all();
+    if further
+        .iter()
+        .any(|difference| listed.contains(difference.id))
+    {
+        all.extend(further);
+    }
+    let shown: BTreeSet<String> = all
+        .iter()
+        .map(|difference| difference.id.to_string())
+        .collect();
+    assert_eq!(shown.len(), all.len(), "a mark twice");
+    all.into_iter()
+        .for_each(|difference| show(tally, difference));
     tally.difference(shown == listed, || {
         format!("listed {listed:?}, shown {shown:?}")
     });
     tally.end_section();
-    met::hold(tally, &listed);
+    met::hold(tally);
 }
 
 fn show(tally: &mut Tally, difference: Difference) {

@@ -22,7 +22,7 @@ fn opens(bytes: &[u8]) -> String {
 }
 
 /// The Rust's answer for an id, in a file that it opens.
-fn gives(bytes: &[u8], id: u64) -> String {
+pub fn gives(bytes: &[u8], id: u64) -> String {
     let index = Index::open(bytes);
     match rust(|| index.get_block(id)) {
         None => format!("opens it and panics at id {id}"),
@@ -34,7 +34,7 @@ fn gives(bytes: &[u8], id: u64) -> String {
 }
 
 /// The library's number for a file.
-fn number(bytes: &[u8]) -> String {
+pub fn number(bytes: &[u8]) -> String {
     let mut record = Lent::buffer(OPENED_LEN);
     let no = opened::call(&Lent::new(bytes), &mut record);
     let more = if no == 0 || record.holds(&[0; OPENED_LEN]) {
@@ -50,7 +50,7 @@ fn file(blocks: &[Block], keys: &[Vec<u8>]) -> Vec<u8> {
 }
 
 /// A file of two blocks, 0..1 and 1..2 from ordinals 0 and 1 on, with the keys of fewest bytes.
-fn smallest() -> Parts {
+pub fn smallest() -> Parts {
     let parts = Parts::written(&touching(0, &[1, 1], 0, &[1]), &[vec![], vec![0]]);
     assert_eq!(
         (parts.bytes().len(), number(&parts.bytes())),

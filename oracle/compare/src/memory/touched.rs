@@ -4,6 +4,7 @@ use std::ptr;
 use std::sync::atomic::{AtomicPtr, Ordering};
 
 use crate::calls::Call;
+use crate::tally::section;
 
 const SEGMENT_FAULT: i32 = 11;
 
@@ -28,7 +29,10 @@ extern "C" fn touched(_: i32) {
     // SAFETY: calls are static.
     let call = unsafe { NOW.load(Ordering::Relaxed).as_ref() };
     let name = call.map_or("no call", |call| call.name);
-    println!("FAILED {name}: touched memory that isn't lent; the run ends here");
+    println!(
+        "FAILED {name} in \"{}\": touched memory that isn't lent; the run ends here",
+        section()
+    );
     // SAFETY: it ends the program.
     unsafe { _exit(2) }
 }
