@@ -28,7 +28,7 @@ pub fn block(start: u64, end: u64, ord: u64) -> Block {
     Block { start, end, ord }
 }
 
-/// Blocks of these lengths one behind the other, with these steps between their ordinals.
+/// Blocks of these lengths one after the other, with these steps between their ordinals.
 pub fn touching(start: u64, lengths: &[u64], ord: u64, steps: &[u64]) -> Vec<Block> {
     assert_eq!(lengths.len(), steps.len() + 1);
     let (mut start, mut ord) = (start, ord);

@@ -37,7 +37,7 @@ pub fn interval(rng: &mut Numbers, table: &Table, longest: u64) -> Interval {
     if rng.one_in(8) {
         return (None, one);
     }
-    // a common front; or the second key is the first with something behind it
+    // a common front; or the second key is the first with something after it
     let cut = rng.below(one.len() as u64 + 1) as usize;
     let other = match rng.below(4) {
         0 => key(rng, table, longest),

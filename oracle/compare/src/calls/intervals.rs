@@ -191,11 +191,8 @@ impl Pattern {
         room: usize,
     ) -> u64 {
         let due = self.example_number(start, end, room);
-        let (keys, mut out, mut len) = (
-            Keys::new(start, absent, end),
-            Lent::buffer(room),
-            Out::new(),
-        );
+        let keys = Keys::new(start, absent, end);
+        let (mut out, mut len) = (Lent::buffer(room), Out::new());
         let no = example(&keys, &self.lent, &mut out, &mut len);
         let found = usize::try_from(len.value())
             .ok()

@@ -111,7 +111,7 @@ fn changed(tally: &mut Tally) {
     }
 }
 
-/// Every key area of four bytes over two letters and FF, behind lengths of every kind.
+/// Every key area of four bytes over two letters and FF, with lengths of every kind.
 fn keys(tally: &mut Tally) {
     tally.section("areas: every key area of four bytes over three letters");
     for keys in super::keys::all(b"ab\xff", 4)

@@ -45,7 +45,7 @@ fn near_slopes(rng: &mut Numbers, count: usize, slopes: [u32; 2], widths: [u8; 2
     touching(rng.bits(20), &lengths, rng.bits(20), &steps)
 }
 
-/// Every two widths from 1 to 56; a gap before the fields, none or some bytes behind them.
+/// Every two widths from 1 to 56; a gap before the fields, none or some bytes after them.
 fn widths(tally: &mut Tally) {
     tally.section("foreign: every two widths from 1 to 56");
     let mut rng = Numbers::from_seed(112);

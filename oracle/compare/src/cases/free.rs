@@ -1,4 +1,4 @@
-//! Lookups and listings behind records that aren't the file's.
+//! Lookups and listings with records that aren't the file's.
 
 use model::automaton::Table;
 use model::blocks::random;

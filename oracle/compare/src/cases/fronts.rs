@@ -53,7 +53,7 @@ impl Front {
         self.period.iter().copied().cycle().take(self.len).collect()
     }
 
-    /// Accepts the front, or a whole number of periods more or less, and behind it the word and anything: all below 0x61.
+    /// Accepts the front, or a whole number of periods more or less, and after it the word and anything: all below 0x61.
     fn then(&self, word: &[u8], anything: bool) -> Option<Table> {
         let (p, dead) = (self.period.len(), self.period.len() + word.len());
         if word.is_empty() || dead + 1 > MOST_STATES {
@@ -88,7 +88,7 @@ fn tail(rng: &mut Numbers, i: usize, longest: usize) -> Vec<u8> {
     bytes
 }
 
-/// Rising keys of up to `length` bytes over one front; some are others with bytes behind them.
+/// Rising keys of up to `length` bytes over one front; some are others with bytes after them.
 fn keys(rng: &mut Numbers, front: &Front, count: usize, length: usize) -> Vec<Vec<u8>> {
     let bytes = front.bytes();
     let longest = (length - front.len).saturating_sub(2);
@@ -102,12 +102,16 @@ fn keys(rng: &mut Numbers, front: &Front, count: usize, length: usize) -> Vec<Ve
     }
     keys.sort();
     keys.dedup();
+    assert!(keys.iter().all(|key| (9..=1022).contains(&key.len())));
     keys
 }
 
 /// A front that leaves room for a tail of two bytes or more.
 fn front(rng: &mut Numbers, length: usize, kind: usize) -> Front {
-    let less = rng.pick(&[2, 2, 3, 5, 9]);
+    let less = match length {
+        ..18 => 2,
+        _ => rng.pick(&[2, 2, 3, 5, 9]),
+    };
     Front::new(rng, length - less, kind)
 }
 

@@ -28,10 +28,10 @@ pub fn all(bytes: &[u8], longest: usize) -> Vec<Vec<u8>> {
     keys
 }
 
-/// A builder with one block whose key this is, behind some bytes of the key area.
-pub fn one_key(key: &[u8], before: usize, behind: usize) -> Builder {
+/// A builder with one block whose key this is, after some bytes of the key area.
+pub fn one_key(key: &[u8], before: usize, after: usize) -> Builder {
     let front = vec![0x77; before];
-    let rest = vec![0x88; behind];
+    let rest = vec![0x88; after];
     let length = key.len() as u64;
     Builder::raw(Areas {
         n: 1,
@@ -61,7 +61,7 @@ fn pairs(tally: &mut Tally) {
     }
 }
 
-/// Keys that differ at each place, with runs of FF behind it; keys of up to 1,025 bytes.
+/// Keys that differ at each place, with runs of FF after it; keys of up to 1,025 bytes.
 fn long(tally: &mut Tally) {
     tally.section("keys: up to 1,025 bytes, long common fronts");
     let mut rng = Numbers::from_seed(101);

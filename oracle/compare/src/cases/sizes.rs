@@ -37,11 +37,11 @@ fn build(tally: &mut Tally, rng: &mut Numbers, blocks: &[Block], keys: &[Vec<u8>
     }
 }
 
-/// Rising keys: a common front, a number, and bytes behind it.
-fn keys(rng: &mut Numbers, count: u64, front: u64, behind: u64) -> Vec<Vec<u8>> {
+/// Rising keys: a common front, a number, and bytes after it.
+fn keys(rng: &mut Numbers, count: u64, front: u64, after: u64) -> Vec<Vec<u8>> {
     let front = rng.bytes(front);
     let key = |i: u64, rng: &mut Numbers| {
-        let length = rng.below(behind + 1);
+        let length = rng.below(after + 1);
         let tail: Vec<u8> = (0..length)
             .map(|_| rng.pick(&[0x00, 0x61, 0xff, 0xff]))
             .collect();

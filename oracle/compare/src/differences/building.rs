@@ -165,7 +165,7 @@ fn added() -> Vec<Difference> {
         ),
         difference(
             "D30",
-            "an add of key 00 behind 00",
+            "an add of key 00 after 00",
             (builds(&same), fails),
             (adds(&same, 10, 2, 500), "gets 6"),
         ),
@@ -223,7 +223,7 @@ fn shorten() -> Difference {
     )
 }
 
-/// 65 states, one behind the other; the last accepts.
+/// 65 states, one after the other; the last accepts.
 struct Long;
 
 impl Automaton for Long {

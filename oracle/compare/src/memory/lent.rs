@@ -19,7 +19,7 @@ const CANARY: [u8; 64] = {
 
 static BEGINS: AtomicBool = AtomicBool::new(false);
 
-/// From here on parts begin behind a protected page and have the canary after them. Otherwise they end before such a page, with
+/// From here on parts begin after a protected page and have the canary after them. Otherwise they end before such a page, with
 /// the canary in front.
 pub fn begin_at_a_page() {
     BEGINS.store(true, Ordering::Relaxed);

@@ -36,14 +36,14 @@ pub fn run(tally: &mut Tally, root: &Path) {
     }
 }
 
-/// The parts of a line behind its letter.
+/// The parts of a line after its letter.
 struct Words<'a> {
     line: &'a str,
     words: std::str::Split<'a, char>,
 }
 
 impl<'a> Words<'a> {
-    /// The letter, and what is behind it.
+    /// The letter, and what is after it.
     fn new(line: &'a str) -> (&'a str, Words<'a>) {
         let mut words = line.split(' ');
         let letter = words.next().expect("a letter");
