@@ -101,6 +101,7 @@ uint32_t rosmarel_finish_len(uint64_t n, const uint64_t *blocks, size_t blocks_l
     if (fault("finish_len_most") && no == 0 && n == 65536) *total -= 1;
     if (fault("finish_len_even_groups") && no == 0 && n > 1000 && n % 256 == 0 && n < 65536) *total -= 1;
     if (fault("finish_len_kept") && no == 8) *total = before;
+    if (fault("finish_len_reads_after_blocks")) touch(blocks + blocks_len);
     return no;
 }
 

@@ -40,11 +40,14 @@ pub fn run(tally: &mut Tally, root: &Path) {
     let listed = listed(root);
     let mut all: Vec<Difference> = opening::all().into_iter().chain(building::all()).collect();
     let further = further::all();
+    let mut known = listed.clone();
     if further
         .iter()
         .any(|difference| listed.contains(difference.id))
     {
         all.extend(further);
+    } else {
+        known.extend(further.iter().map(|difference| difference.id.to_string()));
     }
     let shown: BTreeSet<String> = all
         .iter()
@@ -57,7 +60,7 @@ pub fn run(tally: &mut Tally, root: &Path) {
         format!("listed {listed:?}, shown {shown:?}")
     });
     tally.end_section();
-    met::hold(tally);
+    met::hold(tally, &known);
 }
 
 fn show(tally: &mut Tally, difference: Difference) {
