@@ -1,15 +1,25 @@
 //! The Rust, asked. It may panic, which is never an answer.
 
 use std::cell::Cell;
+use std::env;
 use std::hint::black_box;
 use std::panic::{self, AssertUnwindSafe, catch_unwind};
+use std::sync::LazyLock;
+
+use crate::calls::Call;
 
 thread_local! {
     static ASKING: Cell<bool> = const { Cell::new(false) };
 }
 
-/// The Rust's answer; None where it panics.
-pub fn rust<T>(ask: impl FnOnce() -> T) -> Option<T> {
+/// The call for which the Rust is to panic whatever it is asked: oracle/wrong/run sees that this is noticed.
+static PANICS: LazyLock<Option<String>> = LazyLock::new(|| env::var("RUST_PANICS").ok());
+
+/// What the Rust answers beside a call; None where it panics.
+pub fn rust<T>(call: &'static Call, ask: impl FnOnce() -> T) -> Option<T> {
+    if PANICS.as_deref() == Some(call.name) {
+        return None;
+    }
     quietly(ask)
 }
 

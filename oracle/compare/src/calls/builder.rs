@@ -168,7 +168,7 @@ impl Builder {
     /// The Rust's shortened key, where there is a last one that row 1 takes; Some(None) where it panics.
     fn shortened(&self, due: u64, next: &[u8]) -> Option<Option<Vec<u8>>> {
         let (_, key) = self.areas.view(self.areas.n).last?;
-        (due != 1).then(|| rust(|| access::find_shorter_str_in_between(&key, next)))
+        (due != 1).then(|| rust(&SHORTEN, || access::find_shorter_str_in_between(&key, next)))
     }
 
     fn machine_key(&mut self, short: &[u8]) {
@@ -198,7 +198,7 @@ impl Builder {
             Some(machine) => machine.entries.clone(),
             None => self.areas.entries(),
         };
-        (0, rust(|| index(&entries)))
+        (0, rust(&FINISH, || index(&entries)))
     }
 
     /// A finish into a buffer of each of these lengths beside the index's, and its length alone. Returns the index.

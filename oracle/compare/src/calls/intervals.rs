@@ -127,11 +127,13 @@ impl Pattern {
     }
 
     /// The row, and the Rust's mark of an interval; no mark where it panics.
-    fn mark(&self, start: Option<&[u8]>, end: &[u8]) -> (u64, Option<bool>) {
+    fn mark(&self, call: &'static Call, start: Option<&[u8]>, end: &[u8]) -> (u64, Option<bool>) {
         match &self.table {
             Ok(table) => (
                 0,
-                rust(|| access::can_block_match_automaton(start, end, table)),
+                rust(call, || {
+                    access::can_block_match_automaton(start, end, table)
+                }),
             ),
             Err(row) => (*row, Some(false)),
         }
@@ -153,7 +155,7 @@ impl Pattern {
         absent: &[u8],
         end: &[u8],
     ) -> (u64, u64) {
-        let (due, mark) = self.mark(start, end);
+        let (due, mark) = self.mark(&CAN_BLOCK_MATCH, start, end);
         let (keys, mut matches) = (Keys::new(start, absent, end), Out::new());
         let no = can_block_match(&keys, &self.lent, &mut matches);
         let right = no == due && mark.is_some_and(|mark| matches.is(mark.into()));
@@ -174,7 +176,7 @@ impl Pattern {
 
     /// The number of an example: rows 21 to 23, then 24, then 25; none where the Rust panics.
     fn example_number(&self, start: Option<&[u8]>, end: &[u8], room: usize) -> Option<u64> {
-        match self.mark(start, end) {
+        match self.mark(&EXAMPLE, start, end) {
             (row, _) if row != 0 => Some(row),
             _ if room < longer(start, end) + MOST_STATES => Some(24),
             (_, mark) => mark.map(|mark| if mark { 0 } else { 25 }),

@@ -21,7 +21,9 @@ pub static COMMON_PREFIX_LEN: Call = Call {
 pub const CALLS: &[&Call] = &[&COMMON_PREFIX_LEN];
 
 pub fn common_prefix_len(tally: &mut Tally, left: &[u8], right: &[u8]) -> u64 {
-    let due = rust(|| access::common_prefix_len(left, right) as u64);
+    let due = rust(&COMMON_PREFIX_LEN, || {
+        access::common_prefix_len(left, right) as u64
+    });
     let (one, other) = (Lent::new(left), Lent::new(right));
     // SAFETY: parts that are lent.
     let got = calling(&COMMON_PREFIX_LEN, || unsafe {

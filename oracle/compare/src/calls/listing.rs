@@ -89,7 +89,7 @@ impl File {
             (Ok(table), index) => {
                 let index = index.as_ref()?;
                 let mut marks = vec![0; n];
-                for id in rust(|| index.get_block_for_automaton(table))? {
+                for id in rust(&LIST, || index.get_block_for_automaton(table))? {
                     *marks.get_mut(id as usize)? = 1;
                 }
                 Some((0, marks))

@@ -167,6 +167,7 @@ impl<const N: usize> Made<N> {
     fn judge(
         self,
         tally: &mut Tally,
+        file: &File,
         due: Option<Due<N>>,
         in_range: bool,
         what: impl FnOnce() -> String,
@@ -188,7 +189,7 @@ impl<const N: usize> Made<N> {
             let said = due.map_or(String::new(), |due| {
                 format!(", the model {:?}, the Rust {:?}", due.model, due.rust)
             });
-            format!("{} gives {no} {got:?}{said}", what())
+            format!("{} gives {no} {got:?}{said}; {}", what(), file.about())
         });
         (no, got)
     }
@@ -216,7 +217,7 @@ impl File {
         let due = self.judged().map(|index| Due {
             row: 17,
             model: self.opening.by_id(id).map(numbers),
-            rust: rust(|| index.get_block(id).map(numbers)),
+            rust: rust(&GET_BLOCK, || index.get_block(id).map(numbers)),
         });
         let print = self.print(&GET_BLOCK).number(id);
         let kept = self.untouched() && guarded;
@@ -228,7 +229,7 @@ impl File {
             got,
             kept,
         };
-        made.judge(tally, due, range, || format!("{}; id {id}", self.about()))
+        made.judge(tally, self, due, range, || format!("id {id}"))
     }
 
     /// By ordinal. Returns the number, the id and the address.
@@ -239,7 +240,9 @@ impl File {
         let due = self.judged().map(|index| Due {
             row: 18,
             model: self.opening.by_ord(ord).map(located),
-            rust: rust(|| Some(located(index.get_and_locate_with_ord(ord)))),
+            rust: rust(&LOCATE_WITH_ORD, || {
+                Some(located(index.get_and_locate_with_ord(ord)))
+            }),
         });
         let print = self.print(&LOCATE_WITH_ORD).number(ord);
         let kept = self.untouched() && guarded;
@@ -251,9 +254,7 @@ impl File {
             got,
             kept,
         };
-        made.judge(tally, due, range, || {
-            format!("{}; ordinal {ord}", self.about())
-        })
+        made.judge(tally, self, due, range, || format!("ordinal {ord}"))
     }
 
     /// By key, the id alone.
@@ -264,7 +265,9 @@ impl File {
         let due = self.judged().map(|index| Due {
             row: 19,
             model: self.opening.by_key(key).map(|id| [id]),
-            rust: rust(|| index.locate_with_key(key).map(|id| [id])),
+            rust: rust(&LOCATE_WITH_KEY, || {
+                index.locate_with_key(key).map(|id| [id])
+            }),
         });
         let print = self.print(&LOCATE_WITH_KEY).part(key);
         let kept = self.untouched() && guarded && lent.holds(key);
@@ -276,9 +279,7 @@ impl File {
             got,
             kept,
         };
-        made.judge(tally, due, range, || {
-            format!("{}; key {key:x?}", self.about())
-        })
+        made.judge(tally, self, due, range, || format!("key {key:x?}"))
     }
 
     /// By key, with the address.
@@ -292,7 +293,7 @@ impl File {
                 .opening
                 .by_key(key)
                 .and_then(|id| Some(located((id, self.opening.by_id(id)?)))),
-            rust: rust(|| {
+            rust: rust(&GET_BLOCK_WITH_KEY, || {
                 Some(located((
                     index.locate_with_key(key)?,
                     index.get_block_with_key(key)?,
@@ -309,8 +310,8 @@ impl File {
             got,
             kept,
         };
-        made.judge(tally, due, range, || {
-            format!("{}; address of key {key:x?}", self.about())
+        made.judge(tally, self, due, range, || {
+            format!("address of key {key:x?}")
         })
     }
 
@@ -341,7 +342,7 @@ impl File {
     /// The block that the Rust finds by the key; a panic finds none.
     fn rust_finds(&self, key: Option<&[u8]>) -> Option<u64> {
         let (index, key) = (self.judged()?, key?);
-        rust(|| index.locate_with_key(key)).flatten()
+        rust(&SEPARATOR, || index.locate_with_key(key)).flatten()
     }
 
     fn part(&self, [offset, len]: [u64; 2]) -> Option<&[u8]> {

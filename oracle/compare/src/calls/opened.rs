@@ -50,7 +50,7 @@ pub fn open(tally: &mut Tally, bytes: &[u8]) -> File {
     let opening = opening::open(bytes);
     let due = opening.no();
     let numbers = opening.answer().numbers();
-    let index = rust(|| Index::try_open(bytes).ok());
+    let index = rust(&OPEN, || Index::try_open(bytes).ok());
     let outside = (due != 0).then(|| (due, Outside::of(&index)));
     let index = index.flatten();
     let (lent, mut opened) = (Lent::new(bytes), Lent::buffer(OPENED_LEN));

@@ -51,7 +51,7 @@ pub fn flat(blocks: &[Block]) -> Vec<u64> {
 /// Writes the store into buffers of these lengths beside its own. Returns the store.
 pub fn store(tally: &mut Tally, blocks: &[Block], rooms: &[isize]) -> Vec<u8> {
     let row = first(&slice_rows(blocks));
-    let written = rust(|| access::write_store(blocks));
+    let written = rust(&STORE, || access::write_store(blocks));
     let lent = Lent::new(&flat(blocks));
     for &room in rooms {
         let bytes = if row == 0 {

@@ -6,7 +6,7 @@ use tantivy_fst::Automaton;
 use tantivy_sstable::access::{self, Block, Store};
 
 use super::{Difference, difference};
-use crate::asked::{overflow_checks, rust};
+use crate::asked::{overflow_checks, quietly};
 use crate::calls::intervals::{Keys, can_block_match};
 use crate::calls::{building, stores};
 use crate::memory::lent::Lent;
@@ -14,7 +14,7 @@ use crate::memory::out::{Out, values};
 
 /// What the Rust does with a slice of blocks.
 pub fn writes(blocks: &[Block]) -> String {
-    let Some(bytes) = rust(|| access::write_store(blocks)) else {
+    let Some(bytes) = quietly(|| access::write_store(blocks)) else {
         return "panics".to_string();
     };
     let store = Store::open(&bytes);
@@ -43,7 +43,7 @@ fn store(blocks: &[Block]) -> String {
 
 /// What the Rust's builder does with blocks and keys.
 pub fn builds(blocks: &[(Block, &[u8])]) -> String {
-    match rust(|| access::write_index(blocks)) {
+    match quietly(|| access::write_index(blocks)) {
         None => "takes them, and fails when it writes".to_string(),
         Some(bytes) => format!("takes them and writes {} bytes", bytes.len()),
     }
@@ -209,7 +209,7 @@ fn finished() -> Vec<Difference> {
 }
 
 fn shorten() -> Difference {
-    let answer = match rust(|| access::find_shorter_str_in_between(b"", b"")) {
+    let answer = match quietly(|| access::find_shorter_str_in_between(b"", b"")) {
         None => "panics".to_string(),
         Some(short) => format!("gives {short:x?}"),
     };
@@ -247,7 +247,7 @@ impl Automaton for Long {
 }
 
 fn states() -> Difference {
-    let answer = rust(|| access::can_block_match_automaton(None, &[0; 64], &Long));
+    let answer = quietly(|| access::can_block_match_automaton(None, &[0; 64], &Long));
     let next = |i: usize| ((i / 256 + 1) % 65) as u8;
     let mut bytes = vec![65];
     bytes.extend((0..65).map(|state| u8::from(state == 64)));

@@ -7,7 +7,7 @@ use tantivy_sstable::access::{self, Block};
 use super::building::{adds, builds, with_keys};
 use super::opening::{gives, number, smallest};
 use super::{Difference, difference};
-use crate::asked::{overflow_checks, rust};
+use crate::asked::{overflow_checks, quietly};
 use crate::calls::{building, stores};
 use crate::memory::lent::Lent;
 use crate::memory::out::Out;
@@ -123,7 +123,7 @@ fn single_adds() -> Vec<Difference> {
 
 /// The Rust's builder takes them; what it writes of them isn't compared.
 fn takes(blocks: &[(Block, &[u8])]) -> String {
-    let taken = rust(|| {
+    let taken = quietly(|| {
         let mut builder = access::Builder::default();
         blocks
             .iter()
@@ -177,7 +177,7 @@ fn last_add() -> Difference {
 fn shorten() -> Difference {
     let next = vec![0; LONGEST_KEY + 1];
     let mut builder = access::Builder::default();
-    let answer = match rust(|| builder.shorten_last_block_key_given_next_key(&next)) {
+    let answer = match quietly(|| builder.shorten_last_block_key_given_next_key(&next)) {
         None => "panics",
         Some(()) if builder.last_key().is_none() => "takes it and does nothing",
         Some(()) => "takes it",
@@ -198,7 +198,7 @@ fn shorten() -> Difference {
 }
 
 fn store() -> Difference {
-    let answer = match rust(|| access::write_store(&[])) {
+    let answer = match quietly(|| access::write_store(&[])) {
         None => "panics".to_string(),
         Some(bytes) => format!("writes {} bytes", bytes.len()),
     };

@@ -6,14 +6,14 @@ use model::settings::{LIMIT, OPENED_LEN};
 use tantivy_sstable::access::{self, Block, Index};
 
 use super::{Difference, difference};
-use crate::asked::{overflow_checks, rust};
+use crate::asked::{overflow_checks, quietly};
 use crate::calls::{lookups, opened};
 use crate::memory::lent::Lent;
 use crate::memory::out::Out;
 
 /// What the Rust does with a file.
 fn opens(bytes: &[u8]) -> String {
-    match rust(|| Index::try_open(bytes).is_ok()) {
+    match quietly(|| Index::try_open(bytes).is_ok()) {
         None => "panics",
         Some(true) => "opens it",
         Some(false) => "refuses it",
@@ -24,7 +24,7 @@ fn opens(bytes: &[u8]) -> String {
 /// The Rust's answer for an id, in a file that it opens.
 pub fn gives(bytes: &[u8], id: u64) -> String {
     let index = Index::open(bytes);
-    match rust(|| index.get_block(id)) {
+    match quietly(|| index.get_block(id)) {
         None => format!("opens it and panics at id {id}"),
         Some(None) => format!("opens it and finds no id {id}"),
         Some(Some(Block { start, end, ord })) => {
@@ -287,7 +287,7 @@ fn below() -> Difference {
     let keys = [vec![], vec![0]];
     let bytes = file(&touching(0, &[0, 0], 1, &[1]), &keys);
     let index = Index::open(&bytes);
-    let answer = match rust(|| index.get_and_locate_with_ord(0)) {
+    let answer = match quietly(|| index.get_and_locate_with_ord(0)) {
         None => "panics".to_string(),
         Some((id, _)) => format!("gives id {id}"),
     };
