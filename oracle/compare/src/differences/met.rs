@@ -6,7 +6,9 @@ use std::collections::BTreeSet;
 use crate::asked::Outside::{self, Answers, Panics, Refuses};
 use crate::tally::Tally;
 
-/// A call, its row, what the Rust does there, and the marks of the list that say so.
+/// A call, its row, what the Rust does there, and the marks of the list that say so. Two kinds have no row of their own and point at
+/// the nearest: a slice whose start falls below its group's first panics with overflow checks (D25 speaks of a gap alone), and
+/// shorten's assertion also fails for a next key of over 1,024 bytes (D35 speaks of row 6).
 const MET: &[(&str, u64, Outside, &[&str])] = &[
     ("shorten", 2, Panics, &["D35"]),
     ("shorten", 2, Answers, &["D49"]),
