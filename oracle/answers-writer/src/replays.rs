@@ -7,9 +7,10 @@ use tantivy_sstable::access::{self, Block};
 
 use model::areas::Entry;
 use model::automaton::Table;
-use model::blocks::{LIMIT, WORKED, block};
+use model::blocks::{WORKED, block};
 use model::numbers::Numbers;
 use model::patterns::ring;
+use model::settings::LIMIT;
 
 use crate::damaged_lists;
 use crate::list_bytes::{Call, Question, decode, encode};
