@@ -8,7 +8,7 @@ use lib.ListN.{length, getD, length-append}
 use borrow.Author.Tests.{lt-ltb, le-ltb}
 use Rattle.index.specs.declared.SSTableIndexV3.{SSTableIndexV3}
 use Rattle.index.specs.declared.Loaded.{Loaded}
-use Rattle.block_lines.specs.Opened.{loadedOf}
+use Rattle.index.specs.Opening.{loadDef}
 use Rattle.block_lines.specs.Lines.{decimal}
 use Rattle.block_lines.specs.Text.{maxLen, tooLongLine, refusedText, refusedLine, lineAt, linesFrom, loadedPieces, blocksPieces}
 use Rattle.block_lines.proofs.Digits.{length-fuel}
@@ -18,7 +18,7 @@ module _ (f : List ℕ) where
   unfolding blocksPieces
   long-pieces h = rw (lt-ltb maxLen (length f) h)
 
-  pub short-pieces : length f ≤ maxLen → (loaded : Loaded) → loadedOf f ≡ loaded → blocksPieces f ≡ loadedPieces loaded f
+  pub short-pieces : length f ≤ maxLen → (loaded : Loaded) → loadDef f ≡ loaded → blocksPieces f ≡ loadedPieces loaded f
   unfolding blocksPieces
   short-pieces h loaded e = rw (le-ltb maxLen (length f) h, e)
 

@@ -10,7 +10,8 @@ use Rattle.index.specs.declared.SSTableIndexV3.{SSTableIndexV3}
 use Rattle.index.specs.declared.Loaded.{Loaded}
 use Rattle.index.specs.declared.Loaded.the-variants.{Opened, Refused}
 use Rattle.index.specs.Parts.{separatorIn}
-use Rattle.block_lines.specs.Opened.{loadedOf, openedBlock}
+use Rattle.index.specs.Opening.{loadDef}
+use Rattle.block_lines.specs.Opened.{openedBlock}
 use Rattle.block_lines.specs.Lines.{decimal, lineOf}
 
 -- the longest input that is taken
@@ -44,7 +45,7 @@ loadedPieces (Opened opened) f = linesFrom opened f 0 (opened .n)
 loadedPieces (Refused k) f = refusedLine k ∷ []
 
 unfoldable pub blocksPieces : List ℕ → List (List ℕ)
-blocksPieces f = cond (ltb maxLen (length f)) (tooLongLine ∷ []) (loadedPieces (loadedOf f) f)
+blocksPieces f = cond (ltb maxLen (length f)) (tooLongLine ∷ []) (loadedPieces (loadDef f) f)
 
 -- all of them, joined: the whole text
 unfoldable pub blocksText : List ℕ → List ℕ

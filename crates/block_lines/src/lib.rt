@@ -6,7 +6,8 @@ ghost use Prim.Native.Nat.{_≤_, _<_};
 ghost use lib.ListN.{length};
 ghost use lib.Seq.{sets};
 ghost use Rattle.group.specs.Legal.{NumbersOk};
-ghost use Rattle.block_lines.specs.Opened.{loadedOf, OpensTo, openedBlock};
+ghost use Rattle.index.specs.Opening.{loadDef, Opens};
+ghost use Rattle.block_lines.specs.Opened.{openedBlock};
 ghost use Rattle.block_lines.specs.Text.{lineAt, blocksPieces, WritesPiece};
 use group::BlockAddr;
 use index::BlockById;
@@ -21,7 +22,7 @@ pub const MAX_LEN: usize = 65536;
 
 // The address of a block of an opened index.
 fn block(opened: SSTableIndexV3, data: &[u8], id: usize) -> BlockAddr
-    requires { ⌜ OpensTo (now «data») opened × (id < opened .n) ⌝ }
+    requires { ⌜ Opens (now «data») opened × (id < opened .n) ⌝ }
     ensures { λ r. ⌜ (r ≡ openedBlock opened (now («data» .entry)) id) × NumbersOk r ⌝ }
 {
     let BlockById::Block(block) = opened.get_block(data, id as u64) else {
@@ -37,7 +38,7 @@ fn block(opened: SSTableIndexV3, data: &[u8], id: usize) -> BlockAddr
 
 // Writes the line of a block of an opened index to the front of `out`. Returns its length.
 pub fn line(opened: SSTableIndexV3, data: &[u8], id: usize, out: &mut [u8]) -> usize
-    requires { ⌜ OpensTo (now «data») opened × (id < opened .n) × (2103 ≤ length (now out)) ⌝ }
+    requires { ⌜ Opens (now «data») opened × (id < opened .n) × (2103 ≤ length (now out)) ⌝ }
     ensures { λ r. ⌜ r ≡ length (lineAt opened (now («data» .entry)) id) ⌝ }
     ensures { λ _. ⌜ now (out .exit) ≡ sets (now (out .entry)) 0 (lineAt opened (now («data» .entry)) id) ⌝ }
 {
@@ -48,7 +49,7 @@ pub fn line(opened: SSTableIndexV3, data: &[u8], id: usize, out: &mut [u8]) -> u
 
 // How many pieces the text has for these bytes, of which `loaded` is what opening answers.
 pub fn pieces(loaded: Loaded, data: &[u8]) -> usize
-    requires { ⌜ loaded ≡ loadedOf (now «data») ⌝ }
+    requires { ⌜ loaded ≡ loadDef (now «data») ⌝ }
     ensures { λ r. ⌜ r ≡ length (blocksPieces (now («data» .entry))) ⌝ }
 {
     if data.len() > MAX_LEN {
@@ -62,7 +63,7 @@ pub fn pieces(loaded: Loaded, data: &[u8]) -> usize
 
 // Writes piece i of the text to the front of `out`. Returns its length.
 pub fn piece(loaded: Loaded, data: &[u8], i: usize, out: &mut [u8]) -> usize
-    requires { ⌜ (loaded ≡ loadedOf (now «data»)) × (i < length (blocksPieces (now «data»))) × (2103 ≤ length (now out)) ⌝ }
+    requires { ⌜ (loaded ≡ loadDef (now «data»)) × (i < length (blocksPieces (now «data»))) × (2103 ≤ length (now out)) ⌝ }
     ensures { λ r. ⌜ WritesPiece (now («data» .entry)) i (now (out .entry)) (now (out .exit)) r ⌝ }
 {
     if data.len() > MAX_LEN {

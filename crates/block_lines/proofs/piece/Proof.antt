@@ -6,7 +6,7 @@ use Prim.Native.Nat.{ℕ, _<_}
 use native.Mathlib.Omega.{arith}
 use lib.ListN.{length, getD}
 use Rattle.index.specs.declared.Loaded.the-variants.{Opened, Refused}
-use Rattle.block_lines.specs.Opened.{OpensTo}
+use Rattle.index.specs.Opening.{Opens}
 use Rattle.block_lines.specs.Text.{tooLongLine, refusedLine, linesFrom, blocksPieces}
 use Rattle.block_lines.proofs.Opened.{line-fits}
 use Rattle.block_lines.proofs.TextPieces.{long-pieces, short-pieces, refused-short, length-lines, line-is}
@@ -20,7 +20,7 @@ only pieces piece i e h =
     rw (e, z)
 
 -- ---- an opened index: its lines
-opens : (c : tie.After-loaded) → OpensTo (c .before .before .before .before .before .args .«data» .now) (c .loaded .given .0 .0)
+opens : (c : tie.After-loaded) → Opens (c .before .before .before .before .before .args .«data» .now) (c .loaded .given .0 .0)
 opens c = sym (c .before .before .before .before .before .pre .0) ∙ c .loaded .given .1
 
 opened-lines : (c : tie.After-loaded) → let s = c .before .before .before .before .before in
