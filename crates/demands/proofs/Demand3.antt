@@ -20,7 +20,7 @@ use Rattle.machine.proofs.Finishing.{finish-plain}
 use Rattle.machine.proofs.PlainFinish.{plain-number, plain-front}
 use Rattle.machine.proofs.SameIndex.{same-index, fresh-inj}
 use Rattle.index.specs.Opening.{Opens, openedOf}
-use Rattle.demands.specs.Demand3.{Finds, entriesAfter, Finishes, indexAfter, Demand3}
+use Rattle.demands.specs.Demand3.{Finds, entriesOfCalls, Finishes, indexOfCalls, Demand3}
 use Rattle.demands.proofs.Found.{settings, entries-open, found}
 
 module _ (choose : List ℕ → ℕ) (slopes : (vs : List ℕ) → choose vs < 2 ^ 32) where
@@ -28,32 +28,32 @@ module _ (choose : List ℕ → ℕ) (slopes : (vs : List ℕ) → choose vs < 2
   settings-ok = record { slopes = slopes; group = record { some = omega arith; few = omega arith } }
 
   module _ (cs : List Call) (fresh : State) (out : List ℕ) (none : FreshState fresh) where
-    finishes : finishedAfter (settings choose) cs fresh out ≡ plainFinish (settings choose) (entriesAfter cs fresh) out
+    finishes : finishedAfter (settings choose) cs fresh out ≡ plainFinish (settings choose) (entriesOfCalls cs fresh) out
     finishes = finish-plain (settings choose) cs fresh none out
 
     -- its number is 0 or 9
     only-nine : (k : ℕ) → (k ≡ 0 → ⊥) → (k ≡ 9 → ⊥) → finishedAfter (settings choose) cs fresh out .no ≡ k → ⊥
     only-nine k some other e =
-        let same : plainFinish (settings choose) (entriesAfter cs fresh) out .no ≡ k = sym (ap (λ (x : Finish). x .no) finishes) ∙ e in
-        ⊎-elim (λ p. other (sym same ∙ p .1)) (λ p. some (sym same ∙ p .1)) (plain-number (settings choose) (entriesAfter cs fresh) out)
+        let same : plainFinish (settings choose) (entriesOfCalls cs fresh) out .no ≡ k = sym (ap (λ (x : Finish). x .no) finishes) ∙ e in
+        ⊎-elim (λ p. other (sym same ∙ p .1)) (λ p. some (sym same ∙ p .1)) (plain-number (settings choose) (entriesOfCalls cs fresh) out)
 
     module _ (h : Finishes (settings choose) cs fresh out) where
-      laid-out : indexAfter (settings choose) cs fresh out ≡ plainIndex (settings choose) (entriesAfter cs fresh)
+      laid-out : indexOfCalls (settings choose) cs fresh out ≡ plainIndex (settings choose) (entriesOfCalls cs fresh)
       laid-out =
           ap (λ (x : Finish). take (x .total) (x .out)) finishes
-          ∙ plain-front (settings choose) (entriesAfter cs fresh) out (sym (ap (λ (x : Finish). x .no) finishes) ∙ h .accepted)
+          ∙ plain-front (settings choose) (entriesOfCalls cs fresh) out (sym (ap (λ (x : Finish). x .no) finishes) ∙ h .accepted)
 
-      opens : Opens (indexAfter (settings choose) cs fresh out) (openedOf (indexAfter (settings choose) cs fresh out))
+      opens : Opens (indexOfCalls (settings choose) cs fresh out) (openedOf (indexOfCalls (settings choose) cs fresh out))
       opens =
           let both = run-rules cs fresh none in
           subst (λ (f : List ℕ). Opens f (openedOf f)) (sym laid-out)
-          (entries-open choose slopes (entriesAfter cs fresh) (both .1) (both .0 .rep .few) (h .two))
+          (entries-open choose slopes (entriesOfCalls cs fresh) (both .1) (both .0 .rep .few) (h .two))
 
-      finds : Finds (entriesAfter cs fresh) (indexAfter (settings choose) cs fresh out) (openedOf (indexAfter (settings choose) cs fresh out))
+      finds : Finds (entriesOfCalls cs fresh) (indexOfCalls (settings choose) cs fresh out) (openedOf (indexOfCalls (settings choose) cs fresh out))
       finds =
           let both = run-rules cs fresh none in
-          subst (λ (f : List ℕ). Finds (entriesAfter cs fresh) f (openedOf f)) (sym laid-out)
-          (found choose slopes (entriesAfter cs fresh) (both .1) (both .0 .rep .few) (h .two))
+          subst (λ (f : List ℕ). Finds (entriesOfCalls cs fresh) f (openedOf f)) (sym laid-out)
+          (found choose slopes (entriesOfCalls cs fresh) (both .1) (both .0 .rep .few) (h .two))
 
   -- for every choice of slopes
   pub demand-3-of : (cs : List Call) (fresh : State) (out : List ℕ) → FreshState fresh → Demand3 (settings choose) cs fresh out
@@ -71,7 +71,7 @@ module _ (choose : List ℕ → ℕ) (slopes : (vs : List ℕ) → choose vs < 2
         fresh-inj (settings choose) (settings choose) refl settings-ok settings-ok cs cs′ fresh fresh′ none none′ (h .two)
         (sym (laid-out cs fresh out none h) ∙ same ∙ laid-out cs′ fresh′ out′ none′ h′);
     equal-bytes = λ cs′ fresh′ out′ none′ h h′ same.
-        laid-out cs fresh out none h ∙ same-index (settings choose) (entriesAfter cs fresh) (entriesAfter cs′ fresh′) same
+        laid-out cs fresh out none h ∙ same-index (settings choose) (entriesOfCalls cs fresh) (entriesOfCalls cs′ fresh′) same
         ∙ sym (laid-out cs′ fresh′ out′ none′ h′);
   }
 

@@ -24,7 +24,7 @@ use Rattle.pruning.specs.Interval.{Marked}
 use Rattle.index.specs.declared.SSTableIndexV3.{SSTableIndexV3}
 use Rattle.index.specs.Opening.{Opens, openedOf}
 use Rattle.index.specs.Lookups.{GetBlock, LocateWithOrd}
-use Rattle.demands.specs.Demand3.{entriesAfter, indexAfter}
+use Rattle.demands.specs.Demand3.{entriesOfCalls, indexOfCalls}
 
 -- ---- the list
 
@@ -50,14 +50,14 @@ pub record Room (fresh : State) (out : List ℕ) : Type 0 where
   pub output : 85 ≤ length out
 
 -- the record of their one group, and its range and ordinal fields
-abbrev pub group : BlockAddrBlockMetadata
-group = metaOf bestSlope 0 block0 (block1 ∷ block2 ∷ [])
+abbrev pub workedGroup : BlockAddrBlockMetadata
+workedGroup = metaOf bestSlope 0 block0 (block1 ∷ block2 ∷ [])
 
 abbrev pub rangeFields : List ℕ
-rangeFields = fields (group .«range_start_slope») (group .«range_start_nbits») 1 (rangeValues 0 block0 (block1 ∷ block2 ∷ []))
+rangeFields = fields (workedGroup .«range_start_slope») (workedGroup .«range_start_nbits») 1 (rangeValues 0 block0 (block1 ∷ block2 ∷ []))
 
 abbrev pub ordinalFields : List ℕ
-ordinalFields = fields (group .«first_ordinal_slope») (group .«first_ordinal_nbits») 1 (ordinalValues 0 (block1 ∷ block2 ∷ []))
+ordinalFields = fields (workedGroup .«first_ordinal_slope») (workedGroup .«first_ordinal_nbits») 1 (ordinalValues 0 (block1 ∷ block2 ∷ []))
 
 -- range then ordinal for blocks 1.., then the last end
 abbrev pub inTurn : List ℕ → List ℕ → List ℕ
@@ -85,7 +85,7 @@ onlyEmpty = 2 ∷ 1 ∷ 0 ∷ replicate 512 1
 
 -- the index that finish makes of the list, and its opened record
 abbrev pub workedIndex : State → List ℕ → List ℕ
-workedIndex fresh out = indexAfter standard workedCalls fresh out
+workedIndex fresh out = indexOfCalls standard workedCalls fresh out
 
 abbrev pub workedOpened : State → List ℕ → SSTableIndexV3
 workedOpened fresh out = openedOf (workedIndex fresh out)
@@ -93,19 +93,19 @@ workedOpened fresh out = openedOf (workedIndex fresh out)
 pub record Worked (fresh : State) (out : List ℕ) : Type 0 where
   -- the three adds are taken, and are the blocks and separators
   pub taken : runNumbers workedCalls fresh ≡ 0 ∷ 0 ∷ 0 ∷ []
-  pub blocks : blocksOf (entriesAfter workedCalls fresh) ≡ block0 ∷ block1 ∷ block2 ∷ []
-  pub separators : separatorsOf (entriesAfter workedCalls fresh) ≡ (98 ∷ []) ∷ (100 ∷ []) ∷ (102 ∷ []) ∷ []
+  pub blocks : blocksOf (entriesOfCalls workedCalls fresh) ≡ block0 ∷ block1 ∷ block2 ∷ []
+  pub separators : separatorsOf (entriesOfCalls workedCalls fresh) ≡ (98 ∷ []) ∷ (100 ∷ []) ∷ (102 ∷ []) ∷ []
   -- range slope 11 width 3, ordinal slope 5 width 2
-  pub range-slope : group .«range_start_slope» ≡ 11
-  pub range-width : group .«range_start_nbits» ≡ 3
-  pub ordinal-slope : group .«first_ordinal_slope» ≡ 5
-  pub ordinal-width : group .«first_ordinal_nbits» ≡ 2
+  pub range-slope : workedGroup .«range_start_slope» ≡ 11
+  pub range-width : workedGroup .«range_start_nbits» ≡ 3
+  pub ordinal-slope : workedGroup .«first_ordinal_slope» ≡ 5
+  pub ordinal-width : workedGroup .«first_ordinal_nbits» ≡ 2
   -- fields 3 1 7 1 1, the lowest bit first
   pub five-fields : inTurn rangeFields ordinalFields ≡ 3 ∷ 1 ∷ 7 ∷ 1 ∷ 1 ∷ []
-  pub bits : groupNumber group block0 (block1 ∷ block2 ∷ []) ≡ 3 + 2 ^ 3 * (1 + 2 ^ 2 * (7 + 2 ^ 3 * (1 + 2 ^ 2 * 1)))
+  pub bits : groupNumber workedGroup block0 (block1 ∷ block2 ∷ []) ≡ 3 + 2 ^ 3 * (1 + 2 ^ 2 * (7 + 2 ^ 3 * (1 + 2 ^ 2 * 1)))
   -- address bytes EB 05; store 46 bytes
-  pub address-bytes : addrs bestSlope storeBlockLen 1 (blocksOf (entriesAfter workedCalls fresh)) ≡ 235 ∷ 5 ∷ []
-  pub store : length (storeBytes bestSlope storeBlockLen (blocksOf (entriesAfter workedCalls fresh))) ≡ 46
+  pub address-bytes : addrs bestSlope storeBlockLen 1 (blocksOf (entriesOfCalls workedCalls fresh)) ≡ 235 ∷ 5 ∷ []
+  pub store : length (storeBytes bestSlope storeBlockLen (blocksOf (entriesOfCalls workedCalls fresh))) ≡ 46
   -- with keys 62, 64, 66 the index has 85; finish returns them, and they open
   pub accepted : finishedAfter standard workedCalls fresh out .no ≡ 0
   pub total : finishedAfter standard workedCalls fresh out .total ≡ 85

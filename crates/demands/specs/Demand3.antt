@@ -58,17 +58,17 @@ pub record Finds (es : List Entry) (f : List ℕ) (opened : SSTableIndexV3) : Ty
       × ListingLeaves t (entrySeparator es) (length es) marks written k count
 
 -- the entries that the plain machine has after a list of calls
-abbrev pub entriesAfter : List Call → State → List Entry
-entriesAfter cs fresh = plainEnd (roomsOf fresh) cs []
+abbrev pub entriesOfCalls : List Call → State → List Entry
+entriesOfCalls cs fresh = plainEnd (roomsOf fresh) cs []
 
 -- two entries or more are left, and the finish isn't refused
 pub record Finishes (S : Settings) (cs : List Call) (fresh : State) (out : List ℕ) : Type 0 where
-  pub two : 2 ≤ length (entriesAfter cs fresh)
+  pub two : 2 ≤ length (entriesOfCalls cs fresh)
   pub accepted : finishedAfter S cs fresh out .no ≡ 0
 
 -- the index is the first total bytes of finish's output
-abbrev pub indexAfter : Settings → List Call → State → List ℕ → List ℕ
-indexAfter S cs fresh out = take (finishedAfter S cs fresh out .total) (finishedAfter S cs fresh out .out)
+abbrev pub indexOfCalls : Settings → List Call → State → List ℕ → List ℕ
+indexOfCalls S cs fresh out = take (finishedAfter S cs fresh out .total) (finishedAfter S cs fresh out .out)
 
 pub record Demand3 (S : Settings) (cs : List Call) (fresh : State) (out : List ℕ) : Type 0 where
   -- each call is taken or refused, with its number, as the plain machine says; none of them is 1 or 8
@@ -76,18 +76,18 @@ pub record Demand3 (S : Settings) (cs : List Call) (fresh : State) (out : List �
   pub never-1 : (i : ℕ) → getD (runNumbers cs fresh) i 0 ≡ 1 → ⊥
   pub never-8 : (i : ℕ) → getD (runNumbers cs fresh) i 0 ≡ 8 → ⊥
   -- the machine never has more than 65,536 entries
-  pub few : length (entriesAfter cs fresh) ≤ maxBlocks
+  pub few : length (entriesOfCalls cs fresh) ≤ maxBlocks
   -- finish answers and leaves what those entries say: 9, or the index laid out from their blocks and separators; neither 1 nor 8
-  pub finishes : finishedAfter S cs fresh out ≡ plainFinish S (entriesAfter cs fresh) out
+  pub finishes : finishedAfter S cs fresh out ≡ plainFinish S (entriesOfCalls cs fresh) out
   pub finish-never-1 : finishedAfter S cs fresh out .no ≡ 1 → ⊥
   pub finish-never-8 : finishedAfter S cs fresh out .no ≡ 8 → ⊥
   -- opened alone it opens, and there the blocks are found
-  pub opens : Finishes S cs fresh out → Opens (indexAfter S cs fresh out) (openedOf (indexAfter S cs fresh out))
-  pub finds : Finishes S cs fresh out → Finds (entriesAfter cs fresh) (indexAfter S cs fresh out) (openedOf (indexAfter S cs fresh out))
+  pub opens : Finishes S cs fresh out → Opens (indexOfCalls S cs fresh out) (openedOf (indexOfCalls S cs fresh out))
+  pub finds : Finishes S cs fresh out → Finds (entriesOfCalls cs fresh) (indexOfCalls S cs fresh out) (openedOf (indexOfCalls S cs fresh out))
   -- the indexes of two such lists have equal bytes exactly when their blocks and separators are equal
   pub equal : (cs′ : List Call) (fresh′ : State) (out′ : List ℕ) → FreshState fresh′
       → Finishes S cs fresh out → Finishes S cs′ fresh′ out′
-      → indexAfter S cs fresh out ≡ indexAfter S cs′ fresh′ out′ → SameLists (entriesAfter cs fresh) (entriesAfter cs′ fresh′)
+      → indexOfCalls S cs fresh out ≡ indexOfCalls S cs′ fresh′ out′ → SameLists (entriesOfCalls cs fresh) (entriesOfCalls cs′ fresh′)
   pub equal-bytes : (cs′ : List Call) (fresh′ : State) (out′ : List ℕ) → FreshState fresh′
       → Finishes S cs fresh out → Finishes S cs′ fresh′ out′
-      → SameLists (entriesAfter cs fresh) (entriesAfter cs′ fresh′) → indexAfter S cs fresh out ≡ indexAfter S cs′ fresh′ out′
+      → SameLists (entriesOfCalls cs fresh) (entriesOfCalls cs′ fresh′) → indexOfCalls S cs fresh out ≡ indexOfCalls S cs′ fresh′ out′

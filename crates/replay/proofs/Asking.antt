@@ -13,7 +13,7 @@ use Rattle.index.specs.declared.Loaded.the-variants.{Opened as Index, Refused}
 use Rattle.index.specs.Answers.{loadNo}
 use Rattle.replay.specs.Format.{Question, questionLen, questionAt, items, behind}
 use Rattle.replay.specs.Made.{cells}
-use Rattle.replay.specs.Replay.{AnswerIn, none, more}
+use Rattle.replay.specs.Replay.{AnswerIn, no-more, one-more}
 use Rattle.replay.specs.Asked.{OpenedAs, QuestionsAnswered, OpeningAnswered}
 use Rattle.replay.proofs.Items.{behind-next, behind-there}
 use Rattle.replay.proofs.Turns.{cells-turn}
@@ -23,7 +23,7 @@ pub asks-more : (k : ℕ) (S : Settings) (es : List Entry) (q : Question) (qs : 
     → answers′ ≡ sets answers (5 * i) w → QuestionsAnswered k S es qs (i + 1) answers′ final → QuestionsAnswered k S es (q ∷ qs) i answers final
 asks-more k S es q qs i w answers answers′ final a five e rest = record {
   asked = w ++ rest .asked;
-  answered = more a (rest .answered);
+  answered = one-more a (rest .answered);
   written = rest .written ∙ sym (cells-turn answers answers′ w (rest .asked) i five e);
 }
 
@@ -74,7 +74,7 @@ module _ (s f : List ℕ) (from count : ℕ) (loaded : Loaded) (first : ℕ) (an
     unfolding items
     asking-none h k S es g =
         let none-left : count - i ≡ 0 = omega arith in
-        l .rest k S es g answers′ (rw none-left (record { asked = []; answered = none; written = refl }))
+        l .rest k S es g answers′ (rw none-left (record { asked = []; answered = no-more; written = refl }))
 
 -- ---- the opening in front of them
 

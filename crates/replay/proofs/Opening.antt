@@ -16,7 +16,7 @@ use Rattle.machine.specs.Finished.{plainFinish}
 use Rattle.machine.proofs.PlainFinish.{plain-none, plain-refused, plain-taken, plain-number}
 use Rattle.index.specs.declared.Loaded.{Loaded}
 use Rattle.index.specs.Opening.{footerNo, openNo, openDef, loadDef, openedOf}
-use Rattle.demands.specs.Demand3.{Finishes, indexAfter}
+use Rattle.demands.specs.Demand3.{Finishes, indexOfCalls}
 use Rattle.replay.specs.Format.{calls}
 use Rattle.replay.specs.Made.{listSettings, freshOf, entriesOf, finishOfList, openNumber}
 use Rattle.replay.specs.Asked.{OpenedAs}
@@ -76,7 +76,7 @@ module _ (s B K out : List ℕ) where
   parts = finish-parts (listSettings s) (entriesOf s B K) out
 
   -- as demand 3 has them
-  pub list-after : indexAfter (listSettings s) (calls s) (freshOf B K) out ≡ take (f .total) (f .out)
+  pub list-after : indexOfCalls (listSettings s) (calls s) (freshOf B K) out ≡ take (f .total) (f .out)
   list-after = ap (λ (x : Finish). take (x .total) (x .out)) (list-finish s B K out)
 
   -- an index is there, and the finish isn't refused

@@ -8,7 +8,7 @@ use Rattle.builder.specs.Index.{Settings, standard}
 use Rattle.builder.specs.Finish.{Finish}
 use Rattle.machine.specs.Plain.{Entry}
 use Rattle.machine.specs.Finished.{plainFinish}
-use Rattle.demands.specs.Demand3.{entriesAfter}
+use Rattle.demands.specs.Demand3.{entriesOfCalls}
 use Rattle.replay.specs.Format.{calls}
 
 -- an answer is five numbers
@@ -33,7 +33,7 @@ abbrev pub freshOf : List ℕ → List ℕ → State
 freshOf B K = record { builder = builderOf 0; blocks = B; keys = K }
 
 abbrev pub entriesOf : List ℕ → List ℕ → List ℕ → List Entry
-entriesOf s B K = entriesAfter (calls s) (freshOf B K)
+entriesOf s B K = entriesOfCalls (calls s) (freshOf B K)
 
 -- what finish answers and leaves
 abbrev pub finishOfList : List ℕ → List ℕ → List ℕ → List ℕ → Finish

@@ -94,8 +94,8 @@ AnswerIn k S es q cs = ((k ≡ 0) × AnswerTo S es q cs) ⊎ ((0 < k) × (cs ≡
 
 -- all of them, one after the other
 pub data Answered (no : ℕ) (S : Settings) (es : List Entry) : List Question → List ℕ → Type 0 where
-  none : Answered no S es [] []
-  more : {q : Question} {qs : List Question} {c cs : List ℕ} → AnswerIn no S es q c → Answered no S es qs cs
+  no-more : Answered no S es [] []
+  one-more : {q : Question} {qs : List Question} {c cs : List ℕ} → AnswerIn no S es q c → Answered no S es qs cs
       → Answered no S es (q ∷ qs) (c ++ cs)
 
 -- 101: the bytes aren't a list; 102: not five numbers of room for each call, finish, opening and each question

@@ -3,10 +3,10 @@ use Prim.Native.Nat.{ℕ, zero, suc}
 use mathlib.Core.Path.{_≡_, refl, sym, ap, _∙_}
 use mathlib.Core.List.{List}
 use Rattle.builder.specs.declared.SSTableIndexBuilder.{SSTableIndexBuilder}
-use Rattle.builder.specs.Calls.{Called, builderOf, shortenStep, shortenDef}
+use Rattle.builder.specs.Calls.{Called, builderOf, calledWith, shortenStep, shortenDef}
 use Rattle.builder.specs.Index.{Settings}
 use Rattle.builder.specs.Finish.{Finish, finishStep, finishDef}
-use Rattle.rosmarel.specs.Answers.{calledWith, finishWith}
+use Rattle.rosmarel.specs.Answers.{finishWith}
 
 -- ---- shorten
 
@@ -21,7 +21,7 @@ shorten-kept b B K next = step-kept _ b B K next
 
 pub shorten-with : (k n : ℕ) (b : SSTableIndexBuilder) (B K B′ K′ next : List ℕ)
     → record { no = k; state = record { builder = b; blocks = B′; keys = K′ } } ≡ shortenDef (builderOf n) B K next
-    → calledWith k n B′ K′ ≡ shortenDef (builderOf n) B K next
+    → calledWith k (builderOf n) B′ K′ ≡ shortenDef (builderOf n) B K next
 shorten-with k n b B K B′ K′ next e =
     let same : b ≡ builderOf n = ap (λ (c : Called). c .state .builder) e ∙ shorten-kept (builderOf n) B K next in
     ap (λ (x : SSTableIndexBuilder). record { no = k; state = record { builder = x; blocks = B′; keys = K′ } }) (sym same) ∙ e

@@ -2,7 +2,7 @@
 use Prim.Native.Nat.{ℕ}
 use mathlib.Core.List.{List}
 use Rattle.group.specs.declared.BlockAddr.{BlockAddr}
-use Rattle.builder.specs.Calls.{State, Called, builderOf}
+use Rattle.builder.specs.Calls.{builderOf}
 use Rattle.builder.specs.Finish.{Finish}
 use Rattle.builder.specs.declared.FinishLen.{FinishLen}
 use Rattle.builder.specs.declared.FinishLen.the-variants.{Total, Refused}
@@ -10,10 +10,6 @@ use Rattle.builder.specs.declared.FinishLen.the-variants.{Total, Refused}
 -- a block from its three numbers
 abbrev pub blockWith : ℕ → ℕ → ℕ → BlockAddr
 blockWith start end first = record { start = start; end = end; «first_ordinal» = first }
-
--- an add or a shorten: its number, the builder's count and both areas
-abbrev pub calledWith : ℕ → ℕ → List ℕ → List ℕ → Called
-calledWith k n B K = record { no = k; state = record { builder = builderOf n; blocks = B; keys = K } }
 
 -- a finish: its number, the builder's count, the output, the total and the directory's length
 abbrev pub finishWith : ℕ → ℕ → List ℕ → ℕ → ℕ → Finish

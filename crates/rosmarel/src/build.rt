@@ -1,10 +1,10 @@
 // Building an index.
 ghost use mathlib.Core.Path.{_≡_};
 ghost use Rattle.keys.specs.Order.{commonPrefixLen};
-ghost use Rattle.builder.specs.Calls.{builderOf, addDef, shortenDef};
+ghost use Rattle.builder.specs.Calls.{builderOf, calledWith, addDef, shortenDef};
 ghost use Rattle.builder.specs.Index.{standard};
 ghost use Rattle.builder.specs.Finish.{finishDef, finishLenDef};
-ghost use Rattle.rosmarel.specs.Answers.{calledWith, blockWith, finishWith, lenNo, lenTotal};
+ghost use Rattle.rosmarel.specs.Answers.{blockWith, finishWith, lenNo, lenTotal};
 use builder::Answer;
 use builder::FinishLen;
 use builder::Finished;
@@ -22,7 +22,7 @@ pub extern "C" fn rosmarel_add(
     end: u64,
     first_ordinal: u64,
 ) -> u32
-    ensures { λ r. ⌜ calledWith r (now (n .exit)) (now (blocks .exit)) (now (keys .exit))
+    ensures { λ r. ⌜ calledWith r (builderOf (now (n .exit))) (now (blocks .exit)) (now (keys .exit))
         ≡ addDef (builderOf (now (n .entry))) (now (blocks .entry)) (now (keys .entry)) (now (key .entry))
         (blockWith start end «first_ordinal») ⌝ }
 {
@@ -52,7 +52,7 @@ pub extern "C" fn rosmarel_shorten(
     keys: &mut [u8],
     next_key: &[u8],
 ) -> u32
-    ensures { λ r. ⌜ calledWith r n (now (blocks .exit)) (now (keys .exit))
+    ensures { λ r. ⌜ calledWith r (builderOf n) (now (blocks .exit)) (now (keys .exit))
         ≡ shortenDef (builderOf n) (now (blocks .entry)) (now (keys .entry)) (now («next_key» .entry)) ⌝ }
 {
     let builder = SSTableIndexBuilder { n: n as usize };

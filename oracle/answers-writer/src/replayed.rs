@@ -9,7 +9,7 @@ use model::automaton::{Table, mark, number, table_hits};
 use model::opening::{self, Opening};
 use model::settings::{LONGEST_KEY, STRIDE};
 
-use crate::list_bytes::{Call, Question, decode};
+use crate::list_bytes::{Call, NO_LIST, NO_ROOM, Question, decode};
 use crate::text::hex;
 
 /// A prime.
@@ -235,10 +235,10 @@ impl Opened {
 pub fn replay(bytes: &[u8], rooms: Rooms) -> Replayed {
     let builder = Builder::fresh(rooms);
     let Some((calls, questions)) = decode(bytes) else {
-        return refused(26, builder, rooms);
+        return refused(NO_LIST, builder, rooms);
     };
     if rooms.answers < 5 * (calls.len() + 2 + questions.len()) {
-        return refused(27, builder, rooms);
+        return refused(NO_ROOM, builder, rooms);
     }
     run(builder, rooms, &calls, &questions)
 }
