@@ -3,7 +3,6 @@ use mathlib.Core.Path.{_≡_}
 use mathlib.Core.List.{List}
 use Prim.Native.Nat.{ℕ, _*_, _+_, _≤_, _<_}
 use native.Mathlib.Omega.{arith}
-use borrow.Author.Needs.{needs}
 use lib.ListN.{length, drop, length-take}
 use Rattle.layout.specs.Layout.{storeBlockLen}
 use Rattle.group.specs.Legal.{NumbersOk}
@@ -20,7 +19,7 @@ use Rattle.block_lines.proofs.Written.{line-short}
 
 module _ (f : List ℕ) (opened : SSTableIndexV3) (o : Opens f opened) (id : ℕ) (h : id < opened .n) where
   facts : OpenFacts storeBlockLen f opened
-  facts = opens-facts storeBlockLen f opened (search needs) o
+  facts = opens-facts f opened o
 
   pub id-small : id < 65536
   id-small = omega (arith, facts .count, facts .few)

@@ -23,7 +23,7 @@ exact : (c : tie.After-get-block) → let s = c .before .before in
 exact c =
     let s = c .before .before in
     let f = s .args .«data» .now in
-    let e = answered (openedBlock (s .args .opened) f) (s .args .opened .n) (s .args .id) _ _ (s .pre .1) (c .get-block .ensures .1 (s .pre .0)) in
+    let e = answered (openedBlock (s .args .opened) f) (s .args .opened .n) (s .args .id) _ _ (s .pre .1) (c .get-block .ensures .0 .exact (s .pre .0)) in
     (e, rw e (block-small f (s .args .opened) (s .pre .0) (s .args .id) (s .pre .1)))
 
 get-block-requires : tie.Need-get-block-requires
