@@ -1,4 +1,4 @@
--- What an automaton accepts: state 0 starts; a byte string that leads from it to a flag 1 is accepted.
+-- What an automaton accepts (SPECIFICATION 11.1): the byte strings whose run from state 0 ends in a state with flag 1.
 use Prim.Native.Nat.{ℕ, _<_}
 use mathlib.Core.Path.{_≡_}
 use mathlib.Core.List.{List, [], _∷_}
@@ -26,7 +26,7 @@ pub record Accepts (t : List ℕ) (s : ℕ) (P : List ℕ → Type 0) : Type 0 w
   pub hits : Hits t s string
   pub good : P string
 
--- `can_match`: an accepting state can be reached from s in zero or more steps
+-- `can_match` (SPECIFICATION 11.2): some byte string leads from s to acceptance
 abbrev pub CanMatch : List ℕ → ℕ → Type 0
 CanMatch t s = Accepts t s (λ w. Unit {0})
 

@@ -1,5 +1,5 @@
--- The builder's lent areas (document 01, "Records"): five numbers per block (start, end, first ordinal, key offset, key length)
--- and the keys.
+-- The builder's lent areas (SPECIFICATION 2.3): a block's three numbers and its key's place, five in all,
+-- and the keys' bytes.
 use Prim.Native.Nat.{ℕ, _+_, _-_}
 use mathlib.Core.List.{List, [], _∷_}
 use mathlib.Core.Bool.{cond}

@@ -75,7 +75,7 @@ abbrev pub FinishedCased : Finished → Type 0
 FinishedCased (Written b total directory) = Unit {0}
 FinishedCased (Unwritten k b) = 0 < k
 
--- a finish whose number is known: it writes the index from byte 0 and leaves the rest, or changes nothing
+-- a finish whose number is known (SPECIFICATION 5.8, 12.2): the index over the output's front, or the output as it was
 unfoldable pub finishStep : Settings → ℕ → SSTableIndexBuilder → List ℕ → List ℕ → List ℕ → Finish
 finishStep S zero b B K out = record {
   no = 0;

@@ -28,7 +28,7 @@ pub record AreaOk (v : View) : Type 0 where
   pub inside : stride * v .n ≤ v .room
   pub last : RecordOk (v .keyRoom) (v .place)
 
--- row 2: longer than 1,024
+-- row 2 (SPECIFICATION 13.2): a key that is too long
 unfoldable pub keyLong : List ℕ → Bool
 keyLong key = ltb maxKeyLen (length key)
 
@@ -36,11 +36,11 @@ keyLong key = ltb maxKeyLen (length key)
 unfoldable pub keyNo : List ℕ → ℕ
 keyNo key = cond (keyLong key) 2 0
 
--- row 6: n > 0 and not above the last separator
+-- row 6 (SPECIFICATION 13.6): a key at or below the last separator, if there is one
 unfoldable pub keyBad : View → List ℕ → Bool
 keyBad v key = ltb 0 (v .n) && not (less (v .lastKey) key)
 
--- row 7: n = 65,536, or five numbers or the key don't fit
+-- row 7 (SPECIFICATION 13.7): as many blocks as there may be, or too little room for one more
 unfoldable pub roomBad : View → List ℕ → Bool
 roomBad v key = eqb (v .n) maxBlocks || (ltb (v .room) (stride * v .n + stride) || ltb (v .keyRoom) (v .nextKey + length key))
 

@@ -28,7 +28,7 @@ use Rattle.demands.specs.Demand3.{entriesOfCalls, indexOfCalls}
 
 -- ---- the list
 
--- blocks 0..10 ord 0, 10..25 ord 4, 25..30 ord 9
+-- the three blocks of 15.1
 abbrev pub block0 : BlockAddr
 block0 = record { start = 0; end = 10; «first_ordinal» = 0 }
 
@@ -38,7 +38,7 @@ block1 = record { start = 10; end = 25; «first_ordinal» = 4 }
 abbrev pub block2 : BlockAddr
 block2 = record { start = 25; end = 30; «first_ordinal» = 9 }
 
--- with keys 62, 64, 66
+-- their adds, with the keys b, d and f
 abbrev pub workedCalls : List Call
 workedCalls = add (98 ∷ []) block0 ∷ add (100 ∷ []) block1 ∷ add (102 ∷ []) block2 ∷ []
 
@@ -59,7 +59,7 @@ rangeFields = fields (workedGroup .«range_start_slope») (workedGroup .«range_
 abbrev pub ordinalFields : List ℕ
 ordinalFields = fields (workedGroup .«first_ordinal_slope») (workedGroup .«first_ordinal_nbits») 1 (ordinalValues 0 (block1 ∷ block2 ∷ []))
 
--- range then ordinal for blocks 1.., then the last end
+-- two lists in turn, the first one longer by one
 abbrev pub inTurn : List ℕ → List ℕ → List ℕ
 inTurn [] ordinals = ordinals
 inTurn (r ∷ ranges) [] = r ∷ ranges
@@ -95,53 +95,53 @@ pub record Worked (fresh : State) (out : List ℕ) : Type 0 where
   pub taken : runNumbers workedCalls fresh ≡ 0 ∷ 0 ∷ 0 ∷ []
   pub blocks : blocksOf (entriesOfCalls workedCalls fresh) ≡ block0 ∷ block1 ∷ block2 ∷ []
   pub separators : separatorsOf (entriesOfCalls workedCalls fresh) ≡ (98 ∷ []) ∷ (100 ∷ []) ∷ (102 ∷ []) ∷ []
-  -- range slope 11 width 3, ordinal slope 5 width 2
+  -- 15.1: slopes and widths
   pub range-slope : workedGroup .«range_start_slope» ≡ 11
   pub range-width : workedGroup .«range_start_nbits» ≡ 3
   pub ordinal-slope : workedGroup .«first_ordinal_slope» ≡ 5
   pub ordinal-width : workedGroup .«first_ordinal_nbits» ≡ 2
-  -- fields 3 1 7 1 1, the lowest bit first
+  -- 15.1: the five fields, and the number that they make
   pub five-fields : inTurn rangeFields ordinalFields ≡ 3 ∷ 1 ∷ 7 ∷ 1 ∷ 1 ∷ []
   pub bits : groupNumber workedGroup block0 (block1 ∷ block2 ∷ []) ≡ 3 + 2 ^ 3 * (1 + 2 ^ 2 * (7 + 2 ^ 3 * (1 + 2 ^ 2 * 1)))
-  -- address bytes EB 05; store 46 bytes
+  -- 15.1: the address bytes and the store's length
   pub address-bytes : addrs bestSlope storeBlockLen 1 (blocksOf (entriesOfCalls workedCalls fresh)) ≡ 235 ∷ 5 ∷ []
   pub store : length (storeBytes bestSlope storeBlockLen (blocksOf (entriesOfCalls workedCalls fresh))) ≡ 46
-  -- with keys 62, 64, 66 the index has 85; finish returns them, and they open
+  -- 15.1: the index's length; finish returns it, and the index opens
   pub accepted : finishedAfter standard workedCalls fresh out .no ≡ 0
   pub total : finishedAfter standard workedCalls fresh out .total ≡ 85
   pub index-bytes : length (workedIndex fresh out) ≡ 85
   pub opens : Opens (workedIndex fresh out) (workedOpened fresh out)
-  -- there: id 2 gives 25..30, id 3 gives 17
+  -- 15.2
   pub id-2 : (k : ℕ) (addr : BlockAddr) → GetBlock (workedIndex fresh out) (workedOpened fresh out) 2 k addr
       → (k ≡ 0) × (addr ≡ block2)
   pub id-3 : (k : ℕ) (addr : BlockAddr) → GetBlock (workedIndex fresh out) (workedOpened fresh out) 3 k addr
       → (k ≡ 17) × (addr ≡ noBlock)
-  -- ordinals 3, 4, 1,000,000 give blocks 0, 1, 2
+  -- 15.3
   pub ordinal-3 : (k id : ℕ) (addr : BlockAddr) → LocateWithOrd (workedIndex fresh out) (workedOpened fresh out) 3 k id addr
       → (k ≡ 0) × (id ≡ 0) × (addr ≡ block0)
   pub ordinal-4 : (k id : ℕ) (addr : BlockAddr) → LocateWithOrd (workedIndex fresh out) (workedOpened fresh out) 4 k id addr
       → (k ≡ 0) × (id ≡ 1) × (addr ≡ block1)
   pub ordinal-1000000 : (k id : ℕ) (addr : BlockAddr) → LocateWithOrd (workedIndex fresh out) (workedOpened fresh out) 1000000 k id addr
       → (k ≡ 0) × (id ≡ 2) × (addr ≡ block2)
-  -- point (1, 2^40): slope 0, width 42
+  -- 15.4
   pub point-slope : bestSlope (2 ^ 40 ∷ []) ≡ 0
   pub point-width : widthOf (bestSlope (2 ^ 40 ∷ [])) (2 ^ 40 ∷ []) ≡ 42
-  -- no points: 0, 1
+  -- 15.5
   pub no-slope : bestSlope [] ≡ 0
   pub no-width : widthOf (bestSlope []) [] ≡ 1
-  -- abcdef before abf: abce
+  -- 15.6: one is shortened,
   pub abcdef : shorten (97 ∷ 98 ∷ 99 ∷ 100 ∷ 101 ∷ 102 ∷ []) (97 ∷ 98 ∷ 102 ∷ []) ≡ 97 ∷ 98 ∷ 99 ∷ 101 ∷ []
-  -- ab before abc: ab
+  -- and one stays
   pub ab : shorten (97 ∷ 98 ∷ []) (97 ∷ 98 ∷ 99 ∷ []) ≡ 97 ∷ 98 ∷ []
-  -- 61 FF FF before 62: unchanged
+  -- 15.7: all bytes FF,
   pub all-ff : shorten (97 ∷ 255 ∷ 255 ∷ []) (98 ∷ []) ≡ 97 ∷ 255 ∷ 255 ∷ []
-  -- 61 FF 01 before 62: 61 FF 02
+  -- and one after an FF raised
   pub behind-ff : shorten (97 ∷ 255 ∷ 1 ∷ []) (98 ∷ []) ≡ 97 ∷ 255 ∷ 2 ∷ []
-  -- only c accepted: (b, d] yes, (c, d] no
+  -- 15.8
   pub c-alone : Only onlyC (99 ∷ [])
   pub b-to-d : (t : List ℕ) (answer : Bool) → Only t (99 ∷ []) → Exactly answer (Marked t (some (98 ∷ [])) (100 ∷ [])) → answer ≡ true
   pub c-to-d : (t : List ℕ) (answer : Bool) → Only t (99 ∷ []) → Exactly answer (Marked t (some (99 ∷ [])) (100 ∷ [])) → answer ≡ false
-  -- only the empty string: absent start and empty end yes; start and end both empty no
+  -- 15.9
   pub empty-alone : Only onlyEmpty []
   pub absent-to-empty : (t : List ℕ) (answer : Bool) → Only t [] → Exactly answer (Marked t none []) → answer ≡ true
   pub empty-to-empty : (t : List ℕ) (answer : Bool) → Only t [] → Exactly answer (Marked t (some []) []) → answer ≡ false

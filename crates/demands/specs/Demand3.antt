@@ -1,4 +1,4 @@
--- Demand 3: one claim about every list of add and shorten calls from a fresh builder, refused ones included, then finish, opening
+-- Demand 3 (SPECIFICATION 18.3 to 18.10): one claim about any list of calls that begins with a fresh builder, then finish, opening
 -- and what is found there. The calls are those of the contracts; the plain machine sees their arguments and the areas' lengths.
 use Prim.Native.Nat.{ℕ, _+_, _*_, _≤_, _<_}
 use mathlib.Core.Path.{_≡_}
@@ -21,11 +21,21 @@ use Rattle.index.specs.declared.Place.{Place}
 use Rattle.index.specs.declared.Place.the-variants.{Part, Missing}
 use Rattle.index.specs.Opening.{Opens, openedOf}
 use Rattle.index.specs.Answers.{partAt}
-use Rattle.index.specs.Lookups.{ByIdExact, ByOrdExact, ByKeyExact, AddrByKeyExact, GetBlock, LocateWithOrd, LocateWithKey, GetBlockWithKey, placeDef}
+use Rattle.index.specs.Lookups.{
+  ByIdExact,
+  ByOrdExact,
+  ByKeyExact,
+  AddrByKeyExact,
+  GetBlock,
+  LocateWithOrd,
+  LocateWithKey,
+  GetBlockWithKey,
+  placeDef,
+}
 use Rattle.listing.specs.Listing.{ListingLeaves, GetBlockForAutomaton}
 use Rattle.written_index.specs.Written.{lengthsBefore}
 
--- entry i is block i, its final key separator i
+-- the block and the separator of an entry, the oldest being 0 (SPECIFICATION 4.6)
 abbrev pub entryBlock : List Entry → ℕ → BlockAddr
 entryBlock es i = blockOf (blocksOf es) i
 
@@ -39,9 +49,9 @@ entryPlace es i =
 
 -- what is found in the index f of the entries, opened
 pub record Finds (es : List Entry) (f : List ℕ) (opened : SSTableIndexV3) : Type 0 where
-  -- id i gives block i as its start, end and ordinal, and other ids none (17)
+  -- 18.6: every id that there is finds its block, any other gets 17
   pub by-id : (id k : ℕ) (addr : BlockAddr) → GetBlock f opened id k addr → ByIdExact (entryBlock es) (length es) id k addr
-  -- an ordinal gives the last block whose first ordinal is at or below it, otherwise none (18)
+  -- 18.7: by ordinal, or 18
   pub by-ordinal : (ord k id : ℕ) (addr : BlockAddr) → LocateWithOrd f opened ord k id addr
       → ByOrdExact (entryBlock es) (length es) ord k id addr
   -- a key gives the first block whose separator isn't below it, otherwise none (19); an address with it is that block's
@@ -66,7 +76,7 @@ pub record Finishes (S : Settings) (cs : List Call) (fresh : State) (out : List 
   pub two : 2 ≤ length (entriesOfCalls cs fresh)
   pub accepted : finishedAfter S cs fresh out .no ≡ 0
 
--- the index is the first total bytes of finish's output
+-- what finish wrote, cut to its total (SPECIFICATION 4.11)
 abbrev pub indexOfCalls : Settings → List Call → State → List ℕ → List ℕ
 indexOfCalls S cs fresh out = take (finishedAfter S cs fresh out .total) (finishedAfter S cs fresh out .out)
 
@@ -83,8 +93,9 @@ pub record Demand3 (S : Settings) (cs : List Call) (fresh : State) (out : List �
   pub finish-never-8 : finishedAfter S cs fresh out .no ≡ 8 → ⊥
   -- opened alone it opens, and there the blocks are found
   pub opens : Finishes S cs fresh out → Opens (indexOfCalls S cs fresh out) (openedOf (indexOfCalls S cs fresh out))
-  pub finds : Finishes S cs fresh out → Finds (entriesOfCalls cs fresh) (indexOfCalls S cs fresh out) (openedOf (indexOfCalls S cs fresh out))
-  -- the indexes of two such lists have equal bytes exactly when their blocks and separators are equal
+  pub finds : Finishes S cs fresh out
+      → Finds (entriesOfCalls cs fresh) (indexOfCalls S cs fresh out) (openedOf (indexOfCalls S cs fresh out))
+  -- 18.10
   pub equal : (cs′ : List Call) (fresh′ : State) (out′ : List ℕ) → FreshState fresh′
       → Finishes S cs fresh out → Finishes S cs′ fresh′ out′
       → indexOfCalls S cs fresh out ≡ indexOfCalls S cs′ fresh′ out′ → SameLists (entriesOfCalls cs fresh) (entriesOfCalls cs′ fresh′)

@@ -37,7 +37,7 @@ keysFrom d n i (suc count) = keyOf d n i ∷ keysFrom d n (suc i) count
 abbrev pub keysIn : List ℕ → List (List ℕ)
 keysIn d = keysFrom d (countOf d) 0 (countOf d)
 
--- where key i begins: the first offset is 0, the next is offset plus length
+-- where key i has to begin: at the end of the one before it (SPECIFICATION 2.4)
 unfoldable pub keyBegin : List ℕ → ℕ → ℕ
 keyBegin d zero = 0
 keyBegin d (suc i) = keyOffset d i + keyLength d i
@@ -47,7 +47,7 @@ unfoldable pub pairsBad : List ℕ → ℕ → Bool
 pairsBad d zero = false
 pairsBad d (suc m) = pairsBad d m || (not (eqb (keyOffset d m) (keyBegin d m)) || ltb maxKeyLen (keyLength d m))
 
--- row 12: n outside 2..65,536, offsets broken, a key over 1,024, or length not exact
+-- row 12 (SPECIFICATION 13.12, 12.9): the count, the pairs, or a directory that is too short or too long for them
 unfoldable pub directoryBad : List ℕ → Bool
 directoryBad d =
     ltb (length d) 4 || (ltb (countOf d) 2 || (ltb maxBlocks (countOf d)

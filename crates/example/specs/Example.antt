@@ -1,4 +1,4 @@
--- The example call (document 01, "Pruning", rows 21 to 25): some accepted string of the interval; which one is free.
+-- The example call (SPECIFICATION 11.8, rows 21 to 25): an accepted string of an interval is written, and no word on which.
 use Prim.Native.Nat.{ℕ, _+_, _≤_, _<_, max}
 use mathlib.Core.Path.{_≡_}
 use mathlib.Core.List.{List}

@@ -64,13 +64,13 @@ ByIdExact block n id k addr = ((k ≡ 0) × (id < n) × (addr ≡ block id)) ⊎
 abbrev pub LocatedAllowed : ℕ → ℕ → ℕ → ℕ → BlockAddr → Type 0
 LocatedAllowed row n k id addr = ((k ≡ 0) × (id < n) × NumbersOk addr) ⊎ (Refuses row k × (id ≡ 0) × (addr ≡ noBlock))
 
--- by ordinal: the last block whose first ordinal is at or below it; one below the first gets 18
+-- by ordinal (SPECIFICATION 9.2)
 abbrev pub ByOrdExact : (ℕ → BlockAddr) → ℕ → ℕ → ℕ → ℕ → BlockAddr → Type 0
 ByOrdExact block n ord k id addr =
     ((k ≡ 0) × Last (λ j. block j .«first_ordinal») n ord id × (addr ≡ block id))
     ⊎ ((k ≡ 18) × (id ≡ 0) × (addr ≡ noBlock) × (ord < block 0 .«first_ordinal»))
 
--- by key: the first block whose separator isn't below it; one above the last separator gets 19
+-- by key (SPECIFICATION 9.3)
 abbrev pub ByKeyAllowed : ℕ → ℕ → ℕ → Type 0
 ByKeyAllowed n k id = ((k ≡ 0) × (id < n)) ⊎ (Refuses 19 k × (id ≡ 0))
 
@@ -78,7 +78,7 @@ abbrev pub ByKeyExact : (ℕ → List ℕ) → ℕ → List ℕ → ℕ → ℕ 
 ByKeyExact separator n key k id =
     ((k ≡ 0) × First separator n key id) ⊎ ((k ≡ 19) × (id ≡ 0) × ((i : ℕ) → i < n → separator i ≺ key))
 
--- an address by key: the block for the key, and its address
+-- by key with the block's address (SPECIFICATION 9.4)
 abbrev pub AddrByKeyExact : (ℕ → List ℕ) → (ℕ → BlockAddr) → ℕ → List ℕ → ℕ → ℕ → BlockAddr → Type 0
 AddrByKeyExact separator block n key k id addr =
     ((k ≡ 0) × First separator n key id × (addr ≡ block id))
@@ -121,7 +121,7 @@ pub record GetBlockWithKeyBy (L : ℕ) (f : List ℕ) (opened : SSTableIndexV3) 
 abbrev pub GetBlockWithKey : List ℕ → SSTableIndexV3 → List ℕ → ℕ → ℕ → BlockAddr → Type 0
 GetBlockWithKey f opened key k id addr = GetBlockWithKeyBy (groupOf opened) f opened key k id addr
 
--- the place of the separator of block id; an unknown id or a hit on row 20 is a miss
+-- where the separator of a block stands, or a miss (SPECIFICATION 9.5)
 unfoldable pub placeBy : ℕ → SSTableIndexV3 → List ℕ → ℕ → Place
 placeBy L opened f id =
     cond (openedBadBy L opened (length f) || leb (opened .n) id || keyOutside (directoryAt opened f) (opened .n) id) Missing

@@ -15,11 +15,11 @@ use Rattle.index.specs.declared.SSTableIndexV3.{SSTableIndexV3}
 use Rattle.index.specs.declared.Loaded.{Loaded}
 use Rattle.index.specs.declared.Loaded.the-variants.{Opened, Refused}
 
--- rows 10 and 11: under 8 bytes; directory length 0; directory length + 16 > file
+-- rows 10 and 11 in their three steps (SPECIFICATION 12.8)
 unfoldable pub footerNo : List ℕ → ℕ
 footerNo f = cond (ltb (length f) 8) 10 (cond (eqb (directoryLen f) 0) 11 (cond (ltb (length f) (directoryLen f + 16)) 10 0))
 
--- row 14: records' length not 36 × groups, or beyond the store
+-- row 14 (SPECIFICATION 13.14, 12.10): group records of another length than the groups', or more than the store holds
 unfoldable pub groupRecordsBad : ℕ → List ℕ → Bool
 groupRecordsBad L f = not (eqb (groupRecordsLen f) (metaLen * groupCount L (countIn f))) || ltb (storeLen f) (8 + groupRecordsLen f)
 
@@ -29,7 +29,7 @@ openNo L f =
     orRow (footerNo f) (orRow (directoryNo (directoryPart f))
     (cond (groupRecordsBad L f) 14 (storeNo L (groupRecordsPart f) (addrsPart f) (countIn f))))
 
--- n, and the places of the directory, the group records and the address bytes
+-- the opened record (SPECIFICATION 8.2)
 unfoldable pub openedOf : List ℕ → SSTableIndexV3
 openedOf f = record {
   n = countIn f;
@@ -49,7 +49,7 @@ openStep (suc k) f = Refused (suc k)
 unfoldable pub openDef : ℕ → List ℕ → Loaded
 openDef L f = openStep (openNo L f) f
 
--- bytes and record come from one successful opening: opening these bytes gives this record
+-- a record that opening these bytes gives (SPECIFICATION 10.1)
 abbrev pub OpensBy : ℕ → List ℕ → SSTableIndexV3 → Type 0
 OpensBy L f opened = openDef L f ≡ Opened opened
 

@@ -14,7 +14,7 @@ directoryLen f = numberAt f (length f - 8) 8
 abbrev pub directoryPart : List ℕ → List ℕ
 directoryPart f = take (directoryLen f) f
 
--- the store's length; it ends 8 bytes before the file does
+-- the store's length: all between the directory and the last 8 bytes
 abbrev pub storeLen : List ℕ → ℕ
 storeLen f = length f - 8 - directoryLen f
 

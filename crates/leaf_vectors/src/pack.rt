@@ -14,7 +14,9 @@ use bitpacker::BitPacker;
 // Writes the fields, each of `width` bits. Returns how many bytes there are.
 pub fn pack_fields(out: &mut [u8], fields: &[u64], width: u8) -> usize
     requires { ⌜ (width ≤ 56) × DigitsBelow width (now fields) × (width * length (now fields) ≤ 8 * length (now out)) ⌝ }
-    ensures { λ n. ⌜ (n ≡ bytesOf (width * length (now (fields .entry)))) × (now (out .exit) ≡ sets (now (out .entry)) 0 (leBytes (bytesOf (width * length (now (fields .entry)))) (ofDigits width (now (fields .entry))))) ⌝ }
+    ensures { λ n. ⌜ (n ≡ bytesOf (width * length (now (fields .entry))))
+        × (now (out .exit) ≡ sets (now (out .entry)) 0
+        (leBytes (bytesOf (width * length (now (fields .entry)))) (ofDigits width (now (fields .entry))))) ⌝ }
 {
     let mut packer = BitPacker::new();
     let mut i: usize = 0;
@@ -31,7 +33,9 @@ pub fn pack_group(out: &mut [u8], fields: &[u64], r: u8, o: u8, count: usize) ->
     requires { ⌜ (r ≤ 56) × (o ≤ 56) × (length (now fields) ≡ 2 * count + 1) ⌝ }
     requires { ⌜ DigitsBelow r (ranges (now fields)) × DigitsBelow o (ordinals (now fields)) ⌝ }
     requires { ⌜ groupBits r o count ≤ 8 * length (now out) ⌝ }
-    ensures { λ n. ⌜ (n ≡ bytesOf (groupBits r o count)) × (now (out .exit) ≡ sets (now (out .entry)) 0 (leBytes (bytesOf (groupBits r o count)) (groupVal r o (ranges (now (fields .entry))) (ordinals (now (fields .entry)))))) ⌝ }
+    ensures { λ n. ⌜ (n ≡ bytesOf (groupBits r o count))
+        × (now (out .exit) ≡ sets (now (out .entry)) 0
+        (leBytes (bytesOf (groupBits r o count)) (groupVal r o (ranges (now (fields .entry))) (ordinals (now (fields .entry)))))) ⌝ }
 {
     let mut packer = BitPacker::new();
     let mut i: usize = 0;

@@ -1,5 +1,5 @@
--- Document 01's plain machine: it keeps entries, first none; it is fed the calls' arguments and both areas' lengths,
--- never the builder or the areas' contents. Entries stand newest first.
+-- The plain machine (SPECIFICATION 4.1 to 4.6): a list of entries that grows with the calls. It sees their arguments and how long
+-- the areas are, and nothing of the builder or of what the areas hold. Entries stand newest first.
 use Prim.Native.Nat.{ℕ, zero, suc, _+_}
 use mathlib.Core.Path.{_≡_}
 use mathlib.Core.List.{List, [], _∷_, map, reverse}
@@ -28,7 +28,7 @@ pub record Rooms : Type 0 where
   pub blocks : ℕ
   pub keys : ℕ
 
--- the key bytes taken are its keys' lengths added up
+-- up to where the entries' keys fill the key area
 unfoldable pub keyBytesTaken : List Entry → ℕ
 keyBytesTaken [] = 0
 keyBytesTaken (e ∷ es) = keyBytesTaken es + length (e .key)
@@ -54,18 +54,18 @@ plainView rooms (e ∷ es) = record {
   keyRoom = rooms .keys;
 }
 
--- on these it tries the table's rows
+-- the number that a call gets (SPECIFICATION 4.4)
 unfoldable pub callNo : View → Call → ℕ
 callNo v (add key block) = addNo v key block
 callNo v (shortenLast next) = shortenNo v next
 
--- an add appends its block and key, a shorten replaces the last key by its shortened form or, with no entry, changes nothing
+-- the entries after a call that is taken (SPECIFICATION 4.5)
 unfoldable pub taken : Call → List Entry → List Entry
 taken (add key block) es = record { block = block; key = key } ∷ es
 taken (shortenLast next) [] = []
 taken (shortenLast next) (e ∷ es) = record { block = e .block; key = shorten (e .key) next } ∷ es
 
--- a call that hits a row changes nothing
+-- the entries after a call with this number
 unfoldable pub plainNext : ℕ → Call → List Entry → List Entry
 plainNext zero c es = taken c es
 plainNext (suc k) c es = es
@@ -80,7 +80,7 @@ unfoldable pub plainEnd : Rooms → List Call → List Entry → List Entry
 plainEnd rooms [] es = es
 plainEnd rooms (c ∷ cs) es = plainEnd rooms cs (plainNext (callNo (plainView rooms es) c) c es)
 
--- the blocks and the separators of entries, oldest first: entry i is block i, its final key separator i
+-- the blocks and the separators of entries, the oldest first (SPECIFICATION 4.6)
 abbrev pub blocksOf : List Entry → List BlockAddr
 blocksOf es = reverse (map (λ (e : Entry). e .block) es)
 

@@ -1,4 +1,4 @@
--- The interval (start, end] of a block's keys (document 01, "Pruning"); start is absent for block 0, which lets the empty string in.
+-- The interval of a block's keys (SPECIFICATION 11.4): above its start, if it has one, and not above its end.
 use Prim.Native.Nat.{ℕ}
 use mathlib.Core.List.{List}
 use mathlib.Core.Bool.{Bool, true, false}
@@ -16,7 +16,7 @@ abbrev pub AboveStart : Option (List ℕ) → List ℕ → Type 0
 AboveStart none w = Unit {0}
 AboveStart (some start) w = start ≺ w
 
--- the automaton accepts some byte string above start and not above end
+-- an accepted string lies in the interval
 abbrev pub Marked : List ℕ → Option (List ℕ) → List ℕ → Type 0
 Marked t start end = Accepts t 0 (λ w. AboveStart start w × (w ≼ end))
 

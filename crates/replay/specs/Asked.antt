@@ -27,7 +27,8 @@ OpenedAs k S es f (Opened opened) = (k ≡ 0) × Indexed S es f opened
 OpenedAs k S es f (Refused j) = (k ≡ j) × (0 < k)
 
 -- questions answered from answer i on
-pub record QuestionsAnswered (k : ℕ) (S : Settings) (es : List Entry) (qs : List Question) (i : ℕ) (answers answers′ : List ℕ) : Type 0 where
+pub record QuestionsAnswered (k : ℕ) (S : Settings) (es : List Entry) (qs : List Question) (i : ℕ)
+    (answers answers′ : List ℕ) : Type 0 where
   pub asked : List ℕ
   pub answered : Answered k S es qs asked
   pub written : answers′ ≡ sets answers (5 * i) asked

@@ -34,14 +34,14 @@ use Rattle.replay.specs.Format.{
 }
 use Rattle.replay.specs.Made.{cells, callCells, finishCells, listSettings, freshOf, entriesOf, finishOfList, openNumber}
 
--- by id: entry i's start, end and ordinal, or 17
+-- by id: the entry's block, or 17
 pub record IdAnswer (es : List Entry) (id : ℕ) (cs : List ℕ) : Type 0 where
   pub no : ℕ
   pub addr : BlockAddr
   pub written : cs ≡ cells no 0 (addr .start) (addr .end) (addr .«first_ordinal»)
   pub right : ByIdExact (entryBlock es) (length es) id no addr
 
--- by ordinal: the last block whose first ordinal is at or below it, or 18
+-- by ordinal: id and block, or 18
 pub record OrdAnswer (es : List Entry) (ord : ℕ) (cs : List ℕ) : Type 0 where
   pub no : ℕ
   pub id : ℕ
@@ -49,7 +49,7 @@ pub record OrdAnswer (es : List Entry) (ord : ℕ) (cs : List ℕ) : Type 0 wher
   pub written : cs ≡ cells no id (addr .start) (addr .end) (addr .«first_ordinal»)
   pub right : ByOrdExact (entryBlock es) (length es) ord no id addr
 
--- by key: the first block whose separator isn't below it, or 19
+-- by key: the id, or 19
 pub record KeyAnswer (es : List Entry) (key : List ℕ) (cs : List ℕ) : Type 0 where
   pub no : ℕ
   pub id : ℕ

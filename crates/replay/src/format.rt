@@ -5,7 +5,8 @@ ghost use Prim.Native.Nat.{_+_, _^_, _≤_, _<_};
 ghost use lib.Dec.{eqb};
 ghost use lib.ListN.{length};
 ghost use Rattle.serialize.specs.Digits.{numberAt};
-ghost use Rattle.replay.specs.Format.{stringLen, stringAt, within, callLen, questionLen, behind, settingsLen, countsAt, callsFrom, callCount, questionCount, headBad, listBad};
+ghost use Rattle.replay.specs.Format.{stringLen, stringAt, within, callLen, questionLen, behind, settingsLen};
+ghost use Rattle.replay.specs.Format.{countsAt, callsFrom, callCount, questionCount, headBad, listBad};
 
 pub const ADD: u8 = 0;
 
@@ -137,7 +138,8 @@ fn item_len(list: &[u8], at: usize, is_call: bool) -> usize
 
 // Behind `count` items from `from` on, calls or questions; 0 where one of them isn't there.
 fn behind_items(list: &[u8], from: usize, count: usize, are_calls: bool) -> usize
-    ensures { λ r. ⌜ r ≡ behind (λ at. cond «are_calls» (callLen (now (list .entry)) at) (questionLen (now (list .entry)) at)) from count ⌝ }
+    ensures { λ r. ⌜ r ≡ behind (λ at. cond «are_calls» (callLen (now (list .entry)) at) (questionLen (now (list .entry)) at)) from
+        count ⌝ }
 {
     let mut at = from;
     let mut left = count;

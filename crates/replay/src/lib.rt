@@ -38,7 +38,8 @@ fn replay_list(
     answers: &mut [u64],
 )
     requires { ⌜ replayNo (now calls) (length (now answers)) ≡ 0 ⌝ }
-    ensures { λ _. ⌜ Replayed (now (calls .entry)) (now (blocks .entry)) (now (keys .entry)) (now (out .entry)) (now (answers .entry)) (now (blocks .exit)) (now (keys .exit)) (now (out .exit)) (now (answers .exit)) ⌝ }
+    ensures { λ _. ⌜ Replayed (now (calls .entry)) (now (blocks .entry)) (now (keys .entry)) (now (out .entry)) (now (answers .entry))
+        (now (blocks .exit)) (now (keys .exit)) (now (out .exit)) (now (answers .exit)) ⌝ }
 {
     let made = self::calls::make_calls(calls, blocks, keys, answers);
     let count = format::call_count(calls);
@@ -55,8 +56,10 @@ pub fn replay(
     answers: &mut [u64],
 ) -> u32
     ensures { λ r. ⌜ r ≡ replayNo (now (calls .entry)) (length (now (answers .entry))) ⌝ }
-    ensures { λ r. ⌜ (r ≡ 0 → Replayed (now (calls .entry)) (now (blocks .entry)) (now (keys .entry)) (now (out .entry)) (now (answers .entry)) (now (blocks .exit)) (now (keys .exit)) (now (out .exit)) (now (answers .exit))) ⌝ }
-    ensures { λ r. ⌜ (0 < r → (now (blocks .exit) ≡ now (blocks .entry)) × (now (keys .exit) ≡ now (keys .entry)) × (now (out .exit) ≡ now (out .entry)) × (now (answers .exit) ≡ now (answers .entry))) ⌝ }
+    ensures { λ r. ⌜ (r ≡ 0 → Replayed (now (calls .entry)) (now (blocks .entry)) (now (keys .entry)) (now (out .entry))
+        (now (answers .entry)) (now (blocks .exit)) (now (keys .exit)) (now (out .exit)) (now (answers .exit))) ⌝ }
+    ensures { λ r. ⌜ (0 < r → (now (blocks .exit) ≡ now (blocks .entry)) × (now (keys .exit) ≡ now (keys .entry))
+        × (now (out .exit) ≡ now (out .entry)) × (now (answers .exit) ≡ now (answers .entry))) ⌝ }
 {
     let no = replay_no(calls, answers.len());
     if no != 0 {

@@ -43,7 +43,8 @@ fn by_id(opened: SSTableIndexV3, data: &[u8], id: u64) -> Cells
 
 // An id with its address.
 fn located(found: Located) -> Cells
-    ensures { λ r. ⌜ cellsOf r ≡ cells (locatedNo found) (locatedId found) (locatedAddr found .start) (locatedAddr found .end) (locatedAddr found .«first_ordinal») ⌝ }
+    ensures { λ r. ⌜ cellsOf r ≡ cells (locatedNo found) (locatedId found) (locatedAddr found .start) (locatedAddr found .end)
+        (locatedAddr found .«first_ordinal») ⌝ }
 {
     match found {
         Located::At(id, block) => Cells {
@@ -66,7 +67,8 @@ fn by_ordinal(opened: SSTableIndexV3, data: &[u8], ord: u64) -> Cells
 
 // The block for a key.
 fn by_key(opened: SSTableIndexV3, data: &[u8], key: &[u8]) -> Cells
-    ensures { λ r. ⌜ ((S : Settings) (es : List Entry) → Indexed S es (now («data» .entry)) opened → KeyAnswer es (now (key .entry)) (cellsOf r)) ⌝ }
+    ensures { λ r. ⌜ ((S : Settings) (es : List Entry) → Indexed S es (now («data» .entry)) opened
+        → KeyAnswer es (now (key .entry)) (cellsOf r)) ⌝ }
 {
     match opened.locate_with_key(data, key) {
         LocatedId::Id(id) => Cells {
@@ -82,14 +84,16 @@ fn by_key(opened: SSTableIndexV3, data: &[u8], key: &[u8]) -> Cells
 
 // The block for a key, with its address.
 fn address_by_key(opened: SSTableIndexV3, data: &[u8], key: &[u8]) -> Cells
-    ensures { λ r. ⌜ ((S : Settings) (es : List Entry) → Indexed S es (now («data» .entry)) opened → AddrAnswer es (now (key .entry)) (cellsOf r)) ⌝ }
+    ensures { λ r. ⌜ ((S : Settings) (es : List Entry) → Indexed S es (now («data» .entry)) opened
+        → AddrAnswer es (now (key .entry)) (cellsOf r)) ⌝ }
 {
     located(opened.get_block_with_key(data, key))
 }
 
 // Where the separator of an id stands.
 fn separator(opened: SSTableIndexV3, data: &[u8], id: u64) -> Cells
-    ensures { λ r. ⌜ ((S : Settings) (es : List Entry) → Indexed S es (now («data» .entry)) opened → SeparatorAnswer S es id (cellsOf r)) ⌝ }
+    ensures { λ r. ⌜ ((S : Settings) (es : List Entry) → Indexed S es (now («data» .entry)) opened
+        → SeparatorAnswer S es id (cellsOf r)) ⌝ }
 {
     match opened.separator_place(data, id) {
         Place::Part(offset, len) => Cells {
@@ -133,7 +137,8 @@ fn listed(answer: Listed) -> Cells
 // Lists the table's blocks in marks that are all 0: how many, and mark i.
 fn mark_in(opened: SSTableIndexV3, data: &[u8], i: u64, table: &[u8], marks: &mut [u8]) -> Cells
     requires { ⌜ (65536 ≤ length (now marks)) × ((j : ℕ) → getD (now marks) j 0 ≡ 0) ⌝ }
-    ensures { λ r. ⌜ ((S : Settings) (es : List Entry) → Indexed S es (now («data» .entry)) opened → MarkAnswer es i (now (table .entry)) (cellsOf r)) ⌝ }
+    ensures { λ r. ⌜ ((S : Settings) (es : List Entry) → Indexed S es (now («data» .entry)) opened
+        → MarkAnswer es i (now (table .entry)) (cellsOf r)) ⌝ }
 {
     let count = listed(listing::get_block_for_automaton(opened, data, table, marks));
     if count.no != 0 {
@@ -150,7 +155,8 @@ fn mark_in(opened: SSTableIndexV3, data: &[u8], i: u64, table: &[u8], marks: &mu
 
 // A listing of the table's blocks: how many, and mark i.
 fn mark(opened: SSTableIndexV3, data: &[u8], i: u64, table: &[u8]) -> Cells
-    ensures { λ r. ⌜ ((S : Settings) (es : List Entry) → Indexed S es (now («data» .entry)) opened → MarkAnswer es i (now (table .entry)) (cellsOf r)) ⌝ }
+    ensures { λ r. ⌜ ((S : Settings) (es : List Entry) → Indexed S es (now («data» .entry)) opened
+        → MarkAnswer es i (now (table .entry)) (cellsOf r)) ⌝ }
 {
     let mut marks = [0u8; 65536];
     mark_in(opened, data, i, table, &mut marks)
@@ -234,7 +240,8 @@ fn load_no(loaded: Loaded) -> u32
 
 // Opens the bytes and asks the list's questions of them. The opening is answer `first`.
 pub fn open_list(list: &[u8], from: usize, data: &[u8], answers: &mut [u64], first: usize)
-    requires { ⌜ (headBad (now list) ≡ false) × (behind (questionLen (now list)) from (questionCount (now list)) ≡ 0 → ⊥) × (5 * (first + 1 + questionCount (now list)) ≤ length (now answers)) ⌝ }
+    requires { ⌜ (headBad (now list) ≡ false) × (behind (questionLen (now list)) from (questionCount (now list)) ≡ 0 → ⊥)
+        × (5 * (first + 1 + questionCount (now list)) ≤ length (now answers)) ⌝ }
     ensures { λ _. ⌜ ((k : ℕ) (S : Settings) (es : List Entry) → OpenedAs k S es (now («data» .entry)) (loadDef (now («data» .entry)))
         → OpeningAnswered k S es (items (questionLen (now (list .entry))) (questionAt (now (list .entry))) from
         (questionCount (now (list .entry)))) first (now (answers .entry)) (now (answers .exit))) ⌝ }

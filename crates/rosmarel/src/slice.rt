@@ -15,7 +15,9 @@ fn answer(stored: Stored, len: &mut u64) -> u32
 // Writes the store of the blocks from the front of `out` on. A block is three numbers: start, end, first ordinal.
 #[no_mangle]
 pub extern "C" fn rosmarel_store(blocks: &[[u64; 3]], out: &mut [u8], len: &mut u64) -> u32
-    ensures { λ r. ⌜ (r ≡ sliceStored (blocksOfNumbers (now (blocks .entry))) (now (out .entry)) .no) × (now (out .exit) ≡ sliceOut (blocksOfNumbers (now (blocks .entry))) (now (out .entry))) × (now (len .exit) ≡ sliceStored (blocksOfNumbers (now (blocks .entry))) (now (out .entry)) .len) ⌝ }
+    ensures { λ r. ⌜ (r ≡ sliceStored (blocksOfNumbers (now (blocks .entry))) (now (out .entry)) .no)
+        × (now (out .exit) ≡ sliceOut (blocksOfNumbers (now (blocks .entry))) (now (out .entry)))
+        × (now (len .exit) ≡ sliceStored (blocksOfNumbers (now (blocks .entry))) (now (out .entry)) .len) ⌝ }
 {
     answer(store_slice::groups::serialize_numbers(blocks, out), len)
 }

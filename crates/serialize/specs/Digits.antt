@@ -1,4 +1,4 @@
--- Numbers and their digits of k bits, the lowest digit first. Bytes are digits of 8 bits: document 01's "numbers in files are little-endian".
+-- Numbers and their digits of k bits, the lowest digit first. Bytes are digits of 8 bits (SPECIFICATION 1.4).
 use Prim.Native.Nat.{ℕ, zero, suc, _+_, _*_, _/_, _%_, _^_, _<_}
 use mathlib.Core.List.{List, [], _∷_}
 use lib.ListN.{getD, take, drop}

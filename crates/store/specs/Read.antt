@@ -37,7 +37,8 @@ metaBad L recs addr n g = groupBad (groupMeta recs g) (groupLen L n g) (length a
 
 -- block i as it is read; numbers that break row 3 stand for a group that can't be read
 unfoldable pub blockOr : ℕ → List ℕ → List ℕ → ℕ → ℕ → BlockAddr
-blockOr L recs addr n i = cond (metaBad L recs addr n (i / L)) (record { start = 1; end = 0; «first_ordinal» = 0 }) (storeBlock L recs addr i)
+blockOr L recs addr n i =
+    cond (metaBad L recs addr n (i / L)) (record { start = 1; end = 0; «first_ordinal» = 0 }) (storeBlock L recs addr i)
 
 -- what a lookup of block i finds: it, or that its group is broken or its numbers break row 3 (row 20)
 unfoldable pub storeGet : ℕ → List ℕ → List ℕ → ℕ → ℕ → Got
@@ -67,7 +68,7 @@ ordFoundNo Below = 18
 ordFoundNo Broken = 20
 
 -- what an ordinal's lookup may answer in every case, and what it answers in a store that keeps the rules:
--- the last block whose first ordinal is at or below it, or that there is none
+-- the block that SPECIFICATION 9.2 names, or that the ordinal is below the first
 unfoldable pub OrdFoundIn : ℕ → OrdFound → Type 0
 OrdFoundIn n (At i b) = (i < n) × NumbersOk b
 OrdFoundIn n Below = Unit {0}

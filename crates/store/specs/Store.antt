@@ -1,4 +1,4 @@
--- The store (document 01, "Records"): length of all group records 8, the group records, the address bytes.
+-- The store (SPECIFICATION 3.2): the group records with their length before them, and the groups' bits.
 -- L is the group's length; `choose` gives a slope for values.
 use Prim.Native.Nat.{ℕ, zero, suc, _+_, _-_, _*_, _/_}
 use mathlib.Core.List.{List, [], _∷_, _++_}

@@ -73,7 +73,8 @@ pub fn get(metas: &[u8], addrs: &[u8], n: usize, group_len: usize, block_id: usi
 // The last group whose first ordinal is at or below `ord`, if ordinals rise and the first group's is.
 fn bisect_groups(metas: &[u8], groups: usize, ord: u64) -> usize
     requires { ⌜ (1 ≤ groups) × (groups ≤ 65536) × (36 * groups ≤ length (now metas)) ⌝ }
-    ensures { λ r. ⌜ (r < groups) × (0 < r → groupMeta (now (metas .entry)) r .«first_ordinal» ≤ ord) × (r + 1 < groups → ord < groupMeta (now (metas .entry)) (r + 1) .«first_ordinal») ⌝ }
+    ensures { λ r. ⌜ (r < groups) × (0 < r → groupMeta (now (metas .entry)) r .«first_ordinal» ≤ ord)
+        × (r + 1 < groups → ord < groupMeta (now (metas .entry)) (r + 1) .«first_ordinal») ⌝ }
 {
     let mut left: usize = 0;
     let mut right = groups;
@@ -98,7 +99,8 @@ pub fn binary_search_ord(
 ) -> OrdFound
     requires { ⌜ GroupLenOk «group_len» × GroupRecordsOk «group_len» (now metas) n ⌝ }
     ensures { λ r. ⌜ OrdFoundIn n r ⌝ }
-    ensures { λ r. ⌜ (StoreOk «group_len» (now (metas .entry)) (now (addrs .entry)) n → OrdFoundAs (storeBlock «group_len» (now (metas .entry)) (now (addrs .entry))) n ord r) ⌝ }
+    ensures { λ r. ⌜ (StoreOk «group_len» (now (metas .entry)) (now (addrs .entry)) n
+        → OrdFoundAs (storeBlock «group_len» (now (metas .entry)) (now (addrs .entry))) n ord r) ⌝ }
 {
     let g = bisect_groups(metas, crate::write::group_count(n, group_len), ord);
     let meta = group::meta::deserialize(metas, META_LEN * g);

@@ -1,4 +1,4 @@
--- The store of one lent slice of block records (document 01, "Slopes and bits", rows 3, 4, 5, 7 and 9).
+-- The store from a slice of block records (SPECIFICATION 7; rows 3, 4, 5, 7 and 9).
 use Prim.Native.Nat.{ℕ, zero, suc}
 use mathlib.Core.List.{List, [], _∷_}
 use mathlib.Core.Bool.{Bool, false, _||_, cond}

@@ -34,7 +34,8 @@ pub fn copy_out(blocks: &[BlockAddr], area: &mut [u64])
 // Writes the store of the n records in the area, which hit no row, from the front of `out` on.
 pub fn write_area(area: &[u64], n: usize, out: &mut [u8]) -> Stored
     requires { ⌜ (3 * n ≤ length (now area)) × (blockListNo (blocksAt (now area) 3 0 n) ≡ 0) ⌝ }
-    ensures { λ r. ⌜ (r ≡ sliceStored (blocksAt (now (area .entry)) 3 0 n) (now (out .entry))) × (now (out .exit) ≡ sliceOut (blocksAt (now (area .entry)) 3 0 n) (now (out .entry))) ⌝ }
+    ensures { λ r. ⌜ (r ≡ sliceStored (blocksAt (now (area .entry)) 3 0 n) (now (out .entry)))
+        × (now (out .exit) ≡ sliceOut (blocksAt (now (area .entry)) 3 0 n) (now (out .entry))) ⌝ }
 {
     match store::write::write_store(area, STRIDE, n, STORE_BLOCK_LEN, out) {
         Serialized::Len(len) => Stored { no: 0, len: len },

@@ -71,7 +71,8 @@ fn bits_len(area: &[u64], count: usize) -> usize
 // How many address bytes the records take.
 fn addrs_len(blocks: &[[u64; 3]], area: &mut [u64; 384]) -> usize
     requires { ⌜ (blockListNo (blocksOfNumbers (now blocks)) ≡ 0) × (length (now area) ≡ 384) ⌝ }
-    ensures { λ r. ⌜ (length (now (area .exit)) ≡ 384) × (r ≡ length (addrs bestSlope 128 (groupCount 128 (length (now (blocks .entry)))) (blocksOfNumbers (now (blocks .entry))))) ⌝ }
+    ensures { λ r. ⌜ (length (now (area .exit)) ≡ 384)
+        × (r ≡ length (addrs bestSlope 128 (groupCount 128 (length (now (blocks .entry)))) (blocksOfNumbers (now (blocks .entry))))) ⌝ }
 {
     let mut len: usize = 0;
     let mut first: usize = 0;
@@ -86,8 +87,10 @@ fn addrs_len(blocks: &[[u64; 3]], area: &mut [u64; 384]) -> usize
 
 // Writes the store from the front of `out` on. Returns its length.
 fn write_groups(blocks: &[[u64; 3]], area: &mut [u64; 384], out: &mut [u8]) -> usize
-    requires { ⌜ (blockListNo (blocksOfNumbers (now blocks)) ≡ 0) × (length (now area) ≡ 384) × (length (storeBytes bestSlope 128 (blocksOfNumbers (now blocks))) ≤ length (now out)) ⌝ }
-    ensures { λ r. ⌜ (r ≡ length (storeBytes bestSlope 128 (blocksOfNumbers (now (blocks .entry))))) × (now (out .exit) ≡ sets (now (out .entry)) 0 (storeBytes bestSlope 128 (blocksOfNumbers (now (blocks .entry))))) ⌝ }
+    requires { ⌜ (blockListNo (blocksOfNumbers (now blocks)) ≡ 0) × (length (now area) ≡ 384)
+        × (length (storeBytes bestSlope 128 (blocksOfNumbers (now blocks))) ≤ length (now out)) ⌝ }
+    ensures { λ r. ⌜ (r ≡ length (storeBytes bestSlope 128 (blocksOfNumbers (now (blocks .entry)))))
+        × (now (out .exit) ≡ sets (now (out .entry)) 0 (storeBytes bestSlope 128 (blocksOfNumbers (now (blocks .entry))))) ⌝ }
 {
     let metas = META_LEN * store::write::group_count(blocks.len(), STORE_BLOCK_LEN);
     serialize::serialize_u64(out, 0, metas as u64);
@@ -117,7 +120,8 @@ fn write_groups(blocks: &[[u64; 3]], area: &mut [u64; 384], out: &mut [u8]) -> u
 
 // Writes the store of the records from the front of `out` on.
 pub fn serialize_numbers(blocks: &[[u64; 3]], out: &mut [u8]) -> Stored
-    ensures { λ r. ⌜ (r ≡ sliceStored (blocksOfNumbers (now (blocks .entry))) (now (out .entry))) × (now (out .exit) ≡ sliceOut (blocksOfNumbers (now (blocks .entry))) (now (out .entry))) ⌝ }
+    ensures { λ r. ⌜ (r ≡ sliceStored (blocksOfNumbers (now (blocks .entry))) (now (out .entry)))
+        × (now (out .exit) ≡ sliceOut (blocksOfNumbers (now (blocks .entry))) (now (out .entry))) ⌝ }
 {
     let no = rows_no(blocks);
     if no != 0 {

@@ -68,7 +68,8 @@ fn write_store(area: &[u64], n: usize, len: usize, out: &mut [u8]) -> bool
 
 // Where the address bytes begin in a store that has records for n blocks; 0 where it has none.
 fn addrs_at(store: &[u8], n: usize) -> usize
-    ensures { λ r. ⌜ (0 < r → (8 ≤ r) × (r ≤ length (now (store .entry))) × GroupRecordsOk 128 (take (r - 8) (drop 8 (now (store .entry)))) n) ⌝ }
+    ensures { λ r. ⌜ (0 < r → (8 ≤ r) × (r ≤ length (now (store .entry)))
+        × GroupRecordsOk 128 (take (r - 8) (drop 8 (now (store .entry)))) n) ⌝ }
 {
     if n < 1 {
         return 0;
