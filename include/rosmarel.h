@@ -3,8 +3,9 @@
  * Link with librosmarel.a and the C library (memcpy, memset). x86-64 only.
  *
  * A slice is a pointer and then its length in elements; bytes are unsigned, and file numbers little-endian.
- * Each call but two returns a number, 0 where it is accepted. A refusal changes no lent memory and sets what else the
- * call returns to 0 (rosmarel_add: *n stays). What lies after a result in an output stays as it was.
+ * Each call returns a number, 0 where it is accepted; rosmarel_separator, rosmarel_common_prefix_len and
+ * rosmarel_interface have none. A refusal changes no lent memory and sets what else the call returns to 0
+ * (rosmarel_add: *n stays). What lies after a result in an output stays as it was.
  * docs/SPECIFICATION.md says what each call does, docs/FORMAT.md what the bytes of an index mean.
  *
  * The caller keeps these rules, which C can't say:
