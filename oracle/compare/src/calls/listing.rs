@@ -11,7 +11,7 @@ use crate::tally::{By, Case, Tally};
 
 #[rustfmt::skip]
 unsafe extern "C" {
-    fn rosmarel_list(index: *const u8, index_len: usize, opened: *const u64, automaton: *const u8,
+    fn rosmarel_list(index: *const u8, index_len: usize, opened: *const [u64; 7], automaton: *const u8,
         automaton_len: usize, marks: *mut u8, marks_len: usize, count: *mut u64) -> u32;
 }
 
@@ -22,7 +22,7 @@ pub static LIST: Call = Call {
 pub const CALLS: &[&Call] = &[&LIST];
 
 fn call(file: &File, automaton: &Lent<u8>, marks: &mut Lent<u8>, count: &mut Out) -> u64 {
-    let (index, len, record) = (file.lent.ptr(), file.lent.len(), file.record.ptr());
+    let (index, len, record) = (file.lent.ptr(), file.lent.len(), file.record.ptr().cast());
     let (table, size, room) = (automaton.ptr(), automaton.len(), marks.len());
     // SAFETY: parts that are lent and don't overlap, an out-parameter of its own.
     calling(&LIST, || unsafe {

@@ -14,15 +14,15 @@ use crate::tally::{By, Case, Tally};
 
 #[rustfmt::skip]
 unsafe extern "C" {
-    fn rosmarel_get_block(index: *const u8, index_len: usize, opened: *const u64, id: u64,
+    fn rosmarel_get_block(index: *const u8, index_len: usize, opened: *const [u64; 7], id: u64,
         start: *mut u64, end: *mut u64, first_ordinal: *mut u64) -> u32;
-    fn rosmarel_locate_with_ord(index: *const u8, index_len: usize, opened: *const u64, ord: u64,
+    fn rosmarel_locate_with_ord(index: *const u8, index_len: usize, opened: *const [u64; 7], ord: u64,
         id: *mut u64, start: *mut u64, end: *mut u64, first_ordinal: *mut u64) -> u32;
-    fn rosmarel_locate_with_key(index: *const u8, index_len: usize, opened: *const u64,
+    fn rosmarel_locate_with_key(index: *const u8, index_len: usize, opened: *const [u64; 7],
         key: *const u8, key_len: usize, id: *mut u64) -> u32;
-    fn rosmarel_get_block_with_key(index: *const u8, index_len: usize, opened: *const u64,
+    fn rosmarel_get_block_with_key(index: *const u8, index_len: usize, opened: *const [u64; 7],
         key: *const u8, key_len: usize, id: *mut u64, start: *mut u64, end: *mut u64, first_ordinal: *mut u64) -> u32;
-    fn rosmarel_separator(index: *const u8, index_len: usize, opened: *const u64, id: u64,
+    fn rosmarel_separator(index: *const u8, index_len: usize, opened: *const [u64; 7], id: u64,
         offset: *mut u64, len: *mut u64);
 }
 
@@ -59,7 +59,7 @@ pub const CALLS: &[&Call] = &[
 /// The out-parameters are start, end and first ordinal.
 fn get_block(file: &File, id: u64, block: &mut [Out; 3]) -> u64 {
     let [start, end, ord] = block.each_mut().map(Out::ptr);
-    let (index, len, record) = (file.lent.ptr(), file.lent.len(), file.record.ptr());
+    let (index, len, record) = (file.lent.ptr(), file.lent.len(), file.record.ptr().cast());
     calling(&GET_BLOCK, || unsafe {
         rosmarel_get_block(index, len, record, id, start, end, ord)
     })
@@ -83,7 +83,7 @@ pub fn locate_with_ord(
 
 fn locate_with_key(file: &File, key: &Lent<u8>, id: &mut [Out; 1]) -> u64 {
     let [id] = id.each_mut().map(Out::ptr);
-    let (index, len, record) = (file.lent.ptr(), file.lent.len(), file.record.ptr());
+    let (index, len, record) = (file.lent.ptr(), file.lent.len(), file.record.ptr().cast());
     calling(&LOCATE_WITH_KEY, || unsafe {
         rosmarel_locate_with_key(index, len, record, key.ptr(), key.len(), id)
     })
@@ -94,7 +94,7 @@ fn locate_with_key(file: &File, key: &Lent<u8>, id: &mut [Out; 1]) -> u64 {
 #[rustfmt::skip]
 fn get_block_with_key(file: &File, key: &Lent<u8>, found: &mut [Out; 4]) -> u64 {
     let [id, start, end, ord] = found.each_mut().map(Out::ptr);
-    let (index, len, record) = (file.lent.ptr(), file.lent.len(), file.record.ptr());
+    let (index, len, record) = (file.lent.ptr(), file.lent.len(), file.record.ptr().cast());
     calling(&GET_BLOCK_WITH_KEY, || unsafe {
         rosmarel_get_block_with_key(index, len, record, key.ptr(), key.len(), id, start, end, ord)
     })
@@ -104,7 +104,7 @@ fn get_block_with_key(file: &File, key: &Lent<u8>, found: &mut [Out; 4]) -> u64 
 /// The out-parameters are offset and length.
 fn separator(file: &File, id: u64, place: &mut [Out; 2]) {
     let [offset, length] = place.each_mut().map(Out::ptr);
-    let (index, len, record) = (file.lent.ptr(), file.lent.len(), file.record.ptr());
+    let (index, len, record) = (file.lent.ptr(), file.lent.len(), file.record.ptr().cast());
     calling(&SEPARATOR, || unsafe {
         rosmarel_separator(index, len, record, id, offset, length)
     });

@@ -12,7 +12,7 @@ use crate::print::Print;
 use crate::tally::{By, Case, Tally};
 
 unsafe extern "C" {
-    fn rosmarel_open(index: *const u8, index_len: usize, opened: *mut u64) -> u32;
+    fn rosmarel_open(index: *const u8, index_len: usize, opened: *mut [u64; 7]) -> u32;
 }
 
 pub static OPEN: Call = Call {
@@ -26,7 +26,7 @@ pub fn call(index: &Lent<u8>, opened: &mut Lent<u64>) -> u64 {
     assert_eq!(opened.len(), OPENED_LEN);
     // SAFETY: parts that are lent and don't overlap.
     calling(&OPEN, || unsafe {
-        rosmarel_open(index.ptr(), index.len(), opened.ptr_mut())
+        rosmarel_open(index.ptr(), index.len(), opened.ptr_mut().cast())
     })
     .into()
 }

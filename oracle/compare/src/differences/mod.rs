@@ -33,22 +33,12 @@ fn difference(
     }
 }
 
-/// Shows each difference, holds the list to them, and the differences that the cases met to the list. The further ones are listed
-/// all together or not at all.
+/// Shows each difference, holds the list to them, and the differences that the cases met to the list.
 pub fn run(tally: &mut Tally, root: &Path) {
     tally.section("differences");
     let listed = listed(root);
     let mut all: Vec<Difference> = opening::all().into_iter().chain(building::all()).collect();
-    let further = further::all();
-    let mut known = listed.clone();
-    if further
-        .iter()
-        .any(|difference| listed.contains(difference.id))
-    {
-        all.extend(further);
-    } else {
-        known.extend(further.iter().map(|difference| difference.id.to_string()));
-    }
+    all.extend(further::all());
     let shown: BTreeSet<String> = all
         .iter()
         .map(|difference| difference.id.to_string())
@@ -60,7 +50,7 @@ pub fn run(tally: &mut Tally, root: &Path) {
         format!("listed {listed:?}, shown {shown:?}")
     });
     tally.end_section();
-    met::hold(tally, &known);
+    met::hold(tally, &listed);
 }
 
 fn show(tally: &mut Tally, difference: Difference) {
