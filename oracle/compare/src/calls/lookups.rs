@@ -74,7 +74,7 @@ pub fn locate_with_ord(
     found: &mut [Out; 4],
 ) -> u64 {
     let [id, start, end, first] = found.each_mut().map(Out::ptr);
-    let (index, len, record) = (index.ptr(), index.len(), record.ptr());
+    let (index, len, record) = (index.ptr(), index.len(), record.ptr().cast());
     calling(&LOCATE_WITH_ORD, || unsafe {
         rosmarel_locate_with_ord(index, len, record, ord, id, start, end, first)
     })
