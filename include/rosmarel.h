@@ -3,8 +3,10 @@
  * Link with librosmarel.a and the C library (memcpy, memset). x86-64 only.
  *
  * A slice is a pointer and then its length in elements; bytes are unsigned, and file numbers little-endian.
- * Each call but two returns a number, 0 where it is accepted. A refusal changes no lent memory and sets what else the
- * call returns to 0 (rosmarel_add: *n stays).
+ * Each call returns a number, 0 where it is accepted; rosmarel_separator, rosmarel_common_prefix_len and
+ * rosmarel_interface have none. A refusal changes no lent memory and sets what else the call returns to 0
+ * (rosmarel_add: *n stays). What lies after a result in an output stays as it was.
+ * docs/SPECIFICATION.md says what each call does, docs/FORMAT.md what the bytes of an index mean.
  *
  * The caller keeps these rules, which C can't say:
  * - No pointer is null, and each is aligned to its type. A length of 0 may come with any such pointer.
@@ -26,6 +28,9 @@
 extern "C" {
 #endif
 
+/* The interface that these declarations are of: rosmarel_interface() of an archive that fits them. */
+#define ROSMAREL_INTERFACE 1
+
 /* A block: start <= end, both and the first ordinal below 2^48. */
 typedef struct rosmarel_block_addr {
     uint64_t start;
@@ -33,59 +38,69 @@ typedef struct rosmarel_block_addr {
     uint64_t first_ordinal;
 } rosmarel_block_addr;
 
-/* What the calls return: the first row that is hit. */
+/*
+ * What the calls return: the first row that is hit, in the order of their numbers but for two places. Lookups try 20
+ * before 17, 18 and 19. Opening tries 10 for a file under 8 bytes, then 11, then the rest of 10: a directory length of
+ * 0 is 11 in any file of 8 bytes or more.
+ */
 enum rosmarel_no {
     ROSMAREL_OK = 0,
-    ROSMAREL_AREAS = 1,          /* add, shorten, finish: n over 65,536, or it or the last key doesn't fit the areas */
+    ROSMAREL_AREAS = 1,          /* add, shorten, finish: n over 65,536, or n or the last key doesn't fit the areas */
     ROSMAREL_KEY_LONG = 2,       /* add, shorten: a key longer than 1,024 */
     ROSMAREL_NUMBERS = 3,        /* add, store: end < start, or end or ordinal of 2^48 or more */
     ROSMAREL_JOIN = 4,           /* add, store: start isn't the end of the block before */
     ROSMAREL_ORDINAL = 5,        /* add, store: ordinal not above the one before */
     ROSMAREL_KEY_ORDER = 6,      /* add, shorten: key not above the last separator */
     ROSMAREL_FULL = 7,           /* add: no room for the block; store: over 65,536 blocks */
-    ROSMAREL_BLOCKS = 8,         /* finish: a lent block breaks 2 to 6, or the keys don't touch */
-    ROSMAREL_OUTPUT_SHORT = 9,   /* finish, store: output shorter than the result */
-    ROSMAREL_FOOTER = 10,        /* open: under 8 bytes, or the directory is longer than the file */
+    ROSMAREL_BLOCKS = 8,         /* finish: a block in the areas hits 2 to 6, or keys don't touch */
+    ROSMAREL_OUTPUT_SHORT = 9,   /* finish, store: output shorter than the result (the calls say how to size it) */
+    ROSMAREL_FOOTER = 10,        /* open: under 8 bytes; or, unless it is 11, directory length + 16 > file */
     ROSMAREL_NO_DIRECTORY = 11,  /* open: directory length 0 */
-    ROSMAREL_DIRECTORY = 12,     /* open: count, offsets, key lengths or directory length broken */
+    ROSMAREL_DIRECTORY = 12,     /* open: n not 2 to 65,536, or offsets, key lengths or directory length broken */
     ROSMAREL_KEYS = 13,          /* open: keys not strictly rising */
-    ROSMAREL_RECORDS = 14,       /* open: the group records don't fit the count or the store */
-    ROSMAREL_GROUPS = 15,        /* open: a width, a block count or the fields of a group */
-    ROSMAREL_VALUES = 16,        /* open: a value out of range, or blocks that break 3, 4 or 5 */
+    ROSMAREL_RECORDS = 14,       /* open: records' length not 36 for each group of n blocks, or beyond the store */
+    ROSMAREL_GROUPS = 15,        /* open: a width outside 1 to 56, another block count, or fields that end too late */
+    ROSMAREL_VALUES = 16,        /* open, after 15 for all groups: a value out of range, or blocks that break 3 to 5 */
     ROSMAREL_ID = 17,            /* by id: not below n */
     ROSMAREL_BELOW = 18,         /* by ordinal: below the first */
     ROSMAREL_ABOVE = 19,         /* by key: above the last separator */
-    ROSMAREL_OPENED = 20,        /* lookups, list: the opened record doesn't fit the bytes, or they aren't sound */
+    ROSMAREL_OPENED = 20,        /* lookups, list: the opened record doesn't fit the bytes, or what is read is broken */
     ROSMAREL_AUTOMATON = 21,     /* automaton: no states, over 64, or a length that doesn't fit them */
     ROSMAREL_FLAG = 22,          /* automaton: a flag above 1 */
     ROSMAREL_STATE = 23,         /* automaton: a next state that there isn't */
-    ROSMAREL_ROOM = 24,          /* list: under n bytes; example: under the longer key + 64 */
+    ROSMAREL_ROOM = 24,          /* list: under n bytes; example: under the longer key + 64 (an absent start is none) */
     ROSMAREL_NO_EXAMPLE = 25     /* example: no accepted string in the interval */
 };
 
+/* The number of the archive's interface, one more with each change of a call or of the opened record. */
+uint64_t rosmarel_interface(void);
+
 /*
  * Building. The builder is the count n, first 0, and two areas that the caller lends to each call: five numbers a block
- * (start, end, first ordinal, key offset, key length) and the keys' bytes. Neither need be cleared.
+ * (start, end, first ordinal, key offset, key length) and the keys' bytes. Neither need be cleared. Each call gets n as
+ * the last one left it and the areas as the last one left them.
  */
 
-/* Adds a block behind the last one, and 1 to *n. */
+/* Adds a block after the last one, and 1 to *n. The key is the block's last key. */
 uint32_t rosmarel_add(uint64_t *n, uint64_t *blocks, size_t blocks_len, uint8_t *keys, size_t keys_len,
                       const uint8_t *key, size_t key_len, uint64_t start, uint64_t end, uint64_t first_ordinal);
 
-/* Shortens the last block's key to one that is still below next_key, which has to be above it. */
+/* Shortens the last block's key to one that is still below next_key, which has to be above it: the next block's first
+   key. With n = 0 it does nothing. The next add's key goes right after the shortened one. */
 uint32_t rosmarel_shorten(uint64_t n, uint64_t *blocks, size_t blocks_len, uint8_t *keys, size_t keys_len,
                           const uint8_t *next_key, size_t next_key_len);
 
 /* Writes the index to the front of out: *total bytes, of which the first *directory_len are the key directory. With 0 or
-   1 blocks there is none, and both are 0. */
+   1 blocks there is none, and both are 0. rosmarel_finish_len says how long out must be. */
 uint32_t rosmarel_finish(uint64_t n, const uint64_t *blocks, size_t blocks_len, const uint8_t *keys, size_t keys_len,
                          uint8_t *out, size_t out_len, uint64_t *total, uint64_t *directory_len);
 
-/* The total that rosmarel_finish would need. */
+/* The total that rosmarel_finish would need, by 1 and 8 as finish has them; 0 with 0 or 1 blocks. */
 uint32_t rosmarel_finish_len(uint64_t n, const uint64_t *blocks, size_t blocks_len, const uint8_t *keys,
                              size_t keys_len, uint64_t *total);
 
-/* Writes the store alone of the blocks to the front of out; its length is *len. */
+/* Writes the store alone of the blocks, 0 and 1 included, to the front of out; its length is *len. An out of
+   8 + 36 * ((blocks_len + 127) / 128) + 13 * blocks_len bytes always has room. */
 uint32_t rosmarel_store(const rosmarel_block_addr *blocks, size_t blocks_len, uint8_t *out, size_t out_len,
                         uint64_t *len);
 
@@ -94,49 +109,57 @@ uint64_t rosmarel_common_prefix_len(const uint8_t *left, size_t left_len, const 
 
 /*
  * Opening and lookups. An index is opened once; the opened record is n, then offset and length in the index of the
- * directory, the group records and the address bytes. A lookup over bytes or a record that don't come from one
- * successful opening is safe, and answers some block or a number.
+ * directory, the group records and the address bytes. A lookup over bytes and a record that don't come from one
+ * successful opening is safe: it answers an id below the record's n with an address in range, or its own number or 20.
  */
 
-/* Opens the bytes of an index that anyone may have written. */
+/* Opens the bytes of an index that anyone may have written. They have no magic number and no checksum: opening shows
+   that they keep the rules, not that they are the ones that you wrote. */
 uint32_t rosmarel_open(const uint8_t *index, size_t index_len, uint64_t opened[7]);
 
-/* The address of block id. */
+/* The address of block id; 17 where id isn't below n. */
 uint32_t rosmarel_get_block(const uint8_t *index, size_t index_len, const uint64_t opened[7], uint64_t id,
                             uint64_t *start, uint64_t *end, uint64_t *first_ordinal);
 
-/* The last block whose first ordinal is at or below ord, and its address. */
+/* The last block whose first ordinal isn't above ord, and its address; 18 where ord is below the first block's. */
 uint32_t rosmarel_locate_with_ord(const uint8_t *index, size_t index_len, const uint64_t opened[7], uint64_t ord,
                                   uint64_t *id, uint64_t *start, uint64_t *end, uint64_t *first_ordinal);
 
-/* The first block whose separator isn't below key. */
+/* The first block with a separator at or above key, of any length; 19 where all are below it. It is the only block that
+   can hold the key. */
 uint32_t rosmarel_locate_with_key(const uint8_t *index, size_t index_len, const uint64_t opened[7],
                                   const uint8_t *key, size_t key_len, uint64_t *id);
 
-/* The first block whose separator isn't below key, and its address. */
+/* The same with the block's address. */
 uint32_t rosmarel_get_block_with_key(const uint8_t *index, size_t index_len, const uint64_t opened[7],
                                      const uint8_t *key, size_t key_len, uint64_t *id, uint64_t *start,
                                      uint64_t *end, uint64_t *first_ordinal);
 
-/* Where the separator of block id stands in the index. A miss is 0 and 0; an empty separator has an offset above 0. */
+/* Where the separator of block id stands in the index. A miss (id not below n, or a hit on 20) is 0 and 0; an empty
+   separator has an offset above 0. */
 void rosmarel_separator(const uint8_t *index, size_t index_len, const uint64_t opened[7], uint64_t id,
                         uint64_t *offset, uint64_t *len);
 
 /*
  * Patterns. An automaton is its number of states m, m accept flags (0 or 1) and m times 256 next states, one byte each;
- * state 0 starts. A block's keys lie above the separator before it, if has_start, and not above its own.
+ * state 0 starts. A block's interval is what lies above the separator before it and not above its own; block 0 has no
+ * start, and its interval has the empty string too.
+ *
+ * has_start says whether start is a key. Where it is false the interval is all that isn't above end: pass any pointer
+ * that isn't null and a length of 0. What is passed there isn't read and doesn't count in 24's room.
  */
 
-/* Writes a mark for each of the n blocks, 1 where it can hold an accepted key, else 0; *count is the number of ones. */
+/* Writes a mark for each of the n blocks, 1 where the automaton accepts some string of its interval, else 0, to the
+   front of marks; *count is the number of ones. */
 uint32_t rosmarel_list(const uint8_t *index, size_t index_len, const uint64_t opened[7], const uint8_t *automaton,
                        size_t automaton_len, uint8_t *marks, size_t marks_len, uint64_t *count);
 
-/* *matches is 1 where an accepted string is above start and not above end, else 0. Without has_start, start is unread. */
+/* *matches is 1 where an accepted string is above start and not above end, else 0. */
 uint32_t rosmarel_can_block_match(bool has_start, const uint8_t *start, size_t start_len, const uint8_t *end,
                                   size_t end_len, const uint8_t *automaton, size_t automaton_len,
                                   uint64_t *matches);
 
-/* Writes some such string to the front of out; its length is *len. */
+/* Writes some such string to the front of out; its length is *len. Which one isn't said. */
 uint32_t rosmarel_example(bool has_start, const uint8_t *start, size_t start_len, const uint8_t *end, size_t end_len,
                           const uint8_t *automaton, size_t automaton_len, uint8_t *out, size_t out_len,
                           uint64_t *len);

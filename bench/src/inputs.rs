@@ -102,23 +102,75 @@ fn random(n: usize, numbers: &mut Numbers) -> Vec<Vec<u8>> {
     keys.into_iter().map(|key| key.to_vec()).collect()
 }
 
-/// Blocks of 2,000 to 5,999 bytes with 20 to 199 keys each.
-pub fn blocks(n: usize) -> Vec<BlockAddr> {
-    let mut numbers = Numbers(!(n as u64));
-    let (mut start, mut first_ordinal) = (0, 0);
-    (0..n)
-        .map(|_| {
-            let end = start + 2_000 + numbers.below(4_000) as u64;
-            let block = BlockAddr {
-                start,
-                end,
-                first_ordinal,
-            };
-            start = end;
-            first_ordinal += 20 + numbers.below(180) as u64;
-            block
-        })
-        .collect()
+/// Kinds of block lists, by the steps from block to block.
+#[derive(Clone, Copy, Debug, PartialEq, Eq)]
+pub enum Steps {
+    Random,
+    Equal,
+    Empty,
+    Limit,
+}
+
+impl Steps {
+    pub const ALL: [Steps; 4] = [Steps::Random, Steps::Equal, Steps::Empty, Steps::Limit];
+
+    pub fn name(self) -> &'static str {
+        match self {
+            Steps::Random => "random steps",
+            Steps::Equal => "equal steps",
+            Steps::Empty => "empty blocks",
+            Steps::Limit => "steps at the limit",
+        }
+    }
+
+    /// How the blocks are made, for the document.
+    pub fn story(self) -> &'static str {
+        match self {
+            Steps::Random => "2,000 to 5,999 bytes and 20 to 199 keys each, at random",
+            Steps::Equal => "4,096 bytes and 128 keys each: fields of one bit",
+            Steps::Empty => "no bytes and one key each",
+            Steps::Limit => {
+                "2^48 - 1 bytes and keys shared out among the blocks at random: steps around and above 2^32, wide fields"
+            }
+        }
+    }
+
+    pub fn blocks(self, n: usize) -> Vec<BlockAddr> {
+        let mut numbers = Numbers(!(n as u64));
+        let (mut end, mut first_ordinal) = (0, 0);
+        (0..n)
+            .map(|i| {
+                let start = end;
+                let ordinal = first_ordinal;
+                (end, first_ordinal) = self.next(i + 1, n, (end, first_ordinal), &mut numbers);
+                BlockAddr {
+                    start,
+                    end,
+                    first_ordinal: ordinal,
+                }
+            })
+            .collect()
+    }
+
+    /// Where block i begins and with which ordinal, from those of the block before; block n is the end of the last.
+    fn next(self, i: usize, n: usize, before: (u64, u64), numbers: &mut Numbers) -> (u64, u64) {
+        const MOST: u64 = (1 << 48) - 1;
+        let (start, ordinal) = before;
+        match self {
+            Steps::Random => (
+                start + 2_000 + numbers.below(4_000) as u64,
+                ordinal + 20 + numbers.below(180) as u64,
+            ),
+            Steps::Equal => (start + 4_096, ordinal + 128),
+            Steps::Empty => (start, ordinal + 1),
+            Steps::Limit if i == n => (MOST, MOST),
+            Steps::Limit => {
+                let share = MOST as usize / n;
+                let mut place = || (i * share + numbers.below(share)) as u64;
+                (place(), place())
+            }
+        }
+    }
 }
 
 pub fn theirs(block: BlockAddr) -> access::Block {
@@ -129,7 +181,36 @@ pub fn theirs(block: BlockAddr) -> access::Block {
     }
 }
 
-/// An index, open on both sides.
+/// The Rust's builder with all blocks in it.
+pub fn rust_builder(keys: &[Vec<u8>], blocks: &[BlockAddr]) -> access::Builder {
+    let mut builder = access::Builder::default();
+    for (key, &block) in keys.iter().zip(blocks) {
+        builder.add_block(key, theirs(block));
+    }
+    builder
+}
+
+/// The Rust crate's builder with all blocks in it.
+pub fn our_builder(keys: &[Vec<u8>], blocks: &[BlockAddr]) -> rosmarel::Builder {
+    let mut builder = rosmarel::Builder::new();
+    for (key, &block) in keys.iter().zip(blocks) {
+        builder.add_block(key, block).unwrap();
+    }
+    builder
+}
+
+/// The two areas with all blocks in them.
+pub fn areas(keys: &[Vec<u8>], blocks: &[BlockAddr]) -> (Vec<u64>, Vec<u8>) {
+    let mut numbers = vec![0; 5 * blocks.len()];
+    let mut bytes = vec![0; keys.iter().map(Vec::len).sum()];
+    let mut n = 0;
+    for (key, &block) in keys.iter().zip(blocks) {
+        ffi::add(&mut n, &mut numbers, &mut bytes, key, block).unwrap();
+    }
+    (numbers, bytes)
+}
+
+/// An index, and its record after opening.
 pub struct Input {
     pub n: usize,
     pub kind: Keys,
@@ -143,13 +224,9 @@ impl Input {
     /// The keys are the separators as they are; no key is shortened.
     pub fn new(kind: Keys, n: usize) -> Input {
         let keys = kind.make(n);
-        let blocks = blocks(n);
-        let pairs: Vec<(access::Block, &[u8])> = keys
-            .iter()
-            .zip(&blocks)
-            .map(|(key, &block)| (theirs(block), &key[..]))
-            .collect();
-        let index = access::write_index(&pairs);
+        let blocks = Steps::Random.blocks(n);
+        let mut index = Vec::new();
+        rust_builder(&keys, &blocks).serialize(&mut index);
         let opened = ffi::open(&index).expect("an index of the Rust opens");
         Input {
             n,
@@ -159,9 +236,5 @@ impl Input {
             index,
             opened,
         }
-    }
-
-    pub fn key_bytes(&self) -> usize {
-        self.keys.iter().map(Vec::len).sum()
     }
 }

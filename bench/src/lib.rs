@@ -6,17 +6,18 @@
 #[path = "../../bindings/rust/src/ffi.rs"]
 pub mod ffi;
 
+pub mod calls;
 pub mod document;
 pub mod inputs;
-pub mod listing;
-pub mod lookups;
 pub mod machine;
 pub mod measure;
-pub mod opening;
+pub mod memory;
 pub mod patterns;
 pub mod plot;
+pub mod readme;
 pub mod report;
-pub mod writing;
+pub mod tables;
+pub mod words;
 
 // what ffi.rs takes from its crate's root
 use rosmarel::{BlockAddr, Refusal};

@@ -3,20 +3,11 @@
 use std::hint::black_box;
 use std::time::{Duration, Instant};
 
-/// Nanoseconds for one unit of work.
-#[derive(Clone, Copy, Debug)]
-pub struct Times {
-    pub least: f64,
-    pub median: f64,
-    pub runs: usize,
-}
-
-/// How long a row may take, and how short a run may be.
+/// How long a run is, and how many runs a side has in one pass. Both are the same for every row.
 #[derive(Clone, Copy)]
 pub struct Effort {
-    pub budget: Duration,
     pub run: Duration,
-    pub least_runs: usize,
+    pub rounds: usize,
 }
 
 /// Does the work so many times, and gives the time that counts.
@@ -33,54 +24,82 @@ pub fn side<'a, T>(mut work: impl FnMut() -> T + 'a) -> Side<'a> {
     })
 }
 
-/// The sides of a row, and what was taken so far.
-pub struct Race<'a> {
-    sides: Vec<Side<'a>>,
-    /// How often a side works in one run.
-    times: Vec<u32>,
-    taken: Vec<Vec<f64>>,
-    /// Units in one piece of work.
-    units: usize,
-    effort: Effort,
+/// A side that makes something, `batch` of them in one piece of work; they are dropped outside the time.
+pub fn making<'a, T: 'a>(batch: usize, mut work: impl FnMut() -> T + 'a) -> Side<'a> {
+    let mut made = Vec::with_capacity(batch);
+    Box::new(move |times| {
+        let mut all = Duration::ZERO;
+        for _ in 0..times {
+            let begin = Instant::now();
+            for _ in 0..batch {
+                made.push(black_box(work()));
+            }
+            all += begin.elapsed();
+            made.clear();
+        }
+        all
+    })
 }
 
-impl<'a> Race<'a> {
-    pub fn new(mut sides: Vec<Side<'a>>, units: usize, effort: Effort) -> Race<'a> {
-        let times = sides
-            .iter_mut()
-            .map(|side| repeats(side, effort.run))
-            .collect();
-        let taken = vec![Vec::new(); sides.len()];
-        Race {
-            sides,
-            times,
-            taken,
-            units,
-            effort,
+/// What was taken of a side so far: nanoseconds for one unit of work, a number for each run.
+#[derive(Clone, Debug)]
+pub struct Taken {
+    pub name: &'static str,
+    /// How often the side works in one run: found out in the first pass.
+    repeats: u32,
+    runs: Vec<f64>,
+}
+
+impl Taken {
+    pub fn new(name: &'static str, runs: Vec<f64>) -> Taken {
+        Taken {
+            name,
+            repeats: 0,
+            runs,
         }
     }
 
-    /// Runs of the sides in turn, every other round backwards, until the time is up.
-    pub fn go_on(&mut self) {
-        let begin = Instant::now();
-        let mut rounds = 0;
-        while rounds < self.effort.least_runs || begin.elapsed() < self.effort.budget {
-            let last = self.sides.len() - 1;
-            for i in 0..=last {
-                self.run(if rounds % 2 == 0 { i } else { last - i });
-            }
-            rounds += 1;
+    pub fn least(&self) -> f64 {
+        self.runs.iter().copied().fold(f64::INFINITY, f64::min)
+    }
+
+    pub fn median(&self) -> f64 {
+        let mut sorted = self.runs.clone();
+        sorted.sort_by(f64::total_cmp);
+        sorted[sorted.len() / 2]
+    }
+
+    pub fn runs(&self) -> usize {
+        self.runs.len()
+    }
+
+    /// Something that takes long needs no warming: a call of it is a run.
+    fn warm_up(&mut self, side: &mut Side, run: Duration) {
+        if self.repeats == 0 {
+            self.repeats = repeats(side, run);
+        } else if self.repeats > 1 {
+            side(1);
         }
     }
 
-    fn run(&mut self, i: usize) {
-        let took = self.sides[i](self.times[i]).as_secs_f64() * 1e9;
-        self.taken[i].push(took / f64::from(self.times[i]) / self.units as f64);
+    fn run(&mut self, side: &mut Side, units: usize) {
+        let took = side(self.repeats).as_secs_f64() * 1e9;
+        self.runs
+            .push(took / f64::from(self.repeats) / units as f64);
     }
+}
 
-    /// The times of all runs so far, a side each.
-    pub fn times(&self) -> Vec<Times> {
-        self.taken.iter().cloned().map(summary).collect()
+/// One pass: runs of the sides in turn, every other round backwards. A piece of work has so many units.
+pub fn race(taken: &mut [Taken], sides: &mut [Side], units: usize, effort: Effort) {
+    for (taken, side) in taken.iter_mut().zip(&mut *sides) {
+        taken.warm_up(side, effort.run);
+    }
+    let last = sides.len() - 1;
+    for round in 0..effort.rounds {
+        for i in 0..=last {
+            let i = if round % 2 == 0 { i } else { last - i };
+            taken[i].run(&mut sides[i], units);
+        }
     }
 }
 
@@ -88,20 +107,11 @@ impl<'a> Race<'a> {
 fn repeats(side: &mut Side, run: Duration) -> u32 {
     let mut times = 1;
     loop {
-        let took = (0..3).map(|_| side(times)).min().unwrap_or_default();
+        let took = side(times);
         if took >= run || times >= 1 << 24 {
             return times;
         }
         let more = run.as_secs_f64() / took.as_secs_f64().max(1e-9) * 1.1;
         times = (f64::from(times) * more.clamp(1.5, 100.0)).ceil() as u32;
-    }
-}
-
-fn summary(mut taken: Vec<f64>) -> Times {
-    taken.sort_by(f64::total_cmp);
-    Times {
-        least: taken[0],
-        median: taken[taken.len() / 2],
-        runs: taken.len(),
     }
 }

@@ -4,6 +4,8 @@ use std::cell::Cell;
 
 use tantivy_fst::Automaton;
 
+use crate::inputs::{Input, Keys};
+
 /// The bytes of a table: a flag for each state, and a rule for the next state.
 pub fn table(flags: &[u8], next: impl Fn(usize, u8) -> usize) -> Vec<u8> {
     let m = flags.len();
@@ -121,6 +123,47 @@ pub fn words_64(words: &[&[u8]]) -> Vec<u8> {
     })
 }
 
+/// The patterns for keys of a kind: name with the number of states, and table.
+pub fn patterns_for(input: &Input) -> Vec<(&'static str, Vec<u8>)> {
+    let mut patterns = vec![
+        ("all (1)", all()),
+        ("any length (64)", length_64()),
+        ("dense (64)", dense_64()),
+    ];
+    patterns.extend(if input.kind == Keys::Short {
+        for_short(input)
+    } else {
+        for_long(input)
+    });
+    patterns
+}
+
+fn for_short(input: &Input) -> Vec<(&'static str, Vec<u8>)> {
+    let some = &input.keys[input.n / 3];
+    let words: Vec<&[u8]> = (0..7)
+        .map(|i| &input.keys[i * (input.n - 1) / 7][..])
+        .collect();
+    vec![
+        ("contains (2)", contains(0x37)),
+        ("begins (4)", begins(&some[..2])),
+        ("one key (10)", exactly(some)),
+        ("seven keys (64)", words_64(&words)),
+    ]
+}
+
+fn for_long(input: &Input) -> Vec<(&'static str, Vec<u8>)> {
+    let digits = format!("{:08}", input.n / 3);
+    let early: Vec<u8> = [&input.keys[0][..61], b"!"].concat();
+    vec![
+        ("contains (2)", contains(b'7')),
+        ("number (9)", letters_then(&digits.as_bytes()[..7])),
+        ("ends early (64)", begins(&early)),
+        ("follows (3)", follow_few()),
+        ("follows half (11)", follow(1)),
+        ("follows half (64)", follow(54)),
+    ]
+}
+
 /// The Rust's automaton over the bytes of a table.
 pub struct Table<'a> {
     flags: &'a [u8],
@@ -154,27 +197,40 @@ impl<'a> Table<'a> {
     }
 }
 
-/// Backwards from the accepting states; those that wait are bits of a word.
+/// The states from which an accepting one can be reached: states are added until no row leads to one that was added.
 fn live(flags: &[u8], next: &[[u8; 256]]) -> u64 {
-    let after: Vec<u64> = next
-        .iter()
-        .map(|row| row.iter().fold(0, |word, state| word | 1 << (state & 63)))
-        .collect();
     let mut live = 0;
     for (state, flag) in flags.iter().enumerate() {
         live |= u64::from(*flag) << state;
     }
-    let mut waiting = live;
-    while waiting != 0 {
-        let to = waiting.trailing_zeros();
-        waiting &= waiting - 1;
-        for (from, word) in after.iter().enumerate() {
-            let new = (word >> to & 1) << from & !live;
-            live |= new;
-            waiting |= new;
+    let mut before = 0;
+    while before != live {
+        before = live;
+        // most patterns lead upwards to what they accept, so that one round finds nearly all
+        for (state, row) in next.iter().enumerate().rev() {
+            if live >> state & 1 == 0 && leads_to(row, live) {
+                live |= 1 << state;
+            }
         }
     }
     live
+}
+
+/// Whether a byte leads to one of the states. Eight next states that repeat the eight before them are passed at once.
+fn leads_to(row: &[u8; 256], states: u64) -> bool {
+    let (eights, _) = row.as_chunks::<8>();
+    let mut passed = None;
+    for eight in eights {
+        let word = u64::from_le_bytes(*eight);
+        if passed == Some(word) {
+            continue;
+        }
+        if eight.iter().any(|&state| states >> state & 1 == 1) {
+            return true;
+        }
+        passed = Some(word);
+    }
+    false
 }
 
 impl Automaton for Table<'_> {
@@ -194,52 +250,6 @@ impl Automaton for Table<'_> {
 
     fn accept(&self, state: &u8, byte: u8) -> u8 {
         self.next[usize::from(*state)][usize::from(byte)]
-    }
-}
-
-/// The same, built as the oracle's: the bytes are copied, and each of m rounds looks at all next states.
-pub struct Plain {
-    flags: Vec<u8>,
-    next: Vec<u8>,
-    live: Vec<bool>,
-}
-
-impl Plain {
-    pub fn read(bytes: &[u8]) -> Plain {
-        let (flags, next) = bytes[1..].split_at(usize::from(bytes[0]));
-        let (flags, next) = (flags.to_vec(), next.to_vec());
-        let m = flags.len();
-        assert!((1..=64).contains(&m) && next.len() == 256 * m);
-        assert!(flags.iter().all(|&flag| flag <= 1));
-        assert!(next.iter().all(|&state| usize::from(state) < m));
-        let mut live: Vec<bool> = flags.iter().map(|&flag| flag == 1).collect();
-        for _ in 0..m {
-            for state in 0..m {
-                let row = &next[256 * state..256 * (state + 1)];
-                live[state] |= row.iter().any(|&to| live[usize::from(to)]);
-            }
-        }
-        Plain { flags, next, live }
-    }
-}
-
-impl Automaton for Plain {
-    type State = u8;
-
-    fn start(&self) -> u8 {
-        0
-    }
-
-    fn is_match(&self, state: &u8) -> bool {
-        self.flags[usize::from(*state)] == 1
-    }
-
-    fn can_match(&self, state: &u8) -> bool {
-        self.live[usize::from(*state)]
-    }
-
-    fn accept(&self, state: &u8, byte: u8) -> u8 {
-        self.next[256 * usize::from(*state) + usize::from(byte)]
     }
 }
 

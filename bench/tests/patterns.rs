@@ -21,20 +21,40 @@ fn patterns_accept_what_they_say() {
     assert!(words[0] == 64 && accepts(&words, b"ac") && !accepts(&words, b"a"));
 }
 
-#[test]
-fn both_builders_find_the_same_states() {
-    for table in [
-        all(),
-        begins(b"ab"),
-        length_64(),
-        dense_64(),
-        follow(54),
-        words_64(&[b"ab", b"c"]),
-    ] {
-        let (lean, plain) = (Table::read(&table).unwrap(), Plain::read(&table));
-        for state in 0..table[0] {
-            assert_eq!(lean.can_match(&state), plain.can_match(&state));
+/// Which states can match, plainly: each of m rounds looks at all next states.
+fn plain_live(table: &[u8]) -> Vec<bool> {
+    let m = usize::from(table[0]);
+    let (flags, next) = table[1..].split_at(m);
+    let mut live: Vec<bool> = flags.iter().map(|&flag| flag == 1).collect();
+    for _ in 0..m {
+        for (state, row) in next.chunks(256).enumerate() {
+            live[state] |= row.iter().any(|&to| live[usize::from(to)]);
         }
+    }
+    live
+}
+
+#[test]
+fn the_states_that_can_match() {
+    let downwards = table(&[0, 0, 0, 1, 0], |state, byte| match (state, byte) {
+        (0, b'x') => 1,
+        (1, 255) => 2,
+        (2, 0) => 3,
+        _ => 4,
+    });
+    // from state 3 down to 0, which accepts; 4 leads nowhere
+    let upwards = table(&[1, 0, 0, 0, 0], |state, byte| match (state, byte) {
+        (1..=3, b'z') => state - 1,
+        _ => 4,
+    });
+    let mut tables = vec![downwards, upwards, all(), begins(b"ab"), length_64()];
+    tables.extend([dense_64(), follow(54), words_64(&[b"ab", b"c"])]);
+    for table in tables {
+        let automaton = Table::read(&table).unwrap();
+        let live: Vec<bool> = (0..table[0])
+            .map(|state| automaton.can_match(&state))
+            .collect();
+        assert_eq!(live, plain_live(&table));
     }
 }
 

@@ -6,9 +6,9 @@ use std::hint::black_box;
 use std::sync::atomic::{AtomicUsize, Ordering::Relaxed};
 
 use common::OwnedBytes;
-use rosmarel_bench::inputs::{Input, Keys, theirs};
+use rosmarel_bench::ffi;
+use rosmarel_bench::inputs::{Input, Keys, areas, rust_builder, theirs};
 use rosmarel_bench::patterns::{self, Table};
-use rosmarel_bench::{ffi, listing, writing};
 use tantivy_sstable::access;
 
 static COUNT: AtomicUsize = AtomicUsize::new(0);
@@ -97,8 +97,8 @@ fn line(call: &str, n: usize, stack: usize, rust: Option<(usize, usize)>) {
 
 fn building(input: &Input) {
     let n = input.n as u64;
-    let (mut blocks, mut keys) = writing::areas(input);
-    let mut builder = writing::builder(input);
+    let (mut blocks, mut keys) = areas(&input.keys, &input.blocks);
+    let mut builder = rust_builder(&input.keys, &input.blocks);
     let (last, block) = (input.keys.last().unwrap(), *input.blocks.last().unwrap());
     let add = stack(|| {
         ffi::add(&mut (n - 1), &mut blocks, &mut keys, last, block).unwrap();
@@ -115,9 +115,7 @@ fn building(input: &Input) {
         ffi::finish(n, &blocks, &keys, &mut out).unwrap();
     });
     let mut bytes = Vec::with_capacity(input.index.len());
-    let rust = allocations(|| {
-        builder.serialize(&mut bytes);
-    });
+    let rust = allocations(|| builder.serialize(&mut bytes));
     line("rosmarel_finish", input.n, finish, rust);
     let finish_len = stack(|| {
         ffi::finish_len(n, &blocks, &keys).unwrap();
@@ -191,7 +189,7 @@ fn matching(input: &Input) {
     });
     let of_rust = allocations(|| {
         let automaton = Table::read(&table).unwrap();
-        listing::rust_list(&rust, &automaton, &mut marks);
+        rust.mark_for_automaton(&automaton, &mut marks);
     });
     line("rosmarel_list", input.n, taken, of_rust);
     let (start, end) = (&input.keys[0][..], &input.keys[1][..]);

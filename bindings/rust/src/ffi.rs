@@ -20,6 +20,7 @@ const _: () = assert!(size_of::<usize>() == size_of::<u64>());
 
 // A slice is a pointer and a length in elements. The linker compares names alone; tests/declarations.rs compares the rest.
 unsafe extern "C" {
+    fn rosmarel_interface() -> u64;
     fn rosmarel_add(
         n: *mut u64,
         blocks: *mut u64,
@@ -163,6 +164,12 @@ fn answer<T>(number: u32, value: T) -> Result<T, Refusal> {
         Some(refusal) => Err(refusal),
         None => panic!("librosmarel.a answered {number}: it isn't the archive of this crate"),
     }
+}
+
+/// The number of the archive's interface.
+pub fn interface() -> u64 {
+    // SAFETY: it takes nothing.
+    unsafe { rosmarel_interface() }
 }
 
 /// Adds a block behind the first n; n counts it afterwards.

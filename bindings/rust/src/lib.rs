@@ -51,6 +51,7 @@ mod builder;
 #[allow(unsafe_code)]
 mod ffi;
 mod index;
+mod interface;
 mod refusal;
 mod store;
 
@@ -58,8 +59,18 @@ pub use automaton::{Automaton, MAX_STATES};
 pub use block::BlockAddr;
 pub use builder::{Builder, MAX_BLOCKS, MAX_KEY_LEN};
 pub use index::{Blocks, Index, Listing, Separators};
+pub use interface::INTERFACE;
 pub use refusal::Refusal;
 pub use store::{store, store_into};
+
+/// The number of the linked archive's interface, which is [`INTERFACE`].
+///
+/// ```
+/// assert_eq!(rosmarel::interface(), rosmarel::INTERFACE);
+/// ```
+pub fn interface() -> u64 {
+    ffi::interface()
+}
 
 /// The length of the longest common prefix of two keys.
 ///

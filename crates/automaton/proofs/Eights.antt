@@ -8,7 +8,7 @@ use lib.Dec.{eqb}
 use lib.Bits.{bitOr, bitXor, or-zero-l, xor-self, or-add-and, xor-add-and, and-le-l, and-le-r}
 use lib.ListN.{getD, take, drop}
 use lib.Seq.{getD-drop}
-use Rattle.serialize.specs.Digits.{leVal, Below}
+use Rattle.serialize.specs.Digits.{leVal, DigitsBelow}
 use Rattle.serialize.proofs.Digits.{ofDigits-take, ofDigits-digit, below-drop, sub-field}
 use Rattle.automaton.specs.Bits.{bit, Exactly}
 use Rattle.automaton.proofs.Exact.{same-or, lt-or-le, exactly-eqb, exactly-map}
@@ -23,7 +23,7 @@ byteOf w j = w / 2 ^ (8 * j) % 2 ^ 8
 abbrev pub eightAt : List ℕ → ℕ → ℕ
 eightAt t at = leVal (take 8 (drop at t))
 
-pub byte-at : (t : List ℕ) → Below 8 t → (at j : ℕ) → j < 8 → byteOf (eightAt t at) j ≡ getD t (at + j) 0
+pub byte-at : (t : List ℕ) → DigitsBelow 8 t → (at j : ℕ) → j < 8 → byteOf (eightAt t at) j ≡ getD t (at + j) 0
 byte-at t small at j h =
     let b = below-drop 8 at t small in
     ap (λ (x : ℕ). byteOf x j) (ofDigits-take 8 8 (drop at t) b)
@@ -34,7 +34,7 @@ byte-at t small at j h =
 pub place : (t : List ℕ) (at n k : ℕ) → getD t (at + n + k) 0 ≡ getD t (at + (n + k)) 0
 place t at n k = let e : at + n + k ≡ at + (n + k) = omega arith in ap (λ (x : ℕ). getD t x 0) e
 
-byte-is : (t : List ℕ) → Below 8 t → (at eight m j : ℕ) → eight ≡ eightAt t (at + m) → j < 8 → byteOf eight j ≡ getD t (at + (m + j)) 0
+byte-is : (t : List ℕ) → DigitsBelow 8 t → (at eight m j : ℕ) → eight ≡ eightAt t (at + m) → j < 8 → byteOf eight j ≡ getD t (at + (m + j)) 0
 byte-is t small at eight m j is l = ap (λ (x : ℕ). byteOf x j) is ∙ byte-at t small (at + m) j l ∙ place t at m j
 
 -- the bits of w are bytes of the 256 from `at` on, the first n of them and those of `last` among them
@@ -47,7 +47,7 @@ pub record Held (t : List ℕ) (at n last w : ℕ) : Type 0 where
 more : (P : ℕ → Type 0) (n m : ℕ) → ((k : ℕ) → k < n → P k) → ((k : ℕ) → k < m → P (n + k)) → (k : ℕ) → k < n + m → P k
 more P n m f g k l = ⊎-elim (f k) (λ h. let q : n + (k - n) ≡ k = omega arith in subst P q (g (k - n) (omega arith))) (lt-or-le k n)
 
-module _ {t : List ℕ} (small : Below 8 t) (at : ℕ) where
+module _ {t : List ℕ} (small : DigitsBelow 8 t) (at : ℕ) where
   pub held-first : {last w : ℕ} → last ≡ eightAt t at → Holds (λ k. getD t (at + k) 0) 8 w → Held t at 0 last w
   held-first {last} {w} e h = record {
     has = λ k l. absurd (omega arith);
@@ -128,7 +128,7 @@ differ-exactly {d = d} i = exactly-map (eqb d 0) (i .up) (i .down) (exactly-eqb 
 abbrev pub Blank : (reach eight : ℕ) → Type 0
 Blank reach eight = (j : ℕ) → j < 8 → bit reach (byteOf eight j) ≡ 0
 
-module _ (t : List ℕ) (small : Below 8 t) (reach at eight : ℕ) (is : eight ≡ eightAt t at) where
+module _ (t : List ℕ) (small : DigitsBelow 8 t) (reach at eight : ℕ) (is : eight ≡ eightAt t at) where
   byte-bit : (j : ℕ) → j < 8 → bit reach (byteOf eight j) ≡ bit reach (getD t (at + j) 0)
   byte-bit j l = ap (bit reach) (ap (λ (x : ℕ). byteOf x j) is ∙ byte-at t small at j l)
 

@@ -7,7 +7,7 @@ use native.Mathlib.Omega.{arith}
 use lib.Dec.{ltb}
 use lib.ListN.{length, getD, set}
 use lib.Seq.{getD-set-same, getD-set-other}
-use Rattle.serialize.specs.Digits.{Below}
+use Rattle.serialize.specs.Digits.{DigitsBelow}
 use Rattle.automaton.specs.Bits.{bit}
 use Rattle.automaton.specs.Table.{WellFormed, states, next}
 use Rattle.automaton.specs.Words.{CanMatch, Reach}
@@ -82,7 +82,7 @@ module _ {t : List ℕ} {reach : ℕ} (wf : WellFormed t) (r : Reach t reach) (s
         leads-nowhere k (omega arith) (ap (bit reach) (sym (here (k - b) ∙ ap (next t s) e)) ∙ g)
 
     -- eight that equal a word of none that can match
-    pub eight-passed : Below 8 t → (eight : ℕ) → eight ≡ eightAt t at → Blank reach eight → Dead t s b (b + 8)
+    pub eight-passed : DigitsBelow 8 t → (eight : ℕ) → eight ≡ eightAt t at → Blank reach eight → Dead t s b (b + 8)
     eight-passed small eight e f k h₁ = eight-dead 0 8 (omega arith) (λ j g. blank-used t small reach at eight e f j) k (omega arith)
 
     found : (j : ℕ) → j < 8 → bit reach (getD t (at + j) 0) ≡ 1 → CanMatch t (next t s (b + j))

@@ -10,7 +10,7 @@ use lib.ListN.{length, take, getD}
 use lib.Seq.{take-suc}
 use Rattle.automaton.specs.Bits.{bit, Exactly}
 use Rattle.automaton.specs.Table.{WellFormed, states, flag, next}
-use Rattle.automaton.specs.Words.{Bytes, run, Hits, Word, CanMatch, Reach}
+use Rattle.automaton.specs.Words.{Bytes, run, Hits, Accepts, CanMatch, Reach}
 use Rattle.automaton.specs.Live.{LiveByte}
 use Rattle.automaton.proofs.Exact.{exactly-map}
 
@@ -56,33 +56,33 @@ bytes-take (suc n) [] h = tt
 bytes-take (suc n) (x ∷ l) h = (h .0, bytes-take n l (h .1))
 
 -- ---- some string of which P holds
-pub word-nil : {t : List ℕ} {s : ℕ} (P : List ℕ → Type 0) → flag t s ≡ 1 → P [] → Word t s P
-word-nil P e p = record { word = []; hits = hits-nil e; good = p }
+pub word-nil : {t : List ℕ} {s : ℕ} (P : List ℕ → Type 0) → flag t s ≡ 1 → P [] → Accepts t s P
+word-nil P e p = record { string = []; hits = hits-nil e; good = p }
 
-pub word-cons : {t : List ℕ} (s b : ℕ) (P Q : List ℕ → Type 0) → b < 256 → ((w : List ℕ) → Q w → P (b ∷ w)) → Word t (next t s b) Q → Word t s P
-word-cons s b P Q h f m = record { word = b ∷ m .word; hits = hits-cons s b h (m .hits); good = f (m .word) (m .good) }
+pub word-cons : {t : List ℕ} (s b : ℕ) (P Q : List ℕ → Type 0) → b < 256 → ((w : List ℕ) → Q w → P (b ∷ w)) → Accepts t (next t s b) Q → Accepts t s P
+word-cons s b P Q h f m = record { string = b ∷ m .string; hits = hits-cons s b h (m .hits); good = f (m .string) (m .good) }
 
-pub word-map : {t : List ℕ} {s : ℕ} (P Q : List ℕ → Type 0) → ((w : List ℕ) → P w → Q w) → Word t s P → Word t s Q
-word-map P Q f m = record { word = m .word; hits = m .hits; good = f (m .word) (m .good) }
+pub word-map : {t : List ℕ} {s : ℕ} (P Q : List ℕ → Type 0) → ((w : List ℕ) → P w → Q w) → Accepts t s P → Accepts t s Q
+word-map P Q f m = record { string = m .string; hits = m .hits; good = f (m .string) (m .good) }
 
-pub word-any : {t : List ℕ} {s : ℕ} (P : List ℕ → Type 0) → Word t s P → CanMatch t s
-word-any P m = record { word = m .word; hits = m .hits; good = tt }
+pub word-any : {t : List ℕ} {s : ℕ} (P : List ℕ → Type 0) → Accepts t s P → CanMatch t s
+word-any P m = record { string = m .string; hits = m .hits; good = tt }
 
-pub word-cases : {t : List ℕ} {s : ℕ} (P : List ℕ → Type 0) (C : Type 0) → (flag t s ≡ 1 → P [] → C) → ((b : ℕ) (w : List ℕ) → b < 256 → Hits t (next t s b) w → P (b ∷ w) → C) → Word t s P → C
+pub word-cases : {t : List ℕ} {s : ℕ} (P : List ℕ → Type 0) (C : Type 0) → (flag t s ≡ 1 → P [] → C) → ((b : ℕ) (w : List ℕ) → b < 256 → Hits t (next t s b) w → P (b ∷ w) → C) → Accepts t s P → C
 unfolding run
-word-cases {t} {s} P C f g m = go (m .word) (m .hits) (m .good)
+word-cases {t} {s} P C f g m = go (m .string) (m .hits) (m .good)
   where
     go : (w : List ℕ) → Hits t s w → P w → C
     go [] h p = f (h .ends) p
     go (b ∷ w) h p = let (l, i) = hits-tail s b h in g b w l i p
 
 -- a byte of a range, and any string after it
-pub byte-word : {t : List ℕ} {s lo hi : ℕ} (P : List ℕ → Type 0) → hi ≤ 256 → ((b : ℕ) (w : List ℕ) → lo ≤ b → b < hi → P (b ∷ w)) → LiveByte t s lo hi → Word t s P
+pub byte-word : {t : List ℕ} {s lo hi : ℕ} (P : List ℕ → Type 0) → hi ≤ 256 → ((b : ℕ) (w : List ℕ) → lo ≤ b → b < hi → P (b ∷ w)) → LiveByte t s lo hi → Accepts t s P
 byte-word {s = s} P l f y = word-cons s (y .byte) P (λ w. Unit {0}) (omega (arith, y .high)) (λ w u. f (y .byte) w (y .low) (y .high)) (y .rest)
 
 -- ---- can match
 pub can-match-hits : {t : List ℕ} {s : ℕ} {w : List ℕ} → Hits t s w → CanMatch t s
-can-match-hits {w = w} h = record { word = w; hits = h; good = tt }
+can-match-hits {w = w} h = record { string = w; hits = h; good = tt }
 
 pub can-match-here : {t : List ℕ} {s : ℕ} → flag t s ≡ 1 → CanMatch t s
 can-match-here e = can-match-hits (hits-nil e)

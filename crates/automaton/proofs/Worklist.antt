@@ -135,7 +135,7 @@ module _ {t : List ℕ} where
   pub work-done : {f : ℕ} → WellFormed t → Work t f 0 → Reach t f
   work-done wf i = record {
     up = λ q hq e. i .sound q e;
-    down = λ q hq m. all-found wf i (m .word) q hq (m .hits .bytes) (m .hits .ends);
+    down = λ q hq m. all-found wf i (m .string) q hq (m .hits .bytes) (m .hits .ends);
   }
 
   -- ---- the accepting states, where none is there or no other

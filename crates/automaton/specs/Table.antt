@@ -1,4 +1,4 @@
--- Document 01's automaton: m 1 byte, m accept flags (0 or 1), m × 256 next states; and rows 21, 22 and 23.
+-- The automaton's table (SPECIFICATION 3.6): its number of states, a flag for each, a row of next states for each; and rows 21 to 23.
 use Prim.Native.Nat.{ℕ, _+_, _*_, _≤_, _<_}
 use mathlib.Core.Path.{_≡_}
 use mathlib.Core.List.{List, [], _∷_}
@@ -23,7 +23,7 @@ unfoldable pub anyFrom : ℕ → List ℕ → Bool
 anyFrom bound [] = false
 anyFrom bound (x ∷ xs) = leb bound x || anyFrom bound xs
 
--- rows 21 (empty, m outside 1..64 or length not 1 + 257 × m), 22 (a flag above 1) and 23 (a next state ≥ m); 0 where none is hit
+-- rows 21 (the number of states, the length), 22 (the flags) and 23 (the next states), SPECIFICATION 13.21 to 13.23; 0 where none is hit
 unfoldable pub tableNo : List ℕ → ℕ
 tableNo t =
     cond (ltb (states t) 1 || (ltb 64 (states t) || not (eqb (length t) (1 + 257 * states t)))) 21

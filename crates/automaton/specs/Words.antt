@@ -1,4 +1,4 @@
--- What an automaton accepts: state 0 starts; a byte string that leads from it to a flag 1 is accepted.
+-- What an automaton accepts (SPECIFICATION 11.1): the byte strings whose run from state 0 ends in a state with flag 1.
 use Prim.Native.Nat.{ℕ, _<_}
 use mathlib.Core.Path.{_≡_}
 use mathlib.Core.List.{List, [], _∷_}
@@ -21,14 +21,14 @@ pub record Hits (t : List ℕ) (s : ℕ) (w : List ℕ) : Type 0 where
   pub ends : flag t (run t s w) ≡ 1
 
 -- some byte string of which P holds leads from s to acceptance
-pub record Word (t : List ℕ) (s : ℕ) (P : List ℕ → Type 0) : Type 0 where
-  pub word : List ℕ
-  pub hits : Hits t s word
-  pub good : P word
+pub record Accepts (t : List ℕ) (s : ℕ) (P : List ℕ → Type 0) : Type 0 where
+  pub string : List ℕ
+  pub hits : Hits t s string
+  pub good : P string
 
--- `can_match`: an accepting state can be reached from s in zero or more steps
+-- `can_match` (SPECIFICATION 11.2): some byte string leads from s to acceptance
 abbrev pub CanMatch : List ℕ → ℕ → Type 0
-CanMatch t s = Word t s (λ w. Unit {0})
+CanMatch t s = Accepts t s (λ w. Unit {0})
 
 -- bit s of the word is set exactly when s can match, for every state
 pub record Reach (t : List ℕ) (word : ℕ) : Type 0 where

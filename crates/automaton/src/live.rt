@@ -59,7 +59,8 @@ fn end_of_eight(table: &[u8], reach: u64, at: usize) -> usize
     j
 }
 
-// The lowest byte that leads on from a state; 256 where there is none. Eight next states that equal eight that lead nowhere are passed over.
+// The lowest byte that leads on from a state; 256 where there is none. Eight next states that equal eight that lead
+// nowhere are passed over.
 fn first_byte(table: &[u8], reach: u64, state: usize) -> u16
     requires { ⌜ WellFormed (now table) × Reach (now table) reach × (state < states (now table)) ⌝ }
     ensures { λ r. ⌜ FirstLive (now (table .entry)) state r ⌝ }

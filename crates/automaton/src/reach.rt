@@ -3,6 +3,7 @@ use crate::bits::is_set;
 use crate::bits::lowest;
 use crate::bits::without_lowest;
 ghost use mathlib.Core.Path.{_≡_};
+ghost use mathlib.Core.List.{List};
 ghost use Prim.Native.Nat.{ℕ, _+_, _-_, _*_, _^_, _≤_, _<_};
 ghost use lib.Bits.{bitAnd, bitOr};
 ghost use lib.ListN.{length, getD};
@@ -56,8 +57,8 @@ fn repeats(table: &[u8], at: usize, last: u64) -> bool
     differ == 0
 }
 
-// The word of the next states that stand in the 256 bytes from `at` on. Those that repeat the eight looked at last are in it: 64 of them are passed at once.
-// The rest isn't looked at once the word has a bit of `wanted`.
+// The word of the next states that stand in the 256 bytes from `at` on. Those that repeat the eight looked at last are in
+// it: 64 of them are passed at once. The rest isn't looked at once the word has a bit of `wanted`.
 fn next_states(table: &[u8], at: usize, wanted: u64) -> u64
     requires { ⌜ (at + 256 ≤ length (now table)) × ((b : ℕ) → b < 256 → getD (now table) (at + b) 0 < 64) ⌝ }
     ensures { λ r. ⌜ (bitAnd r wanted ≡ 0 → (b : ℕ) → b < 256 → bit r (getD (now (table .entry)) (at + b) 0) ≡ 1) ⌝ }
@@ -88,7 +89,8 @@ fn next_states(table: &[u8], at: usize, wanted: u64) -> u64
 pub fn successors(table: &[u8]) -> [u64; 64]
     requires { ⌜ WellFormed (now table) ⌝ }
     ensures { λ r. ⌜ ((p b : ℕ) → p < states (now (table .entry)) → b < 256 → bit (getD r p 0) (next (now (table .entry)) p b) ≡ 1) ⌝ }
-    ensures { λ r. ⌜ ((p s : ℕ) → p < states (now (table .entry)) → bit (getD r p 0) s ≡ 1 → (b : ℕ) × (b < 256) × (next (now (table .entry)) p b ≡ s)) ⌝ }
+    ensures { λ r. ⌜ ((p s : ℕ) → p < states (now (table .entry)) → bit (getD r p 0) s ≡ 1
+        → (b : ℕ) × (b < 256) × (next (now (table .entry)) p b ≡ s)) ⌝ }
 {
     let m = table[0] as usize;
     let mut words: [u64; 64] = [0; 64];
@@ -124,14 +126,18 @@ fn mark(words: &mut [u64; 64], states: u64, p: usize)
     }
 }
 
-// Looks at the rows of the states of `unfound`, the lowest first, and gives the states found by it. A state with a next state that is found is found itself,
-// and its row isn't looked at any further; of any other each next state keeps that it leads there.
+// Looks at the rows of the states of `unfound`, the lowest first, and gives the states found by it. A state with a next
+// state that is found is found itself, and its row isn't looked at any further; of any other each next state keeps that
+// it leads there.
 fn first_look(table: &[u8], accepting: u64, unfound: u64, before: &mut [u64; 64]) -> u64
-    requires { ⌜ WellFormed (now table) × (accepting < 2 ^ states (now table)) × (unfound < 2 ^ states (now table)) × ((s : ℕ) → bit accepting s ≡ 1 → CanMatch (now table) s) ⌝ }
+    requires { ⌜ WellFormed (now table) × (accepting < 2 ^ states (now table)) × (unfound < 2 ^ states (now table))
+        × ((s : ℕ) → bit accepting s ≡ 1 → CanMatch (now table) s) ⌝ }
     requires { ⌜ (length (now before) ≡ 64) × ((s : ℕ) → getD (now before) s 0 ≡ 0) ⌝ }
-    ensures { λ r. ⌜ (r < 2 ^ states (now (table .entry))) × ((s : ℕ) → bit accepting s ≡ 1 → bit r s ≡ 1) × ((s : ℕ) → bit r s ≡ 1 → CanMatch (now (table .entry)) s) ⌝ }
+    ensures { λ r. ⌜ (r < 2 ^ states (now (table .entry))) × ((s : ℕ) → bit accepting s ≡ 1 → bit r s ≡ 1)
+        × ((s : ℕ) → bit r s ≡ 1 → CanMatch (now (table .entry)) s) ⌝ }
     ensures { λ _. ⌜ ((s : ℕ) → getD (now (before .exit)) s 0 < 2 ^ states (now (table .entry))) ⌝ }
-    ensures { λ r. ⌜ ((p b : ℕ) → bit unfound p ≡ 1 → bit r p ≡ 0 → b < 256 → bit (getD (now (before .exit)) (next (now (table .entry)) p b) 0) p ≡ 1) ⌝ }
+    ensures { λ r. ⌜ ((p b : ℕ) → bit unfound p ≡ 1 → bit r p ≡ 0 → b < 256
+        → bit (getD (now (before .exit)) (next (now (table .entry)) p b) 0) p ≡ 1) ⌝ }
     ensures { λ _. ⌜ ((p s : ℕ) → bit (getD (now (before .exit)) s 0) p ≡ 1 → (b : ℕ) × (b < 256) × (next (now (table .entry)) p b ≡ s)) ⌝ }
 {
     let m = table[0] as usize;
@@ -174,10 +180,12 @@ pub fn reach(table: &[u8]) -> u64
     found
 }
 
-// Whether a state can match, by the word of those that can.
+// Whether a state can match, by the word of those that can: true exactly when acceptance can be reached from it in the
+// table whose word this is.
 pub fn can_match(word: u64, state: usize) -> bool
     requires { ⌜ state < 64 ⌝ }
     ensures { λ r. ⌜ Exactly r (bit word state ≡ 1) ⌝ }
+    ensures { λ r. ⌜ ((t : List ℕ) → Reach t word → state < states t → Exactly r (CanMatch t state)) ⌝ }
 {
     is_set(word, state)
 }

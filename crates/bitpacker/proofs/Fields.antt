@@ -8,8 +8,8 @@ use lib.ListN.{length, take, getD}
 use lib.Pow.{pow-add, field, mod-mod-pow, shr-shr, high, low}
 use lib.Dec.{lit<}
 use lib.Seq.{ext-getD, take-all, take-length}
-use Rattle.serialize.specs.Digits.{ofDigits, leVal, leBytes, Below}
-use Rattle.serialize.proofs.Digits.{ofDigits-suc, ofDigits-take, ofDigits-digits, ofDigits-digit, sub-field}
+use Rattle.serialize.specs.Digits.{ofDigits, leVal, leBytes, DigitsBelow}
+use Rattle.serialize.proofs.Digits.{ofDigits-suc, ofDigits-take, ofDigits-digitsOf, ofDigits-digit, sub-field}
 use Rattle.bitpacker.specs.Bits.{bytesOf}
 use Rattle.bitpacker.specs.Fields.{groupVal, rangeBit, ordinalBit, groupBits}
 use Rattle.bitpacker.proofs.Words.{join-lt}
@@ -91,20 +91,20 @@ pairs-val k r (x ∷ rs) [] =
 pairs-val k r (x ∷ rs) (y ∷ os) = rw (pairs-val k r rs os) (shuffle (ofDigits k os) (2 ^ r) (2 ^ k) (ofDigits k rs) y x)
 
 -- a field of the number N is what a reader finds in bytes that begin with N's
-pub read-written : (l : List ℕ) (b N at n : ℕ) → Below 8 l → take (bytesOf b) l ≡ leBytes (bytesOf b) N → at + n ≤ b
+pub read-written : (l : List ℕ) (b N at n : ℕ) → DigitsBelow 8 l → take (bytesOf b) l ≡ leBytes (bytesOf b) N → at + n ≤ b
     → leVal l / 2 ^ at % 2 ^ n ≡ N / 2 ^ at % 2 ^ n
 read-written l b N at n h e k =
     let m = bytesOf b in
-    let low : leVal l % 2 ^ (8 * m) ≡ N % 2 ^ (8 * m) = sym (ofDigits-take 8 m l h) ∙ ap leVal e ∙ ofDigits-digits 8 m N in
+    let low : leVal l % 2 ^ (8 * m) ≡ N % 2 ^ (8 * m) = sym (ofDigits-take 8 m l h) ∙ ap leVal e ∙ ofDigits-digitsOf 8 m N in
     sym (sub-field (leVal l) at n (8 * m) (omega arith))
     ∙ ap (λ (x : ℕ). x / 2 ^ at % 2 ^ n) low
     ∙ sub-field N at n (8 * m) (omega arith)
 
-module _ (r o : ℕ) (rs os : List ℕ) (hr : Below r rs) (ho : Below o os) where
+module _ (r o : ℕ) (rs os : List ℕ) (hr : DigitsBelow r rs) (ho : DigitsBelow o os) where
   -- the joint field i
   joint : (i : ℕ) → groupVal r o rs os / 2 ^ rangeBit r o i % 2 ^ (o + r) ≡ getD os i 0 * 2 ^ r + getD rs i 0
   joint i =
-      let fit : Below (r + o) (pairs r rs os) =
+      let fit : DigitsBelow (r + o) (pairs r rs os) =
       λ j. rw (pairs-at r rs os j, add-comm r o) (join-lt (getD os j 0) o (getD rs j 0) r (ho j) (hr j)) in
       ap (λ (x : ℕ). x / 2 ^ ((r + o) * i) % 2 ^ (o + r)) (sym (pairs-val (r + o) r rs os))
       ∙ ap (λ (x : ℕ). ofDigits (r + o) (pairs r rs os) / 2 ^ ((r + o) * i) % 2 ^ x) (add-comm o r)
@@ -141,7 +141,7 @@ module _ (r o : ℕ) (rs os : List ℕ) (hr : Below r rs) (ho : Below o os) wher
       rw (take-all (suc (length os)) rs (omega arith), take-length os) at (half-lt (length os) (pairs-lt (length os)))
 
   -- bytes that begin with the group's give each field back
-  pub group-read-back : (l : List ℕ) (i : ℕ) → Below 8 l
+  pub group-read-back : (l : List ℕ) (i : ℕ) → DigitsBelow 8 l
       → take (bytesOf (groupBits r o (length os))) l ≡ leBytes (bytesOf (groupBits r o (length os))) (groupVal r o rs os)
       → (i ≤ length os → leVal l / 2 ^ rangeBit r o i % 2 ^ r ≡ getD rs i 0) × (i < length os → leVal l / 2 ^ ordinalBit r o i % 2 ^ o ≡ getD os i 0)
   group-read-back l i h e = (
@@ -150,7 +150,7 @@ module _ (r o : ℕ) (rs os : List ℕ) (hr : Below r rs) (ho : Below o os) wher
   )
 
 -- equal numbers mean equal fields
-pub group-inj : (r o : ℕ) (rs rs′ os os′ : List ℕ) → Below r rs → Below r rs′ → Below o os → Below o os′ → length rs ≡ length rs′ → length os ≡ length os′
+pub group-inj : (r o : ℕ) (rs rs′ os os′ : List ℕ) → DigitsBelow r rs → DigitsBelow r rs′ → DigitsBelow o os → DigitsBelow o os′ → length rs ≡ length rs′ → length os ≡ length os′
     → groupVal r o rs os ≡ groupVal r o rs′ os′ → (rs ≡ rs′) × (os ≡ os′)
 group-inj r o rs rs′ os os′ hr hr′ ho ho′ lr lo e = (
   ext-getD 0 rs rs′ lr (λ i _. sym (group-read-range r o rs os hr ho i) ∙ ap (λ (x : ℕ). x / 2 ^ rangeBit r o i % 2 ^ r) e ∙ group-read-range r o rs′ os′ hr′ ho′ i),

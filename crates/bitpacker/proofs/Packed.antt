@@ -8,13 +8,13 @@ use lib.Dec.{lit<}
 use lib.ListN.{length, take}
 use lib.Pow.{pow-add, pow-pos, shr-lt, shr-shr}
 use lib.Seq.{sets, length-sets}
-use Rattle.serialize.specs.Digits.{digits, leBytes}
-use Rattle.serialize.proofs.Digits.{length-digits, digits-add}
+use Rattle.serialize.specs.Digits.{digitsOf, leBytes}
+use Rattle.serialize.proofs.Digits.{length-digitsOf, digitsOf-add}
 use Rattle.serialize.proofs.Stores.{sets-append, sets-part}
 use Rattle.bitpacker.specs.declared.BitPacker.{BitPacker}
 use Rattle.bitpacker.specs.Bits.{bytesOf}
 use Rattle.bitpacker.specs.Packer.{Waiting, joinedTo, wordsOf, leaving, packedWith}
-use Rattle.bitpacker.proofs.Words.{low-digits, joined-lt}
+use Rattle.bitpacker.proofs.Words.{low-digitsOf, joined-lt}
 
 -- p took b bits that spell N; d is the output as it was, and l as it is
 pub record Packed (d l : List ℕ) (p : BitPacker) (b N : ℕ) : Type 0 where
@@ -24,7 +24,7 @@ pub record Packed (d l : List ℕ) (p : BitPacker) (b N : ℕ) : Type 0 where
   pub rest : p .buffer ≡ N / 2 ^ (8 * p .written)
 
 pub packed-new : (d : List ℕ) {p : BitPacker} → (p .buffer ≡ 0) × (p .filled ≡ 0) × (p .written ≡ 0) → Packed d d p 0 0
-unfolding digits
+unfolding digitsOf
 packed-new d {p} e = record {
   waiting = record { few = omega arith; low = rw (e .0, e .1) (lit< tt) };
   count = omega arith;
@@ -36,9 +36,9 @@ packed-new d {p} e = record {
 more-bytes : (d : List ℕ) (w j N M : ℕ) → M % 2 ^ (8 * w) ≡ N % 2 ^ (8 * w)
     → sets (sets d 0 (leBytes w N)) w (leBytes j (M / 2 ^ (8 * w))) ≡ sets d 0 (leBytes (w + j) M)
 more-bytes d w j N M e =
-    let low : leBytes w N ≡ leBytes w M = sym (low-digits 8 w N) ∙ ap (digits 8 w) (sym e) ∙ low-digits 8 w M in
+    let low : leBytes w N ≡ leBytes w M = sym (low-digitsOf 8 w N) ∙ ap (digitsOf 8 w) (sym e) ∙ low-digitsOf 8 w M in
     let run = sets-append d (leBytes w M) (leBytes j (M / 2 ^ (8 * w))) 0 in
-    rw (low, digits-add 8 w j M) (rw (zero-add (length (leBytes w M)), length-digits 8 w M) at run)
+    rw (low, digitsOf-add 8 w j M) (rw (zero-add (length (leBytes w M)), length-digitsOf 8 w M) at run)
 
 module _ {d l : List ℕ} {p : BitPacker} {b N : ℕ} (k : Packed d l p b N) where
   pub packed-length : length l ≡ length d
@@ -101,5 +101,5 @@ module _ {d l : List ℕ} {p : BitPacker} {b N : ℕ} (k : Packed d l p b N) whe
 -- what `flush` leaves, as a reader finds it
 pub packed-front : (d : List ℕ) (b N : ℕ) → b ≤ 8 * length d → take (bytesOf b) (sets d 0 (leBytes (bytesOf b) N)) ≡ leBytes (bytesOf b) N
 packed-front d b N room =
-    let e = length-digits 8 (bytesOf b) N in
+    let e = length-digitsOf 8 (bytesOf b) N in
     rw e at (sets-part d (leBytes (bytesOf b) N) 0 (omega arith))

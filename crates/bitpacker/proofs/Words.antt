@@ -6,13 +6,13 @@ use native.Mathlib.Omega.{arith}
 use lib.Arith.{digits-lt}
 use lib.Bits.{bitOr, or-shifted-r}
 use lib.Pow.{pow-pos, pow-add, mod-pow-add, high, low, shr-shr}
-use Rattle.serialize.specs.Digits.{digits}
-use Rattle.serialize.proofs.Digits.{length-digits, ofDigits-digits, digits-ofDigits, digits-below}
+use Rattle.serialize.specs.Digits.{digitsOf}
+use Rattle.serialize.proofs.Digits.{length-digitsOf, ofDigits-digitsOf, digitsOf-ofDigits, digitsOf-below}
 
 -- the w digits of a number are those of its w * k low bits
-pub low-digits : (k w v : ℕ) → digits k w (v % 2 ^ (k * w)) ≡ digits k w v
-low-digits k w v =
-    rw (length-digits k w v, ofDigits-digits k w v) at (digits-ofDigits k (digits k w v) (digits-below k w v))
+pub low-digitsOf : (k w v : ℕ) → digitsOf k w (v % 2 ^ (k * w)) ≡ digitsOf k w v
+low-digitsOf k w v =
+    rw (length-digitsOf k w v, ofDigits-digitsOf k w v) at (digitsOf-ofDigits k (digitsOf k w v) (digitsOf-below k w v))
 
 joined-mod : (m v f g : ℕ) → m < 2 ^ f → (m + v * 2 ^ f) % 2 ^ (g + f) ≡ v % 2 ^ g * 2 ^ f + m
 joined-mod m v f g h = rw (add-comm m (v * 2 ^ f), mod-pow-add (v * 2 ^ f + m) g f, high v f h, low v f h) refl

@@ -4,7 +4,7 @@ use mathlib.Core.Bool.{cond}
 use lib.Dec.{leb}
 use lib.Count.{leadingZeros}
 
--- `compute_num_bits`: 64 minus leading zeros, if at most 56, else 64
+-- `compute_num_bits` (SPECIFICATION 6.7): a number's bits; 64 for every number that has more than 56
 unfoldable pub numBits : ℕ → ℕ
 numBits x = cond (leb (64 - leadingZeros 64 x) 56) (64 - leadingZeros 64 x) 64
 

@@ -1,4 +1,4 @@
--- A group's fields as one number (document 01: range then ordinal for blocks 1.., then the last end), and where each stands in it.
+-- A group's fields as one number (SPECIFICATION 6.9), range and ordinal in turn and a range at the end, and where each stands in it.
 use Prim.Native.Nat.{ℕ, _+_, _*_, _^_}
 use mathlib.Core.List.{List}
 use Rattle.serialize.specs.Digits.{ofDigits}

@@ -87,8 +87,10 @@ impl BitPacker {
 
     // Appends a field of `num_bits` bits.
     pub fn write(self, value: u64, num_bits: u8, out: &mut [u8]) -> BitPacker
-        requires { ⌜ Waiting self × («num_bits» ≤ 56) × (value < 2 ^ «num_bits») × (8 * self .written + self .filled + «num_bits» ≤ 8 * length (now out)) ⌝ }
-        ensures { λ r. ⌜ (r ≡ packedWith self value «num_bits») × (now (out .exit) ≡ sets (now (out .entry)) (self .written) (leaving self value «num_bits»)) ⌝ }
+        requires { ⌜ Waiting self × («num_bits» ≤ 56) × (value < 2 ^ «num_bits»)
+            × (8 * self .written + self .filled + «num_bits» ≤ 8 * length (now out)) ⌝ }
+        ensures { λ r. ⌜ (r ≡ packedWith self value «num_bits»)
+            × (now (out .exit) ≡ sets (now (out .entry)) (self .written) (leaving self value «num_bits»)) ⌝ }
     {
         let filled = self.filled;
         let written = self.written;
@@ -112,7 +114,8 @@ impl BitPacker {
     // Writes what waits, the last byte filled with zeros. Returns how many bytes there are.
     pub fn flush(self, out: &mut [u8]) -> usize
         requires { ⌜ Waiting self × (self .written + bytesOf (self .filled) ≤ length (now out)) ⌝ }
-        ensures { λ r. ⌜ (r ≡ self .written + bytesOf (self .filled)) × (now (out .exit) ≡ sets (now (out .entry)) (self .written) (leBytes (bytesOf (self .filled)) (self .buffer))) ⌝ }
+        ensures { λ r. ⌜ (r ≡ self .written + bytesOf (self .filled))
+            × (now (out .exit) ≡ sets (now (out .entry)) (self .written) (leBytes (bytesOf (self .filled)) (self .buffer))) ⌝ }
     {
         let written = self.written;
         let num_bytes = (self.filled + 7) / 8;

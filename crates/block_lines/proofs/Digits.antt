@@ -46,6 +46,13 @@ length-decimal (suc k) (suc fuel) n rest h =
     (λ e. rw e (let q : n < 10 ^ suc k * 10 = rw pow-suc at h in
     omega (arith, length-decimal k fuel (n / 10) ((48 + n % 10) ∷ rest) (omega arith))))
 
+-- no more digits than the fuel lets it have
+pub length-fuel : (fuel n : ℕ) (rest : List ℕ) → length (decimalBefore fuel n rest) ≤ suc fuel + length rest
+unfolding decimalBefore
+length-fuel zero n rest = omega arith
+length-fuel (suc fuel) n rest =
+    by-test (ltb n 10) (λ e. rw e (omega arith)) (λ e. rw e (omega (arith, length-fuel fuel (n / 10) ((48 + n % 10) ∷ rest))))
+
 -- while two digits are left there is a place for the next, and those left fit the places left
 pub places-left : (first rest : ℕ) → rest < 10 ^ (first + 1) → 10 ≤ rest → (0 < first) × (rest / 10 < 10 ^ (first - 1 + 1))
 places-left zero rest h many = absurd (let z : ⊥ = omega arith in z)

@@ -3,8 +3,8 @@ use mathlib.Core.Path.{_≡_}
 use mathlib.Core.List.{List}
 use Prim.Native.Nat.{ℕ, _*_, _+_, _≤_, _<_}
 use native.Mathlib.Omega.{arith}
-use borrow.Author.Needs.{needs}
 use lib.ListN.{length, drop, length-take}
+use Rattle.layout.specs.Layout.{storeBlockLen}
 use Rattle.group.specs.Legal.{NumbersOk}
 use Rattle.directory.specs.Read.{keyOffset, keyLength}
 use Rattle.index.specs.declared.SSTableIndexV3.{SSTableIndexV3}
@@ -17,15 +17,15 @@ use Rattle.index.proofs.LookupLaws.{opened-legal, place-separator}
 use Rattle.block_lines.specs.Lines.{lineOf}
 use Rattle.block_lines.proofs.Written.{line-short}
 
-module _ (f : List ℕ) (opened : SSTableIndexV3) (o : Opens 128 f opened) (id : ℕ) (h : id < opened .n) where
-  facts : OpenFacts 128 f opened
-  facts = opens-facts 128 f opened (search needs) o
+module _ (f : List ℕ) (opened : SSTableIndexV3) (o : Opens f opened) (id : ℕ) (h : id < opened .n) where
+  facts : OpenFacts storeBlockLen f opened
+  facts = opens-facts f opened o
 
   pub id-small : id < 65536
   id-small = omega (arith, facts .count, facts .few)
 
-  pub block-small : NumbersOk (blockIn 128 f id)
-  block-small = opened-legal 128 f opened facts .numbers id h
+  pub block-small : NumbersOk (blockIn storeBlockLen f id)
+  block-small = opened-legal storeBlockLen f opened facts .numbers id h
 
   pub separator-small : length (separatorIn f id) ≤ 1024
   unfolding separatorIn
@@ -37,8 +37,8 @@ module _ (f : List ℕ) (opened : SSTableIndexV3) (o : Opens 128 f opened) (id :
         facts .rules .pairs .short id (rw (facts .count) at h),
       )
 
-  pub separator-is : partAt f (placeDef 128 opened f id) ≡ separatorIn f id
-  separator-is = place-separator 128 f opened facts id h
+  pub separator-is : partAt f (placeDef opened f id) ≡ separatorIn f id
+  separator-is = place-separator storeBlockLen f opened facts id h
 
-  pub line-fits : length (lineOf id (blockIn 128 f id) (separatorIn f id)) ≤ 2103
-  line-fits = line-short id (blockIn 128 f id) id-small block-small (separatorIn f id) separator-small
+  pub line-fits : length (lineOf id (blockIn storeBlockLen f id) (separatorIn f id)) ≤ 2103
+  line-fits = line-short id (blockIn storeBlockLen f id) id-small block-small (separatorIn f id) separator-small

@@ -1,5 +1,5 @@
--- The lines of document 01's program `blocks`: id, start, end, ordinal, separator in lower-case hex (an empty one as `-`), one
--- space between, a line per block.
+-- The lines of the program `blocks` (SPECIFICATION 14.1): four decimal numbers and the separator's text, each after a space but
+-- the first, and the line's end.
 use Prim.Native.Nat.{ℕ, zero, suc, _+_, _/_, _%_}
 use mathlib.Core.List.{List, [], _∷_, _++_}
 use mathlib.Core.Bool.{cond}

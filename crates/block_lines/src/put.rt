@@ -1,11 +1,12 @@
 // The parts of a line, each written from `at` on. Each writer returns where the next part goes.
 ghost use mathlib.Core.Path.{_≡_};
-ghost use mathlib.Core.List.{_∷_};
+ghost use mathlib.Core.List.{[], _∷_};
 ghost use Prim.Native.Nat.{_+_, _*_, _≤_, _<_};
 ghost use lib.ListN.{length, drop};
 ghost use lib.Seq.{sets};
 ghost use Rattle.group.specs.Legal.{NumbersOk};
 ghost use Rattle.block_lines.specs.Lines.{decimal, hexDigit, hex, separatorText, lineOf};
+ghost use Rattle.block_lines.specs.Text.{tooLongLine, refusedLine};
 use group::BlockAddr;
 
 // No number of 64 bits has more digits.
@@ -54,7 +55,8 @@ fn hex_digit(d: u8) -> u8
 
 fn put_hex(out: &mut [u8], at: usize, bytes: &[u8]) -> usize
     requires { ⌜ at + 2 * length (now bytes) ≤ length (now out) ⌝ }
-    ensures { λ r. ⌜ (r ≡ at + length (hex (now (bytes .entry)))) × (now (out .exit) ≡ sets (now (out .entry)) at (hex (now (bytes .entry)))) ⌝ }
+    ensures { λ r. ⌜ (r ≡ at + length (hex (now (bytes .entry))))
+        × (now (out .exit) ≡ sets (now (out .entry)) at (hex (now (bytes .entry)))) ⌝ }
 {
     let mut to = at;
     let mut i: usize = 0;
@@ -71,7 +73,8 @@ fn put_hex(out: &mut [u8], at: usize, bytes: &[u8]) -> usize
 // A space, and a separator behind it.
 fn put_separator(out: &mut [u8], at: usize, bytes: &[u8]) -> usize
     requires { ⌜ at + 2 * length (now bytes) + 2 ≤ length (now out) ⌝ }
-    ensures { λ r. ⌜ (r ≡ at + length (32 ∷ separatorText (now (bytes .entry)))) × (now (out .exit) ≡ sets (now (out .entry)) at (32 ∷ separatorText (now (bytes .entry)))) ⌝ }
+    ensures { λ r. ⌜ (r ≡ at + length (32 ∷ separatorText (now (bytes .entry))))
+        × (now (out .exit) ≡ sets (now (out .entry)) at (32 ∷ separatorText (now (bytes .entry)))) ⌝ }
 {
     out[at] = b' ';
     if bytes.len() == 0 {
@@ -79,6 +82,15 @@ fn put_separator(out: &mut [u8], at: usize, bytes: &[u8]) -> usize
         return at + 2;
     }
     put_hex(out, at + 1, bytes)
+}
+
+// A line's end.
+fn put_end(out: &mut [u8], at: usize) -> usize
+    requires { ⌜ at < length (now out) ⌝ }
+    ensures { λ r. ⌜ (r ≡ at + 1) × (now (out .exit) ≡ sets (now (out .entry)) at (10 ∷ [])) ⌝ }
+{
+    out[at] = b'\n';
+    at + 1
 }
 
 // Writes a line to the front of `out`. Returns its length.
@@ -92,6 +104,23 @@ pub fn put_line(out: &mut [u8], id: usize, block: BlockAddr, separator: &[u8]) -
     at = put_number(out, at, block.end);
     at = put_number(out, at, block.first_ordinal);
     at = put_separator(out, at, separator);
-    out[at] = b'\n';
-    at + 1
+    put_end(out, at)
+}
+
+// Writes the line of an input that is too long to the front of `out`. Returns its length.
+pub fn put_too_long(out: &mut [u8]) -> usize
+    requires { ⌜ 2103 ≤ length (now out) ⌝ }
+    ensures { λ r. ⌜ (r ≡ length tooLongLine) × (now (out .exit) ≡ sets (now (out .entry)) 0 tooLongLine) ⌝ }
+{
+    bytes::copy(b"too long\n", out)
+}
+
+// Writes the line of a refusal to the front of `out`. Returns its length.
+pub fn put_refusal(out: &mut [u8], row: u32) -> usize
+    requires { ⌜ 2103 ≤ length (now out) ⌝ }
+    ensures { λ r. ⌜ (r ≡ length (refusedLine row)) × (now (out .exit) ≡ sets (now (out .entry)) 0 (refusedLine row)) ⌝ }
+{
+    let mut at = bytes::copy(b"refused ", out);
+    at = put_decimal(out, at, row as u64);
+    put_end(out, at)
 }

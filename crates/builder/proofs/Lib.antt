@@ -1,12 +1,8 @@
 pub mod Views
 pub mod Numbers
-pub mod Entries
-pub mod Machine
-pub mod Rules
 pub mod OneByte
-pub mod Indexed
 pub mod Row8
+pub mod Touching
+pub mod IndexBytes
 pub mod IndexWritten
 pub mod FinishNumbers
-pub mod IndexBytes
-pub mod Finishing

@@ -11,15 +11,17 @@ use borrow.Author.Tests.{eqb-false}
 use Rattle.keys.specs.Shorten.{shorten}
 use Rattle.keys.proofs.Order.{by-test}
 use Rattle.keys.proofs.Shorten.{Raised, shorten-one-byte, sets-part, sets-part-one}
-use Rattle.builder.specs.Area.{stride, areaKeyOffset, areaKeyLen, areaView}
+use Rattle.builder.specs.View.{stride}
 use Rattle.builder.specs.Rows.{AreaOk}
+use Rattle.builder.specs.Area.{keyLenField, areaPlace, areaView}
 use Rattle.builder.specs.Calls.{shortBlocks, shortKeys}
-use Rattle.builder.proofs.Views.{next-some}
+use Rattle.builder.proofs.Views.{last-place}
 
-pub short-blocks-only : (n : ℕ) (B K next : List ℕ) (j : ℕ) → (j ≡ stride * (n - 1) + 4 → ⊥) → getD (shortBlocks n B K next) j 0 ≡ getD B j 0
+pub short-blocks-only : (n : ℕ) (B K next : List ℕ) (j : ℕ)
+    → (j ≡ stride * (n - 1) + keyLenField → ⊥) → getD (shortBlocks n B K next) j 0 ≡ getD B j 0
 unfolding shortBlocks
 short-blocks-only n B K next j h =
-    by-test (eqb n 0) (λ e. simp e) (λ e. simp e (getD-set-other B (stride * (n - 1) + 4) j _ 0 h))
+    by-test (eqb n 0) (λ e. simp e) (λ e. simp e (getD-set-other B (stride * (n - 1) + keyLenField) j _ 0 h))
 
 -- the byte at `place`, within the len bytes at `at`, is raised
 pub record OneRaised (at len : ℕ) (K K′ : List ℕ) : Type 0 where
@@ -39,7 +41,9 @@ module _ (K next : List ℕ) (at len : ℕ) (fits : at + len ≤ length K) where
         place = at + p;
         behind = omega arith;
         within = omega arith;
-        result = rw (r .result, take-take p len (drop at K) (omega arith), byte) (sets-part-one K at p (getD K (at + p) 0 + 1) (omega arith));
+        result =
+            rw (r .result, take-take p len (drop at K) (omega arith), byte)
+            (sets-part-one K at p (getD K (at + p) 0 + 1) (omega arith));
       }
 
   one-byte : (sets K at (shorten (take len (drop at K)) next) ≡ K) ⊎ OneRaised at len K (sets K at (shorten (take len (drop at K)) next))
@@ -50,9 +54,11 @@ module _ (K next : List ℕ) (at len : ℕ) (fits : at + len ≤ length K) where
       (shorten-one-byte (take len (drop at K)) next)
 
 pub short-keys-one-byte : (n : ℕ) (B K next : List ℕ) → AreaOk (areaView n B K)
-    → (shortKeys n B K next ≡ K) ⊎ OneRaised (areaKeyOffset B (n - 1)) (areaKeyLen B (n - 1)) K (shortKeys n B K next)
-unfolding shortKeys areaView
+    → (shortKeys n B K next ≡ K) ⊎ OneRaised (areaPlace B (n - 1) .offset) (areaPlace B (n - 1) .len) K (shortKeys n B K next)
+unfolding shortKeys
 short-keys-one-byte n B K next ok =
     by-test (eqb n 0)
     (λ e. simp e (inl refl))
-    (λ e. simp e (one-byte K next (areaKeyOffset B (n - 1)) (areaKeyLen B (n - 1)) (omega (arith, ok .within, next-some n B K (eqb-false n 0 e)))))
+    (λ e.
+    simp e
+    (one-byte K next (areaPlace B (n - 1) .offset) (areaPlace B (n - 1) .len) (last-place n B K ok (eqb-false n 0 e) .within)))

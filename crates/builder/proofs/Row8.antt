@@ -8,17 +8,19 @@ use native.Mathlib.Omega.{arith}
 use lib.Dec.{eqb}
 use lib.ListN.{length, length-take, length-drop}
 use borrow.Author.Tests.{eqb-true, eqb-false, eq-eqb, ne-eqb, not-false}
+use Rattle.layout.specs.Layout.{maxKeyLen}
 use Rattle.serialize.proofs.Tests.{neither}
 use Rattle.keys.proofs.Order.{by-test}
 use Rattle.group.specs.Legal.{Follows}
 use Rattle.directory.specs.Facts.{KeysArea}
-use Rattle.store.specs.Facts.{GroupLenOk, StoreArea}
-use Rattle.builder.specs.Area.{areaKeyOffset, areaKeyLen, areaBlock, areaKey, areaView, viewOf}
-use Rattle.builder.specs.Rows.{areaBad, AreaOk, blockNo}
-use Rattle.builder.specs.Finish.{offsetsBad, rulesBad, listNo}
+use Rattle.store.specs.Facts.{StoreArea}
+use Rattle.builder.specs.View.{stride}
+use Rattle.builder.specs.Rows.{recordBad, RecordOk, areaBad, AreaOk}
+use Rattle.builder.specs.Area.{keyField, areaBlock, areaPlace, areaKey, areaView, viewOf}
+use Rattle.builder.specs.Finish.{placeBad, ruleBad, placesBad, rulesBad, listNo}
 use Rattle.builder.specs.declared.SSTableIndexBuilder.{SSTableIndexBuilder}
 use Rattle.builder.proofs.Numbers.{BlockOk, block-ok}
-use Rattle.builder.proofs.Views.{area-ok, next-none, next-some, last-some}
+use Rattle.builder.proofs.Views.{record-ok, none-ok, area-ok, next-some, last-some, last-place}
 
 -- ---- a test of every block
 
@@ -51,84 +53,97 @@ module _ (bad test : ℕ → Bool) (turn : (m : ℕ) → bad (suc m) ≡ (bad m 
 
 module _ (B K : List ℕ) where
   -- where the key of block m ends
-  pub next-suc : (m : ℕ) → areaView (suc m) B K .nextKey ≡ areaKeyOffset B m + areaKeyLen B m
+  pub next-suc : (m : ℕ) → areaView (suc m) B K .nextKey ≡ areaPlace B m .offset + areaPlace B m .len
   next-suc m =
       let one : suc m - 1 ≡ m = omega arith in
-      next-some (suc m) B K (λ z. omega arith) ∙ ap (λ (k : ℕ). areaKeyOffset B k + areaKeyLen B k) one
+      next-some (suc m) B K (λ z. omega arith) ∙ ap (λ (k : ℕ). areaPlace B k .offset + areaPlace B k .len) one
 
-  pub next-one : (m : ℕ) → areaView (m + 1) B K .nextKey ≡ areaKeyOffset B m + areaKeyLen B m
+  pub next-one : (m : ℕ) → areaView (m + 1) B K .nextKey ≡ areaPlace B m .offset + areaPlace B m .len
   next-one m = rw (add-one m) (next-suc m)
+
+  -- the key of block m stands in the key area, where the blocks up to it keep row 1
+  pub place-one : (m : ℕ) → AreaOk (areaView (m + 1) B K) → RecordOk (length K) (areaPlace B m)
+  place-one m ok =
+      let one : m + 1 - 1 ≡ m = omega arith in
+      rw one at (last-place (m + 1) B K ok (λ z. omega arith))
 
   pub last-suc : (m : ℕ) → areaView (suc m) B K .last ≡ areaBlock B m
   last-suc m =
       let one : suc m - 1 ≡ m = omega arith in
       last-some (suc m) B K (λ z. omega arith) ∙ ap (areaBlock B) one
 
-  -- ---- the offsets
+  -- ---- the keys' places
 
-  pub offsets-hit : (m n : ℕ) → m < n → (areaKeyOffset B m ≡ areaView m B K .nextKey → ⊥) → true ≡ offsetsBad n B K
-  unfolding offsetsBad
-  offsets-hit m n h ne =
-      sym (some-hit (λ (k : ℕ). offsetsBad k B K) (λ (k : ℕ). not (eqb (areaKeyOffset B k) (areaView k B K .nextKey))) (λ k. refl) m n h (ap not (ne-eqb _ _ ne)))
+  pub offset-hit : (m n : ℕ) → m < n → (areaPlace B m .offset ≡ areaView m B K .nextKey → ⊥) → true ≡ placesBad n B K
+  unfolding placesBad
+  offset-hit m n h ne =
+      sym
+      (some-hit (λ (k : ℕ). placesBad k B K) (λ (k : ℕ). placeBad k B K) (λ k. refl) m n h (or-left _ _ (ap not (ne-eqb _ _ ne))))
 
-  pub offsets-next : (m : ℕ) → offsetsBad m B K ≡ false → areaKeyOffset B m ≡ areaView m B K .nextKey → offsetsBad (m + 1) B K ≡ false
-  unfolding offsetsBad
-  offsets-next m f e =
-      none-next (λ (k : ℕ). offsetsBad k B K) (λ (k : ℕ). not (eqb (areaKeyOffset B k) (areaView k B K .nextKey))) (λ k. refl) m f (ap not (eq-eqb _ _ e))
+  pub record-hit : (m n : ℕ) → m < n → recordBad (length K) (areaPlace B m) ≡ true → true ≡ placesBad n B K
+  unfolding placesBad
+  record-hit m n h t =
+      sym
+      (some-hit (λ (k : ℕ). placesBad k B K) (λ (k : ℕ). placeBad k B K) (λ k. refl) m n h
+      (or-right (not (eqb (areaPlace B m .offset) (areaView m B K .nextKey))) _ t))
 
-  pub offsets-at : (n : ℕ) → offsetsBad n B K ≡ false → (i : ℕ) → i < n → areaKeyOffset B i ≡ areaView i B K .nextKey
-  unfolding offsetsBad
-  offsets-at n f i h =
-      eqb-true (areaKeyOffset B i) (areaView i B K .nextKey)
-      (not-false _ (none-at (λ (k : ℕ). offsetsBad k B K) (λ (k : ℕ). not (eqb (areaKeyOffset B k) (areaView k B K .nextKey))) (λ k. refl) n f i h))
+  pub places-next : (m : ℕ) → placesBad m B K ≡ false → areaPlace B m .offset ≡ areaView m B K .nextKey
+      → recordBad (length K) (areaPlace B m) ≡ false → placesBad (m + 1) B K ≡ false
+  unfolding placesBad
+  places-next m f e t =
+      none-next (λ (k : ℕ). placesBad k B K) (λ (k : ℕ). placeBad k B K) (λ k. refl) m f
+      (rw (eq-eqb (areaPlace B m .offset) (areaView m B K .nextKey) e, t))
+
+  pub places-at : (n : ℕ) → placesBad n B K ≡ false → (i : ℕ) → i < n
+      → (areaPlace B i .offset ≡ areaView i B K .nextKey) × RecordOk (length K) (areaPlace B i)
+  unfolding placesBad
+  places-at n f i h =
+      let p = neither _ _ (none-at (λ (k : ℕ). placesBad k B K) (λ (k : ℕ). placeBad k B K) (λ k. refl) n f i h) in
+      (eqb-true (areaPlace B i .offset) (areaView i B K .nextKey) (not-false _ (p .0)), record-ok (length K) (areaPlace B i) (p .1))
 
   -- ---- rows 2 to 6
 
-  pub rules-hit : (m n : ℕ) → m < n → not (eqb (blockNo (areaView m B K) (areaKey B K m) (areaBlock B m)) 0) ≡ true → true ≡ rulesBad n B K
+  pub rules-hit : (m n : ℕ) → m < n → ruleBad m B K ≡ true → true ≡ rulesBad n B K
   unfolding rulesBad
-  rules-hit m n h t =
-      sym (some-hit (λ (k : ℕ). rulesBad k B K) (λ (k : ℕ). not (eqb (blockNo (areaView k B K) (areaKey B K k) (areaBlock B k)) 0)) (λ k. refl) m n h t)
+  rules-hit m n h t = sym (some-hit (λ (k : ℕ). rulesBad k B K) (λ (k : ℕ). ruleBad k B K) (λ k. refl) m n h t)
 
-  pub rules-next : (m : ℕ) → rulesBad m B K ≡ false → not (eqb (blockNo (areaView m B K) (areaKey B K m) (areaBlock B m)) 0) ≡ false → rulesBad (m + 1) B K ≡ false
+  pub rules-next : (m : ℕ) → rulesBad m B K ≡ false → ruleBad m B K ≡ false → rulesBad (m + 1) B K ≡ false
   unfolding rulesBad
-  rules-next m f t =
-      none-next (λ (k : ℕ). rulesBad k B K) (λ (k : ℕ). not (eqb (blockNo (areaView k B K) (areaKey B K k) (areaBlock B k)) 0)) (λ k. refl) m f t
+  rules-next m f t = none-next (λ (k : ℕ). rulesBad k B K) (λ (k : ℕ). ruleBad k B K) (λ k. refl) m f t
 
-  pub rules-at : (n : ℕ) → rulesBad n B K ≡ false → (i : ℕ) → i < n → BlockOk (areaView i B K) (areaKey B K i) (areaBlock B i)
+  pub rules-at : (n : ℕ) → rulesBad n B K ≡ false → (i : ℕ) → i < n
+      → BlockOk (areaView i B K) (areaKey B K i) (areaKey B K i) (areaBlock B i)
   unfolding rulesBad
   rules-at n f i h =
-      block-ok (areaView i B K) (areaKey B K i) (areaBlock B i)
-      (eqb-true _ 0 (not-false _ (none-at (λ (k : ℕ). rulesBad k B K) (λ (k : ℕ). not (eqb (blockNo (areaView k B K) (areaKey B K k) (areaBlock B k)) 0)) (λ k. refl) n f i h)))
+      let t = none-at (λ (k : ℕ). rulesBad k B K) (λ (k : ℕ). ruleBad k B K) (λ k. refl) n f i h in
+      block-ok (areaView i B K) (areaKey B K i) (areaKey B K i) (areaBlock B i) (eqb-true _ 0 (not-false _ t))
 
   -- ---- every front of the blocks fits the areas
 
-  module _ (n : ℕ) (offsets : offsetsBad n B K ≡ false) where
-    next-rises : (j m : ℕ) → m ≤ j → j ≤ n → areaView m B K .nextKey ≤ areaView j B K .nextKey
-    next-rises zero m h l =
-        let none : m ≡ 0 = omega arith in
-        omega (arith, next-none m B K none)
-    next-rises (suc j) m h l =
-        by-test (eqb m (suc j))
-        (λ t. rw (eqb-true m (suc j) t) (omega arith))
-        (λ t. omega (arith, next-rises j m (omega (arith, eqb-false m (suc j) t)) (omega arith), next-suc j, offsets-at n offsets j (omega arith)))
+  module _ (n : ℕ) (places : placesBad n B K ≡ false) where
+    front-place : (m : ℕ) → m ≤ n → RecordOk (areaView m B K .keyRoom) (areaView m B K .place)
+    unfolding areaView
+    front-place m h =
+        by-test (eqb m 0)
+        (λ e. rw e (none-ok (length K)))
+        (λ e. rw e (places-at n places (m - 1) (omega (arith, eqb-false m 0 e)) .1))
 
     pub front-ok : AreaOk (areaView n B K) → (m : ℕ) → m ≤ n → AreaOk (areaView m B K)
     unfolding areaView
     front-ok ok m h = record {
       few = omega (arith, ok .few);
       inside = omega (arith, ok .inside);
-      within = omega (arith, ok .within, next-rises n m h (omega arith));
+      last = front-place m h;
     }
 
-    pub key-inside : AreaOk (areaView n B K) → (i : ℕ) → i < n → areaKeyOffset B i + areaKeyLen B i ≤ length K
-    unfolding areaView
-    key-inside ok i h = omega (arith, front-ok ok (suc i) h .within, next-suc i)
+    pub key-inside : (i : ℕ) → i < n → areaPlace B i .offset + areaPlace B i .len ≤ length K
+    key-inside i h = places-at n places i h .1 .within
 
 -- ---- rows 1 and 8 aren't hit
 
 pub record ListOk (n : ℕ) (B K : List ℕ) : Type 0 where
   pub area : AreaOk (areaView n B K)
-  pub offsets : offsetsBad n B K ≡ false
+  pub places : placesBad n B K ≡ false
   pub rules : rulesBad n B K ≡ false
 
 pub list-ok : (b : SSTableIndexBuilder) (B K : List ℕ) → listNo b B K ≡ 0 → ListOk (b .n) B K
@@ -136,40 +151,40 @@ unfolding listNo
 list-ok b B K e =
     by-test (areaBad (viewOf b B K))
     (λ t. absurd (let z : _≡_ {A = ℕ} 1 0 = simp t at e in omega arith))
-    (λ t. by-test (offsetsBad (b .n) B K || rulesBad (b .n) B K)
+    (λ t. by-test (placesBad (b .n) B K || rulesBad (b .n) B K)
     (λ u. absurd (let z : _≡_ {A = ℕ} 8 0 = simp (t, u) at e in omega arith))
     (λ u.
-    let p = neither (offsetsBad (b .n) B K) (rulesBad (b .n) B K) u in
-    record { area = area-ok (viewOf b B K) t; offsets = p .0; rules = p .1 }))
+    let p = neither (placesBad (b .n) B K) (rulesBad (b .n) B K) u in
+    record { area = area-ok (viewOf b B K) t; places = p .0; rules = p .1 }))
 
 module _ (b : SSTableIndexBuilder) (B K : List ℕ) where
   pub list-area : areaBad (viewOf b B K) ≡ true → 1 ≡ listNo b B K
   unfolding listNo
   list-area e = simp e
 
-  pub list-offsets : areaBad (viewOf b B K) ≡ false → offsetsBad (b .n) B K ≡ true → 8 ≡ listNo b B K
+  pub list-places : areaBad (viewOf b B K) ≡ false → placesBad (b .n) B K ≡ true → 8 ≡ listNo b B K
   unfolding listNo
-  list-offsets e f = simp (e, f)
+  list-places e f = simp (e, f)
 
-  pub list-rules : areaBad (viewOf b B K) ≡ false → offsetsBad (b .n) B K ≡ false → rulesBad (b .n) B K ≡ true → 8 ≡ listNo b B K
+  pub list-rules : areaBad (viewOf b B K) ≡ false → placesBad (b .n) B K ≡ false → rulesBad (b .n) B K ≡ true → 8 ≡ listNo b B K
   unfolding listNo
   list-rules e f g = simp (e, f, g)
 
-  pub list-none : areaBad (viewOf b B K) ≡ false → offsetsBad (b .n) B K ≡ false → rulesBad (b .n) B K ≡ false → 0 ≡ listNo b B K
+  pub list-none : areaBad (viewOf b B K) ≡ false → placesBad (b .n) B K ≡ false → rulesBad (b .n) B K ≡ false → 0 ≡ listNo b B K
   unfolding listNo
   list-none e f g = simp (e, f, g)
 
 -- what the writers of the directory and the store ask
-pub keys-area : (n : ℕ) (B K : List ℕ) → ListOk n B K → KeysArea B 5 3 K n
+pub keys-area : (n : ℕ) (B K : List ℕ) → ListOk n B K → KeysArea B stride keyField K n
 unfolding areaView
 keys-area n B K ok = record {
   few = ok .area .few;
   place = omega arith;
   inside = ok .area .inside;
   short = λ i h.
-      let short : length (areaKey B K i) ≤ 1024 = rules-at B K n (ok .rules) i h .short in
-      omega (arith, simp (length-take, length-drop) at short, key-inside B K n (ok .offsets) (ok .area) i h);
-  within = λ i h. key-inside B K n (ok .offsets) (ok .area) i h;
+      let short : length (areaKey B K i) ≤ maxKeyLen = rules-at B K n (ok .rules) i h .short in
+      omega (arith, simp (length-take, length-drop) at short, key-inside B K n (ok .places) i h);
+  within = λ i h. key-inside B K n (ok .places) i h;
 }
 
 view-some : (i : ℕ) (B K : List ℕ) → areaView (suc i) B K .n ≡ 0 → ⊥
@@ -179,7 +194,7 @@ view-some i B K z = omega arith
 behind-ok : (n : ℕ) (B K : List ℕ) → ListOk n B K → (i : ℕ) → suc i < n → Follows (areaBlock B i) (areaBlock B (suc i))
 behind-ok n B K ok i h = rw (last-suc B K i) at (rules-at B K n (ok .rules) (suc i) h .follows (view-some i B K))
 
-pub store-area : (n : ℕ) (B K : List ℕ) → ListOk n B K → StoreArea B 5 n
+pub store-area : (n : ℕ) (B K : List ℕ) → ListOk n B K → StoreArea B stride n
 unfolding areaView
 store-area n B K ok = record {
   few = ok .area .few;
@@ -190,6 +205,3 @@ store-area n B K ok = record {
     follows = behind-ok n B K ok;
   };
 }
-
-pub group-len : GroupLenOk 128
-group-len = record { some = omega arith; few = omega arith }

@@ -1,11 +1,11 @@
 // What an accepted add writes.
 ghost use mathlib.Core.Path.{_≡_};
-ghost use mathlib.Core.List.{_∷_, []};
 ghost use Prim.Native.Nat.{_+_, _*_, _≤_};
 ghost use lib.ListN.{length};
 ghost use lib.Seq.{sets};
-ghost use Rattle.builder.specs.Area.{viewOf, stride};
+ghost use Rattle.builder.specs.View.{stride};
 ghost use Rattle.builder.specs.Rows.{AreaOk};
+ghost use Rattle.builder.specs.Area.{recordNumbers, viewOf};
 use crate::SSTableIndexBuilder;
 use crate::rows::END;
 use crate::rows::FIRST_ORDINAL;
@@ -15,7 +15,7 @@ use crate::rows::STRIDE;
 use crate::rows::next_key;
 use group::BlockAddr;
 
-// Writes a block's record and its key behind those that are there.
+// Writes a block's record and its key after those that are there.
 pub fn append(
     builder: SSTableIndexBuilder,
     blocks: &mut [u64],
@@ -23,9 +23,14 @@ pub fn append(
     key: &[u8],
     block: BlockAddr,
 )
-    requires { ⌜ AreaOk (viewOf builder (now blocks) (now keys)) × (stride * builder .n + stride ≤ length (now blocks)) × (viewOf builder (now blocks) (now keys) .nextKey + length (now key) ≤ length (now keys)) ⌝ }
-    ensures { λ _. ⌜ now (blocks .exit) ≡ sets (now (blocks .entry)) (stride * builder .n) (block .start ∷ block .end ∷ block .«first_ordinal» ∷ viewOf builder (now (blocks .entry)) (now (keys .entry)) .nextKey ∷ length (now (key .entry)) ∷ []) ⌝ }
-    ensures { λ _. ⌜ now (keys .exit) ≡ sets (now (keys .entry)) (viewOf builder (now (blocks .entry)) (now (keys .entry)) .nextKey) (now (key .entry)) ⌝ }
+    requires { ⌜ AreaOk (viewOf builder (now blocks) (now keys)) × (stride * builder .n + stride ≤ length (now blocks))
+        × (viewOf builder (now blocks) (now keys) .nextKey + length (now key) ≤ length (now keys)) ⌝ }
+    ensures { λ _. ⌜ now (blocks .exit) ≡ sets (now (blocks .entry)) (stride * builder .n) (recordNumbers block (record {
+      offset = viewOf builder (now (blocks .entry)) (now (keys .entry)) .nextKey;
+      len = length (now (key .entry));
+    })) ⌝ }
+    ensures { λ _. ⌜ now (keys .exit)
+        ≡ sets (now (keys .entry)) (viewOf builder (now (blocks .entry)) (now (keys .entry)) .nextKey) (now (key .entry)) ⌝ }
 {
     let offset = next_key(builder, blocks, keys);
     let at = STRIDE * builder.n;

@@ -1,14 +1,17 @@
 // Finishing: the index of the builder's areas.
 ghost use mathlib.Core.Path.{_≡_};
 ghost use Prim.Native.Nat.{_+_, _*_, _≤_, _<_};
-ghost use mathlib.Core.Bool.{false, not};
-ghost use lib.Dec.{eqb};
+ghost use mathlib.Core.Bool.{false};
 ghost use lib.ListN.{length};
 ghost use lib.Seq.{sets};
-ghost use Rattle.builder.specs.Area.{areaBlock, areaKey, areaView, viewOf};
-ghost use Rattle.builder.specs.Rows.{AreaOk, blockNo};
-ghost use Rattle.builder.specs.Finish.{offsetsBad, rulesBad, listNo, areaIndex, areaDirectory};
+ghost use Rattle.store.specs.Facts.{GroupLenOk};
+ghost use Rattle.builder.specs.Rows.{AreaOk};
+ghost use Rattle.builder.specs.Area.{areaView, viewOf};
+ghost use Rattle.builder.specs.Index.{settingsOf};
+ghost use Rattle.builder.specs.Finish.{ruleBad, placesBad, rulesBad, listNo, areaIndex, areaDirectory};
 use crate::SSTableIndexBuilder;
+use crate::refusals::AREA_BAD;
+use crate::refusals::LIST_BAD;
 use crate::rows::END;
 use crate::rows::FIRST_ORDINAL;
 use crate::rows::KEY_LEN;
@@ -16,38 +19,32 @@ use crate::rows::KEY_OFFSET;
 use crate::rows::STRIDE;
 use group::BlockAddr;
 
-// The blocks of a group.
-const STORE_BLOCK_LEN: usize = 128;
-
-// Whether some key doesn't start where the one before it ends.
-fn offsets_bad(builder: SSTableIndexBuilder, blocks: &[u64], keys: &[u8]) -> bool
+// Whether some key doesn't start where the one before it ends, or its record breaks row 1's rule.
+fn places_bad(builder: SSTableIndexBuilder, blocks: &[u64], keys: &[u8]) -> bool
     requires { ⌜ AreaOk (viewOf builder (now blocks) (now keys)) ⌝ }
-    ensures { λ r. ⌜ r ≡ offsetsBad (builder .n) (now (blocks .entry)) (now (keys .entry)) ⌝ }
+    ensures { λ r. ⌜ r ≡ placesBad (builder .n) (now (blocks .entry)) (now (keys .entry)) ⌝ }
 {
     let n = builder.n;
-    let mut offset: u64 = 0;
-    let mut len: u64 = 0;
+    let mut next: u64 = 0;
     let mut i: usize = 0;
     while i < n {
         let at = STRIDE * i;
-        let next = blocks[at + KEY_OFFSET];
-        if next < offset {
+        if blocks[at + KEY_OFFSET] != next {
             return true;
         }
-        if next - offset != len {
+        if crate::rows::record_bad(i, blocks, keys) {
             return true;
         }
-        offset = next;
-        len = blocks[at + KEY_LEN];
+        next += blocks[at + KEY_LEN];
         i += 1;
     }
     false
 }
 
-// Whether block i breaks rows 2 to 6 behind the i blocks before it.
+// Whether block i breaks rows 2 to 6 after the i blocks before it.
 fn rule_bad(i: usize, blocks: &[u64], keys: &[u8]) -> bool
     requires { ⌜ AreaOk (areaView i (now blocks) (now keys)) × AreaOk (areaView (i + 1) (now blocks) (now keys)) ⌝ }
-    ensures { λ r. ⌜ r ≡ not (eqb (blockNo (areaView i (now (blocks .entry)) (now (keys .entry))) (areaKey (now (blocks .entry)) (now (keys .entry)) i) (areaBlock (now (blocks .entry)) i)) 0) ⌝ }
+    ensures { λ r. ⌜ r ≡ ruleBad i (now (blocks .entry)) (now (keys .entry)) ⌝ }
 {
     let at = STRIDE * i;
     let block = BlockAddr {
@@ -57,19 +54,13 @@ fn rule_bad(i: usize, blocks: &[u64], keys: &[u8]) -> bool
     };
     let from = blocks[at + KEY_OFFSET] as usize;
     let end = from + blocks[at + KEY_LEN] as usize;
-    crate::rows::block_no(
-        SSTableIndexBuilder { n: i },
-        blocks,
-        keys,
-        &keys[from..end],
-        block,
-    )
-        != 0
+    let key = &keys[from..end];
+    crate::rows::block_no(SSTableIndexBuilder::new(i), blocks, keys, key, key, block) != 0
 }
 
 // Whether some block breaks rows 2 to 6.
 fn rules_bad(builder: SSTableIndexBuilder, blocks: &[u64], keys: &[u8]) -> bool
-    requires { ⌜ AreaOk (viewOf builder (now blocks) (now keys)) × (offsetsBad (builder .n) (now blocks) (now keys) ≡ false) ⌝ }
+    requires { ⌜ AreaOk (viewOf builder (now blocks) (now keys)) × (placesBad (builder .n) (now blocks) (now keys) ≡ false) ⌝ }
     ensures { λ r. ⌜ r ≡ rulesBad (builder .n) (now (blocks .entry)) (now (keys .entry)) ⌝ }
 {
     let n = builder.n;
@@ -88,28 +79,33 @@ pub fn list_no(builder: SSTableIndexBuilder, blocks: &[u64], keys: &[u8]) -> u32
     ensures { λ r. ⌜ r ≡ listNo builder (now (blocks .entry)) (now (keys .entry)) ⌝ }
 {
     if crate::rows::area_bad(builder, blocks, keys) {
-        return 1;
+        return AREA_BAD;
     }
-    if offsets_bad(builder, blocks, keys) {
-        return 8;
+    if places_bad(builder, blocks, keys) {
+        return LIST_BAD;
     }
     if rules_bad(builder, blocks, keys) {
-        return 8;
+        return LIST_BAD;
     }
     0
 }
 
 // How many bytes the index of the areas takes; none with 0 or 1 blocks.
-pub fn index_len(builder: SSTableIndexBuilder, blocks: &[u64], keys: &[u8]) -> usize
-    requires { ⌜ listNo builder (now blocks) (now keys) ≡ 0 ⌝ }
-    ensures { λ r. ⌜ r ≡ length (areaIndex builder (now (blocks .entry)) (now (keys .entry))) ⌝ }
+pub fn index_len(
+    builder: SSTableIndexBuilder,
+    blocks: &[u64],
+    keys: &[u8],
+    group_len: usize,
+) -> usize
+    requires { ⌜ (listNo builder (now blocks) (now keys) ≡ 0) × GroupLenOk «group_len» ⌝ }
+    ensures { λ r. ⌜ r ≡ length (areaIndex (settingsOf «group_len») builder (now (blocks .entry)) (now (keys .entry))) ⌝ }
 {
     let n = builder.n;
     if n < 2 {
         return 0;
     }
     let directory = directory::write::directory_len(blocks, STRIDE, KEY_OFFSET, keys, n);
-    directory + store::write::store_len(blocks, STRIDE, n, STORE_BLOCK_LEN) + 8
+    directory + store::write::store_len(blocks, STRIDE, n, group_len) + 8
 }
 
 // Writes the index from the front of `out` on: directory, store, directory length. Returns the directory's length.
@@ -117,14 +113,18 @@ pub fn write_index(
     builder: SSTableIndexBuilder,
     blocks: &[u64],
     keys: &[u8],
+    group_len: usize,
     out: &mut [u8],
 ) -> usize
-    requires { ⌜ (listNo builder (now blocks) (now keys) ≡ 0) × (2 ≤ builder .n) × (length (areaIndex builder (now blocks) (now keys)) ≤ length (now out)) ⌝ }
-    ensures { λ r. ⌜ (r ≡ length (areaDirectory builder (now (blocks .entry)) (now (keys .entry)))) × (now (out .exit) ≡ sets (now (out .entry)) 0 (areaIndex builder (now (blocks .entry)) (now (keys .entry)))) ⌝ }
+    requires { ⌜ (listNo builder (now blocks) (now keys) ≡ 0) × (2 ≤ builder .n) × GroupLenOk «group_len»
+        × (length (areaIndex (settingsOf «group_len») builder (now blocks) (now keys)) ≤ length (now out)) ⌝ }
+    ensures { λ r. ⌜ (r ≡ length (areaDirectory builder (now (blocks .entry)) (now (keys .entry))))
+        × (now (out .exit)
+        ≡ sets (now (out .entry)) 0 (areaIndex (settingsOf «group_len») builder (now (blocks .entry)) (now (keys .entry)))) ⌝ }
 {
     let n = builder.n;
     let directory = directory::write::serialize(blocks, STRIDE, KEY_OFFSET, keys, n, out);
-    let store = store::write::serialize(blocks, STRIDE, n, STORE_BLOCK_LEN, &mut out[directory..]);
+    let store = store::write::serialize(blocks, STRIDE, n, group_len, &mut out[directory..]);
     serialize::serialize_u64(out, directory + store, directory as u64);
     directory
 }

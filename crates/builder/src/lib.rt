@@ -1,13 +1,17 @@
 // The index builder: `SSTableIndexBuilder` of src/index/mod.rs over two lent areas.
 mod add;
 mod finish;
+mod refusals;
 mod rows;
 mod shorten;
 
 ghost use mathlib.Core.Path.{_≡_};
-ghost use Rattle.builder.specs.Calls.{after, addDef, shortenDef};
-ghost use Rattle.builder.specs.Finish.{finishOf, finishDef, finishLenDef};
+ghost use Prim.Native.Nat.{ℕ};
+ghost use Rattle.builder.specs.Calls.{builderOf, withBlocks, called, AnswerCased, addDef, shortenDef};
+ghost use Rattle.builder.specs.Index.{standard};
+ghost use Rattle.builder.specs.Finish.{finishOf, FinishedCased, finishDef, finishLenDef};
 use group::BlockAddr;
+use layout::STORE_BLOCK_LEN;
 
 pub struct SSTableIndexBuilder {
     pub n: usize,
@@ -32,7 +36,21 @@ pub enum FinishLen {
 }
 
 impl SSTableIndexBuilder {
-    // Adds a block behind the last one.
+    // A builder of n blocks; with 0 it is fresh.
+    pub fn new(n: usize) -> SSTableIndexBuilder
+        ensures { λ r. ⌜ r ≡ builderOf n ⌝ }
+    {
+        SSTableIndexBuilder { n: n }
+    }
+
+    // The builder with another count of blocks.
+    fn with_blocks(self, n: usize) -> SSTableIndexBuilder
+        ensures { λ r. ⌜ r ≡ withBlocks self n ⌝ }
+    {
+        SSTableIndexBuilder { n: n }
+    }
+
+    // Adds a block after the last one.
     pub fn add_block(
         self,
         blocks: &mut [u64],
@@ -40,7 +58,9 @@ impl SSTableIndexBuilder {
         last_key: &[u8],
         block: BlockAddr,
     ) -> Answer
-        ensures { λ r. ⌜ after r (now (blocks .exit)) (now (keys .exit)) ≡ addDef self (now (blocks .entry)) (now (keys .entry)) (now («last_key» .entry)) block ⌝ }
+        ensures { λ r. ⌜ called r (now (blocks .exit)) (now (keys .exit))
+            ≡ addDef self (now (blocks .entry)) (now (keys .entry)) (now («last_key» .entry)) block ⌝ }
+        ensures { λ r. ⌜ AnswerCased r ⌝ }
     {
         let no = rows::add_no(self, blocks, keys, last_key, block);
         if no != 0 {
@@ -48,7 +68,7 @@ impl SSTableIndexBuilder {
         }
         let n = self.n;
         add::append(self, blocks, keys, last_key, block);
-        Answer::Taken(SSTableIndexBuilder { n: n + 1 })
+        Answer::Taken(self.with_blocks(n + 1))
     }
 
     // Shortens the last block's key to one that is still below `next_key`.
@@ -58,17 +78,20 @@ impl SSTableIndexBuilder {
         keys: &mut [u8],
         next_key: &[u8],
     ) -> Answer
-        ensures { λ r. ⌜ after r (now (blocks .exit)) (now (keys .exit)) ≡ shortenDef self (now (blocks .entry)) (now (keys .entry)) (now («next_key» .entry)) ⌝ }
+        ensures { λ r. ⌜ called r (now (blocks .exit)) (now (keys .exit))
+            ≡ shortenDef self (now (blocks .entry)) (now (keys .entry)) (now («next_key» .entry)) ⌝ }
+        ensures { λ r. ⌜ AnswerCased r ⌝ }
     {
         if rows::area_bad(self, blocks, keys) {
-            return Answer::Refused(1, self);
+            return Answer::Refused(refusals::AREA_BAD, self);
         }
-        if next_key.len() > rows::MAX_KEY_LEN {
-            return Answer::Refused(2, self);
+        let key_no = rows::key_no(next_key);
+        if key_no != 0 {
+            return Answer::Refused(key_no, self);
         }
         let common = rows::common_len(self, blocks, keys, next_key);
         if rows::key_bad_behind(self, blocks, keys, next_key, common) {
-            return Answer::Refused(6, self);
+            return Answer::Refused(refusals::KEY_BAD, self);
         }
         shorten::shorten_last(self, blocks, keys, common);
         Answer::Taken(self)
@@ -76,31 +99,33 @@ impl SSTableIndexBuilder {
 
     // Writes the index from the front of `out` on: the Rust's `serialize`.
     pub fn finish(self, blocks: &[u64], keys: &[u8], out: &mut [u8]) -> Finished
-        ensures { λ r. ⌜ finishOf r (now (out .exit)) ≡ finishDef self (now (blocks .entry)) (now (keys .entry)) (now (out .entry)) ⌝ }
+        ensures { λ r. ⌜ finishOf r (now (out .exit))
+            ≡ finishDef standard self (now (blocks .entry)) (now (keys .entry)) (now (out .entry)) ⌝ }
+        ensures { λ r. ⌜ FinishedCased r ⌝ }
     {
         let no = finish::list_no(self, blocks, keys);
         if no != 0 {
             return Finished::Unwritten(no, self);
         }
-        let total = finish::index_len(self, blocks, keys);
+        let total = finish::index_len(self, blocks, keys, STORE_BLOCK_LEN);
         if out.len() < total {
-            return Finished::Unwritten(9, self);
+            return Finished::Unwritten(refusals::OUT_SHORT, self);
         }
         if self.n < 2 {
             return Finished::Written(self, 0, 0);
         }
-        let directory = finish::write_index(self, blocks, keys, out);
+        let directory = finish::write_index(self, blocks, keys, STORE_BLOCK_LEN, out);
         Finished::Written(self, total, directory)
     }
 
     // The total that a finish would need: rows 1 and 8 as finish has them.
     pub fn finish_len(self, blocks: &[u64], keys: &[u8]) -> FinishLen
-        ensures { λ r. ⌜ r ≡ finishLenDef self (now (blocks .entry)) (now (keys .entry)) ⌝ }
+        ensures { λ r. ⌜ r ≡ finishLenDef standard self (now (blocks .entry)) (now (keys .entry)) ⌝ }
     {
         let no = finish::list_no(self, blocks, keys);
         if no != 0 {
             return FinishLen::Refused(no);
         }
-        FinishLen::Total(finish::index_len(self, blocks, keys))
+        FinishLen::Total(finish::index_len(self, blocks, keys, STORE_BLOCK_LEN))
     }
 }

@@ -1,12 +1,23 @@
 // Rows 1 to 7 of the table.
 ghost use mathlib.Core.Path.{_≡_};
-ghost use Prim.Native.Nat.{_+_, _*_, _≤_};
+ghost use Prim.Native.Nat.{_+_, _*_, _≤_, _<_};
 ghost use lib.ListN.{length};
+ghost use Rattle.layout.specs.Layout.{maxBlocks};
 ghost use Rattle.keys.specs.Order.{commonPrefixLen};
-ghost use Rattle.builder.specs.Area.{viewOf};
-ghost use Rattle.builder.specs.Rows.{areaBad, AreaOk, keyBad, roomBad, blockNo, addNo};
+ghost use Rattle.builder.specs.View.{stride};
+ghost use Rattle.builder.specs.Rows.{recordBad, areaBad, AreaOk, keyNo, keyBad, roomBad, blockNo, addNo};
+ghost use Rattle.builder.specs.Area.{areaPlace, viewOf};
 use crate::SSTableIndexBuilder;
+use crate::refusals::AREA_BAD;
+use crate::refusals::JOIN_BAD;
+use crate::refusals::KEY_BAD;
+use crate::refusals::KEY_LONG;
+use crate::refusals::NUMBERS_BAD;
+use crate::refusals::ORDINAL_BAD;
+use crate::refusals::ROOM_BAD;
 use group::BlockAddr;
+use layout::MAX_BLOCKS;
+use layout::MAX_KEY_LEN;
 
 // A block's record: start, end, first ordinal, key offset, key length.
 pub const STRIDE: usize = 5;
@@ -19,11 +30,22 @@ pub const KEY_OFFSET: usize = 3;
 
 pub const KEY_LEN: usize = 4;
 
-const MAX_BLOCKS: usize = 65536;
+// Whether the key of record i ends beyond the key area.
+pub fn record_bad(i: usize, blocks: &[u64], keys: &[u8]) -> bool
+    requires { ⌜ (i < maxBlocks) × (stride * i + stride ≤ length (now blocks)) ⌝ }
+    ensures { λ r. ⌜ r ≡ recordBad (length (now (keys .entry))) (areaPlace (now (blocks .entry)) i) ⌝ }
+{
+    let at = STRIDE * i;
+    let offset = blocks[at + KEY_OFFSET];
+    let len = blocks[at + KEY_LEN];
+    let room = keys.len() as u64;
+    if offset > room {
+        return true;
+    }
+    len > room - offset
+}
 
-pub const MAX_KEY_LEN: usize = 1024;
-
-// Row 1: whether the builder's count and its last key don't fit the areas.
+// Row 1: whether the builder's count and its last record don't fit the areas.
 pub fn area_bad(builder: SSTableIndexBuilder, blocks: &[u64], keys: &[u8]) -> bool
     ensures { λ r. ⌜ r ≡ areaBad (viewOf builder (now (blocks .entry)) (now (keys .entry))) ⌝ }
 {
@@ -37,14 +59,7 @@ pub fn area_bad(builder: SSTableIndexBuilder, blocks: &[u64], keys: &[u8]) -> bo
     if n == 0 {
         return false;
     }
-    let at = STRIDE * (n - 1);
-    let offset = blocks[at + KEY_OFFSET];
-    let len = blocks[at + KEY_LEN];
-    let room = keys.len() as u64;
-    if offset > room {
-        return true;
-    }
-    len > room - offset
+    record_bad(n - 1, blocks, keys)
 }
 
 // Where the next key goes.
@@ -91,7 +106,8 @@ pub fn key_bad_behind(
     key: &[u8],
     common: usize,
 ) -> bool
-    requires { ⌜ AreaOk (viewOf builder (now blocks) (now keys)) × (common ≡ commonPrefixLen (viewOf builder (now blocks) (now keys) .lastKey) (now key)) ⌝ }
+    requires { ⌜ AreaOk (viewOf builder (now blocks) (now keys))
+        × (common ≡ commonPrefixLen (viewOf builder (now blocks) (now keys) .lastKey) (now key)) ⌝ }
     ensures { λ r. ⌜ r ≡ keyBad (viewOf builder (now (blocks .entry)) (now (keys .entry))) (now (key .entry)) ⌝ }
 {
     if builder.n == 0 {
@@ -130,34 +146,47 @@ fn last_block(builder: SSTableIndexBuilder, blocks: &[u64], keys: &[u8]) -> Bloc
     }
 }
 
-// Rows 2 to 6 for a block and its key behind the builder's blocks.
+// The rows on a key alone.
+pub fn key_no(key: &[u8]) -> u32
+    ensures { λ r. ⌜ r ≡ keyNo (now (key .entry)) ⌝ }
+{
+    if key.len() > MAX_KEY_LEN {
+        return KEY_LONG;
+    }
+    0
+}
+
+// Rows 2 to 6 for a block after the builder's blocks, with its key as given and its separator.
 pub fn block_no(
     builder: SSTableIndexBuilder,
     blocks: &[u64],
     keys: &[u8],
+    given: &[u8],
     key: &[u8],
     block: BlockAddr,
 ) -> u32
     requires { ⌜ AreaOk (viewOf builder (now blocks) (now keys)) ⌝ }
-    ensures { λ r. ⌜ r ≡ blockNo (viewOf builder (now (blocks .entry)) (now (keys .entry))) (now (key .entry)) block ⌝ }
+    ensures { λ r. ⌜ r ≡ blockNo (viewOf builder (now (blocks .entry)) (now (keys .entry)))
+        (now (given .entry)) (now (key .entry)) block ⌝ }
 {
-    if key.len() > MAX_KEY_LEN {
-        return 2;
+    let no = key_no(given);
+    if no != 0 {
+        return no;
     }
     if group::rows::numbers_bad(block) {
-        return 3;
+        return NUMBERS_BAD;
     }
     if builder.n > 0 {
         let last = last_block(builder, blocks, keys);
         if group::rows::join_bad(last, block) {
-            return 4;
+            return JOIN_BAD;
         }
         if group::rows::ordinal_bad(last, block) {
-            return 5;
+            return ORDINAL_BAD;
         }
     }
     if key_bad(builder, blocks, keys, key) {
-        return 6;
+        return KEY_BAD;
     }
     0
 }
@@ -188,14 +217,14 @@ pub fn add_no(
     ensures { λ r. ⌜ r ≡ addNo (viewOf builder (now (blocks .entry)) (now (keys .entry))) (now (key .entry)) block ⌝ }
 {
     if area_bad(builder, blocks, keys) {
-        return 1;
+        return AREA_BAD;
     }
-    let no = block_no(builder, blocks, keys, key, block);
+    let no = block_no(builder, blocks, keys, key, key, block);
     if no != 0 {
         return no;
     }
     if room_bad(builder, blocks, keys, key) {
-        return 7;
+        return ROOM_BAD;
     }
     0
 }

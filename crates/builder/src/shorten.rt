@@ -4,8 +4,8 @@ ghost use Prim.Native.Nat.{ℕ, _≤_};
 ghost use mathlib.Core.List.{List};
 ghost use lib.ListN.{length};
 ghost use Rattle.keys.specs.Order.{commonPrefixLen};
-ghost use Rattle.builder.specs.Area.{viewOf};
 ghost use Rattle.builder.specs.Rows.{AreaOk};
+ghost use Rattle.builder.specs.Area.{viewOf};
 ghost use Rattle.builder.specs.Calls.{shortBlocks, shortKeys};
 use crate::SSTableIndexBuilder;
 use crate::rows::KEY_LEN;
@@ -19,8 +19,12 @@ pub fn shorten_last(
     keys: &mut [u8],
     common: usize,
 )
-    requires { ⌜ AreaOk (viewOf builder (now blocks) (now keys)) × (common ≤ length (viewOf builder (now blocks) (now keys) .lastKey)) ⌝ }
-    ensures { λ _. ⌜ ((next : List ℕ) → common ≡ commonPrefixLen (viewOf builder (now (blocks .entry)) (now (keys .entry)) .lastKey) next → (now (blocks .exit) ≡ shortBlocks (builder .n) (now (blocks .entry)) (now (keys .entry)) next) × (now (keys .exit) ≡ shortKeys (builder .n) (now (blocks .entry)) (now (keys .entry)) next)) ⌝ }
+    requires { ⌜ AreaOk (viewOf builder (now blocks) (now keys))
+        × (common ≤ length (viewOf builder (now blocks) (now keys) .lastKey)) ⌝ }
+    ensures { λ _. ⌜ ((next : List ℕ)
+        → common ≡ commonPrefixLen (viewOf builder (now (blocks .entry)) (now (keys .entry)) .lastKey) next
+        → (now (blocks .exit) ≡ shortBlocks (builder .n) (now (blocks .entry)) (now (keys .entry)) next)
+        × (now (keys .exit) ≡ shortKeys (builder .n) (now (blocks .entry)) (now (keys .entry)) next)) ⌝ }
 {
     let n = builder.n;
     if n == 0 {

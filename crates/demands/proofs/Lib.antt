@@ -1,4 +1,3 @@
-mod Numbers
 pub mod Same
 pub mod Found
 pub mod Demand3

@@ -13,9 +13,10 @@ use Rattle.group.specs.Legal.{limit}
 use Rattle.group.specs.Rows.{numbersBad, joinBad, ordinalBad}
 use Rattle.group.specs.Blocks.{noBlock}
 use Rattle.store.specs.Read.{Last}
-use Rattle.builder.specs.Area.{View}
-use Rattle.builder.specs.Rows.{keyLong, keyBad, roomBad, blockNo, addNo}
-use Rattle.builder.specs.Plain.{Entry, Rooms, keyBytesTaken, plainView, callNo, taken, plainNext, plainNumbers, plainEnd}
+use Rattle.layout.specs.Layout.{maxBlocks}
+use Rattle.builder.specs.View.{stride, View}
+use Rattle.builder.specs.Rows.{RecordOk, keyLong, keyNo, keyBad, roomBad, blockNo, addNo}
+use Rattle.machine.specs.Plain.{Entry, Rooms, keyBytesTaken, plainView, callNo, taken, plainNext, plainNumbers, plainEnd}
 use Rattle.builder.proofs.Views.{area-good}
 use Rattle.builder.proofs.Numbers.{add-none}
 use Rattle.index.specs.Lookups.{ByIdExact, ByOrdExact}
@@ -34,28 +35,33 @@ two = record { block = block1; key = 100 ∷ [] } ∷ one
 abbrev pub three : List Entry
 three = record { block = block2; key = 102 ∷ [] } ∷ two
 
-room-good : (v : View) (key : List ℕ) → v .n < 65536 → 5 * v .n + 5 ≤ v .room → v .nextKey + length key ≤ v .keyRoom → roomBad v key ≡ false
+room-good : (v : View) (key : List ℕ) → v .n < maxBlocks → stride * v .n + stride ≤ v .room → v .nextKey + length key ≤ v .keyRoom
+    → roomBad v key ≡ false
 unfolding roomBad
 room-good v key few numbers fits =
-    rw (ne-eqb (v .n) 65536 (λ e. omega arith), le-ltb (v .room) (5 * v .n + 5) numbers, le-ltb (v .keyRoom) (v .nextKey + length key) fits)
+    rw (
+      ne-eqb (v .n) maxBlocks (λ e. omega arith),
+      le-ltb (v .room) (stride * v .n + stride) numbers,
+      le-ltb (v .keyRoom) (v .nextKey + length key) fits,
+    )
 
-added : (v : View) (key : List ℕ) (b : BlockAddr) → blockNo v key b ≡ 0 → v .n < 65536 → 5 * v .n + 5 ≤ v .room → v .nextKey + length key ≤ v .keyRoom
-    → addNo v key b ≡ 0
-added v key b e few numbers fits =
-    sym (add-none v key b (area-good v (record { few = omega arith; inside = omega arith; within = omega arith })) 0 (sym e) refl (room-good v key few numbers fits))
+added : (v : View) (key : List ℕ) (b : BlockAddr) → blockNo v key key b ≡ 0 → v .n < maxBlocks → stride * v .n + stride ≤ v .room
+    → RecordOk (v .keyRoom) (v .place) → v .nextKey + length key ≤ v .keyRoom → addNo v key b ≡ 0
+added v key b e few numbers last fits =
+    sym (add-none v key b (area-good v (record { few = omega arith; inside = omega arith; last = last })) 0 (sym e) refl (room-good v key few numbers fits))
 
 module _ (rooms : Rooms) (blocks : 15 ≤ rooms .blocks) (keys : 3 ≤ rooms .keys) where
   add-0 : addNo (plainView rooms []) (98 ∷ []) block0 ≡ 0
-  unfolding blockNo keyLong keyBad numbersBad joinBad ordinalBad limit plainView
-  add-0 = added (plainView rooms []) (98 ∷ []) block0 refl (omega arith) (omega arith) (omega arith)
+  unfolding blockNo keyNo keyLong keyBad numbersBad joinBad ordinalBad limit plainView
+  add-0 = added (plainView rooms []) (98 ∷ []) block0 refl (omega arith) (omega arith) (record { within = omega arith }) (omega arith)
 
   add-1 : addNo (plainView rooms one) (100 ∷ []) block1 ≡ 0
-  unfolding blockNo keyLong keyBad numbersBad joinBad ordinalBad limit less plainView keyBytesTaken
-  add-1 = added (plainView rooms one) (100 ∷ []) block1 refl (omega arith) (omega arith) (omega arith)
+  unfolding blockNo keyNo keyLong keyBad numbersBad joinBad ordinalBad limit less plainView keyBytesTaken
+  add-1 = added (plainView rooms one) (100 ∷ []) block1 refl (omega arith) (omega arith) (record { within = omega arith }) (omega arith)
 
   add-2 : addNo (plainView rooms two) (102 ∷ []) block2 ≡ 0
-  unfolding blockNo keyLong keyBad numbersBad joinBad ordinalBad limit less plainView keyBytesTaken
-  add-2 = added (plainView rooms two) (102 ∷ []) block2 refl (omega arith) (omega arith) (omega arith)
+  unfolding blockNo keyNo keyLong keyBad numbersBad joinBad ordinalBad limit less plainView keyBytesTaken
+  add-2 = added (plainView rooms two) (102 ∷ []) block2 refl (omega arith) (omega arith) (record { within = omega arith }) (omega arith)
 
   pub three-left : plainEnd rooms workedCalls [] ≡ three
   unfolding plainEnd callNo plainNext taken

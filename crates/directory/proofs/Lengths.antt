@@ -6,7 +6,7 @@ use native.Mathlib.Nat.{zero-add}
 use native.Mathlib.Omega.{arith}
 use lib.ListN.{length, getD, take, drop, length-append, take-append-drop}
 use lib.Seq.{take-suc}
-use Rattle.serialize.proofs.Digits.{length-digits}
+use Rattle.serialize.proofs.Digits.{length-digitsOf}
 use Rattle.directory.specs.Directory.{pairs, keyBytes, directoryBytes}
 use Rattle.directory.specs.Facts.{KeysArea}
 use Rattle.directory.specs.Keys.{keysAt}
@@ -22,11 +22,11 @@ unfolding pairs
 length-pairs offset [] = refl
 length-pairs offset (key ∷ keys) =
     let others : length (pairs (offset + length key) keys) ≡ 8 * length keys = length-pairs (offset + length key) keys in
-    simp (length-append, length-digits) (omega arith)
+    simp (length-append, length-digitsOf) (omega arith)
 
 pub length-directoryBytes : (keys : List (List ℕ)) → length (directoryBytes keys) ≡ 4 + 8 * length keys + length (keyBytes keys)
 unfolding directoryBytes
-length-directoryBytes keys = simp (length-append, length-digits, length-pairs) (omega arith)
+length-directoryBytes keys = simp (length-append, length-digitsOf, length-pairs) (omega arith)
 
 pub length-keyBytes-le : (keys : List (List ℕ)) → ((i : ℕ) → i < length keys → length (getD keys i []) ≤ 1024) → length (keyBytes keys) ≤ 1024 * length keys
 unfolding keyBytes

@@ -9,7 +9,7 @@ use lib.ListN.{length, getD, take, drop, length-drop, take-append-drop}
 use lib.Seq.{length-take-le, take-length, take-add, drop-drop, drop-length, ext-getD}
 use Rattle.keys.specs.Order.{_≺_}
 use Rattle.keys.proofs.Order.{by-test}
-use Rattle.serialize.specs.Digits.{leBytes, Below}
+use Rattle.serialize.specs.Digits.{leBytes, DigitsBelow}
 use Rattle.serialize.proofs.Numbers.{number-bytes}
 use Rattle.directory.specs.Directory.{pairs, keyBytes, directoryBytes}
 use Rattle.directory.specs.Read.{countOf, keyOffset, keyLength, keyOf, keysFrom, keysIn, keyBegin, directoryBad, keysBad, directoryNo, Sorted}
@@ -158,7 +158,7 @@ module _ (d : List ℕ) (good : directoryBad d ≡ false) where
       (sym (take-append-drop (keyLength d i) (drop at d)))
 
   -- the pairs from pair i on
-  pairs-are : Below 8 d → (i count : ℕ) → i + count ≡ countOf d → take (8 * count) (drop (4 + 8 * i) d) ≡ pairs (keyBegin d i) (keysFrom d (countOf d) i count)
+  pairs-are : DigitsBelow 8 d → (i count : ℕ) → i + count ≡ countOf d → take (8 * count) (drop (4 + 8 * i) d) ≡ pairs (keyBegin d i) (keysFrom d (countOf d) i count)
   unfolding keysFrom pairs
   pairs-are below i zero e = refl
   pairs-are below i (suc count) e =
@@ -169,7 +169,7 @@ module _ (d : List ℕ) (good : directoryBad d ≡ false) where
       (pair-split d i count)
 
 -- it is the directory of its keys
-pub directory-is : (d : List ℕ) → Below 8 d → directoryBad d ≡ false → d ≡ directoryBytes (keysIn d)
+pub directory-is : (d : List ℕ) → DigitsBelow 8 d → directoryBad d ≡ false → d ≡ directoryBytes (keysIn d)
 unfolding directoryBytes
 directory-is d below good =
     let n = countOf d in

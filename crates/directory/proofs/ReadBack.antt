@@ -7,7 +7,7 @@ use native.Mathlib.Omega.{arith}
 use lib.ListN.{length, getD, take, drop, length-append}
 use lib.Seq.{take-at, drop-at, drop-append-seam, take-append-seam, drop-drop, drop-cons, ext-getD, sets, sets-eq}
 use Rattle.serialize.specs.Digits.{leVal, leBytes}
-use Rattle.serialize.proofs.Digits.{length-digits, ofDigits-digits-lt}
+use Rattle.serialize.proofs.Digits.{length-digitsOf, ofDigits-digitsOf-lt}
 use Rattle.directory.specs.Directory.{pairs, keyBytes, directoryBytes}
 use Rattle.directory.proofs.Lengths.{Bounded, length-pairs, keyBytes-split, offset-le}
 
@@ -20,10 +20,10 @@ pub record ReadsBack (keys : List (List ℕ)) (d : List ℕ) : Type 0 where
 
 -- a number of 4 bytes at the front
 number-front : (v : ℕ) (rest : List ℕ) → v < 2 ^ 32 → leVal (take 4 (leBytes 4 v ++ rest)) ≡ v
-number-front v rest h = rw (take-at (leBytes 4 v) rest 4 (length-digits 8 4 v)) (ofDigits-digits-lt 8 4 v h)
+number-front v rest h = rw (take-at (leBytes 4 v) rest 4 (length-digitsOf 8 4 v)) (ofDigits-digitsOf-lt 8 4 v h)
 
 number-behind : (v : ℕ) (rest : List ℕ) → drop 4 (leBytes 4 v ++ rest) ≡ rest
-number-behind v rest = drop-at (leBytes 4 v) rest 4 (length-digits 8 4 v)
+number-behind v rest = drop-at (leBytes 4 v) rest 4 (length-digitsOf 8 4 v)
 
 pairs-cons : (offset : ℕ) (key : List ℕ) (keys : List (List ℕ)) (rest : List ℕ)
     → pairs offset (key ∷ keys) ++ rest ≡ leBytes 4 offset ++ (leBytes 4 (length key) ++ (pairs (offset + length key) keys ++ rest))

@@ -9,12 +9,13 @@ use native.Mathlib.Numerals.{add-one}
 use native.Mathlib.Omega.{arith}
 use lib.Dec.{eqb, ltb}
 use borrow.Author.Tests.{lt-ltb, le-ltb, eq-eqb, ne-eqb, ltb-false, eqb-true, not-false}
-use lib.ListN.{length, take, drop}
+use lib.ListN.{length, take, drop, length-drop}
+use lib.Seq.{length-take-le}
 use Rattle.serialize.proofs.Tests.{neither}
 use Rattle.keys.specs.Order.{less, _≺_}
 use Rattle.keys.proofs.Order.{by-test}
 use Rattle.serialize.specs.Digits.{numberAt}
-use Rattle.directory.specs.Read.{countOf, keyOffset, keyLength, keyOf, keyBegin, pairsBad, directoryBad, keysBad, keyOutside}
+use Rattle.directory.specs.Read.{countOf, keyOffset, keyLength, keyPosition, keyOf, keyBegin, pairsBad, directoryBad, keysBad, keyOutside}
 
 or-true : (a b : Bool) → a ≡ true → a || b ≡ true
 or-true a b e = rw e refl
@@ -49,23 +50,26 @@ module _ (d : List ℕ) (n i : ℕ) where
   outside-key h offset len o l = rw (o, l, length-place, le-ltb (length d) (12 + 8 * i) (omega arith))
 
   -- the code's part is the definition's key
-  pub key-part : (offset len : ℕ) → offset ≡ keyOffset d i → len ≡ numberAt d (4 + 8 * i + 4) 4
-      → take (4 + 8 * n + offset + len - (4 + 8 * n + offset)) (drop (4 + 8 * n + offset) d) ≡ keyOf d n i
-  key-part offset len o l = rw (add-sub-cancel-left (4 + 8 * n + offset) len, o, l, length-place)
+  pub key-part : (from len : ℕ) → from ≡ keyPosition d n i → len ≡ keyLength d i → take (from + len - from) (drop from d) ≡ keyOf d n i
+  key-part from len o l = rw (add-sub-cancel-left from len, o, l)
 
   pub record Inside : Type 0 where
     pub pair : 12 + 8 * i ≤ length d
-    pub bytes : 4 + 8 * n + keyOffset d i + keyLength d i ≤ length d
+    pub bytes : keyPosition d n i + keyLength d i ≤ length d
 
   pub is-inside : keyOutside d n i ≡ false → Inside
   unfolding keyOutside
   is-inside e =
       let both = neither (ltb (length d) (12 + 8 * i)) _ e in
-      record { pair = ltb-false (length d) (12 + 8 * i) (both .0); bytes = ltb-false (length d) (4 + 8 * n + keyOffset d i + keyLength d i) (both .1) }
+      record { pair = ltb-false (length d) (12 + 8 * i) (both .0); bytes = ltb-false (length d) (keyPosition d n i + keyLength d i) (both .1) }
+
+  pub length-keyOf : Inside → length (keyOf d n i) ≡ keyLength d i
+  length-keyOf h =
+      length-take-le (keyLength d i) (drop (keyPosition d n i) d) (omega (arith, length-drop (keyPosition d n i) d, h .bytes))
 
   pub inside-is : Inside → keyOutside d n i ≡ false
   unfolding keyOutside
-  inside-is h = rw (le-ltb (length d) (12 + 8 * i) (h .pair), le-ltb (length d) (4 + 8 * n + keyOffset d i + keyLength d i) (h .bytes))
+  inside-is h = rw (le-ltb (length d) (12 + 8 * i) (h .pair), le-ltb (length d) (keyPosition d n i + keyLength d i) (h .bytes))
 
 -- ---- row 12: the pairs
 

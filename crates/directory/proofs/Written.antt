@@ -8,7 +8,7 @@ use lib.ListN.{length, getD, take, drop, length-append, length-drop}
 use lib.Seq.{sets, length-take-le}
 use borrow.Rule.Slice.PartMut.{putMid}
 use Rattle.serialize.specs.Digits.{leBytes}
-use Rattle.serialize.proofs.Digits.{length-digits}
+use Rattle.serialize.proofs.Digits.{length-digitsOf}
 use Rattle.serialize.proofs.Stores.{sets-append, sets-in-part, copied}
 use Rattle.directory.specs.Directory.{pairs, keyBytes, directoryBytes}
 use Rattle.directory.specs.Keys.{offsetAt, lengthAt, keyAt, keysAt}
@@ -55,7 +55,7 @@ module _ (area : List ℕ) (stride field : ℕ) (keys : List ℕ) (n : ℕ) wher
     unfolding pairs
     pairs-turn out a b offset p q =
         let e : 8 * (i + 1) ≡ 8 * i + 4 + 4 = omega arith in
-        rw (keysAt-cons area stride field keys n i h, length-keyAt area stride field keys n ok i h, e, q, p, sets-run out (leBytes 4 offset) _ (8 * i) 4 (length-digits 8 4 offset), sets-run _ (leBytes 4 (lengthAt area stride field i)) _ (8 * i + 4) 4 (length-digits 8 4 (lengthAt area stride field i)))
+        rw (keysAt-cons area stride field keys n i h, length-keyAt area stride field keys n ok i h, e, q, p, sets-run out (leBytes 4 offset) _ (8 * i) 4 (length-digitsOf 8 4 offset), sets-run _ (leBytes 4 (lengthAt area stride field i)) _ (8 * i + 4) 4 (length-digitsOf 8 4 (lengthAt area stride field i)))
 
     -- key i, copied into what is left of the output
     pub keys-turn : (out key y : List ℕ) (to : ℕ) → key ≡ keyAt area stride field keys i → to + length (keyBytes (left i)) ≤ length out
@@ -90,4 +90,4 @@ pub directory-written : (ks : List (List ℕ)) (n : ℕ) (d a p k : List ℕ) �
 unfolding directoryBytes
 directory-written ks n d a p k e first second third =
     let two : putMid 4 (length a - 4) a p ≡ sets a 4 (pairs 0 ks) = rw second (sets-in-part a (pairs 0 ks) 4 0) in
-    rw (third, sets-in-part (putMid 4 (length a - 4) a p) (keyBytes ks) (4 + 8 * n) 0, two, first, add-zero (4 + 8 * n), e, sets-run d (leBytes 4 n) _ 0 4 (length-digits 8 4 n), sets-run _ (pairs 0 ks) _ 4 (8 * n) (length-pairs 0 ks ∙ rw e))
+    rw (third, sets-in-part (putMid 4 (length a - 4) a p) (keyBytes ks) (4 + 8 * n) 0, two, first, add-zero (4 + 8 * n), e, sets-run d (leBytes 4 n) _ 0 4 (length-digitsOf 8 4 n), sets-run _ (pairs 0 ks) _ 4 (8 * n) (length-pairs 0 ks ∙ rw e))

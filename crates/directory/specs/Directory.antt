@@ -1,5 +1,5 @@
--- The key directory (document 01, "Records"): n as 4 bytes, n pairs of offset and length (4 and 4) in block order, the keys.
--- Offsets count from the first key byte, and keys touch.
+-- The key directory (SPECIFICATION 3.4): how many keys, a pair for each that says where it stands, and the keys one after the other.
+-- A pair's offset is the sum of the lengths before it.
 use Prim.Native.Nat.{ℕ, _+_}
 use mathlib.Core.List.{List, [], _∷_, _++_}
 use lib.ListN.{length}

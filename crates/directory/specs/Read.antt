@@ -5,6 +5,7 @@ use mathlib.Core.List.{List, [], _∷_}
 use mathlib.Core.Bool.{Bool, false, not, _||_, cond}
 use lib.Dec.{eqb, ltb}
 use lib.ListN.{length, take, drop}
+use Rattle.layout.specs.Layout.{maxBlocks, maxKeyLen}
 use Rattle.serialize.specs.Digits.{numberAt}
 use Rattle.keys.specs.Order.{less, _≺_, _≼_}
 use Rattle.directory.specs.declared.read.Found.{Found}
@@ -20,9 +21,12 @@ keyOffset d i = numberAt d (4 + 8 * i) 4
 abbrev pub keyLength : List ℕ → ℕ → ℕ
 keyLength d i = numberAt d (8 + 8 * i) 4
 
--- key i of n
+-- where key i of n begins in d, and the key
+abbrev pub keyPosition : List ℕ → ℕ → ℕ → ℕ
+keyPosition d n i = 4 + 8 * n + keyOffset d i
+
 abbrev pub keyOf : List ℕ → ℕ → ℕ → List ℕ
-keyOf d n i = take (keyLength d i) (drop (4 + 8 * n + keyOffset d i) d)
+keyOf d n i = take (keyLength d i) (drop (keyPosition d n i) d)
 
 -- the `count` keys from key i on
 unfoldable pub keysFrom : List ℕ → ℕ → ℕ → ℕ → List (List ℕ)
@@ -33,7 +37,7 @@ keysFrom d n i (suc count) = keyOf d n i ∷ keysFrom d n (suc i) count
 abbrev pub keysIn : List ℕ → List (List ℕ)
 keysIn d = keysFrom d (countOf d) 0 (countOf d)
 
--- where key i begins: the first offset is 0, the next is offset plus length
+-- where key i has to begin: at the end of the one before it (SPECIFICATION 2.4)
 unfoldable pub keyBegin : List ℕ → ℕ → ℕ
 keyBegin d zero = 0
 keyBegin d (suc i) = keyOffset d i + keyLength d i
@@ -41,13 +45,14 @@ keyBegin d (suc i) = keyOffset d i + keyLength d i
 -- among the first m pairs one breaks the offsets' rule, or its key is over 1,024
 unfoldable pub pairsBad : List ℕ → ℕ → Bool
 pairsBad d zero = false
-pairsBad d (suc m) = pairsBad d m || (not (eqb (keyOffset d m) (keyBegin d m)) || ltb 1024 (keyLength d m))
+pairsBad d (suc m) = pairsBad d m || (not (eqb (keyOffset d m) (keyBegin d m)) || ltb maxKeyLen (keyLength d m))
 
--- row 12: n outside 2..65,536, offsets broken, a key over 1,024, or length not exact
+-- row 12 (SPECIFICATION 13.12, 12.9): the count, the pairs, or a directory that is too short or too long for them
 unfoldable pub directoryBad : List ℕ → Bool
 directoryBad d =
-    ltb (length d) 4 || (ltb (countOf d) 2 || (ltb 65536 (countOf d)
-    || (ltb (length d) (4 + 8 * countOf d) || (pairsBad d (countOf d) || not (eqb (length d) (4 + 8 * countOf d + keyBegin d (countOf d)))))))
+    ltb (length d) 4 || (ltb (countOf d) 2 || (ltb maxBlocks (countOf d)
+    || (ltb (length d) (4 + 8 * countOf d)
+    || (pairsBad d (countOf d) || not (eqb (length d) (4 + 8 * countOf d + keyBegin d (countOf d)))))))
 
 -- row 13: among the first m keys of n one isn't above the one before it
 unfoldable pub keysBad : List ℕ → ℕ → ℕ → Bool
@@ -61,7 +66,7 @@ directoryNo d = cond (directoryBad d) 12 (cond (keysBad d (countOf d) (countOf d
 
 -- row 20 for key i: its pair or the key itself lies outside the bytes
 unfoldable pub keyOutside : List ℕ → ℕ → ℕ → Bool
-keyOutside d n i = ltb (length d) (12 + 8 * i) || ltb (length d) (4 + 8 * n + keyOffset d i + keyLength d i)
+keyOutside d n i = ltb (length d) (12 + 8 * i) || ltb (length d) (keyPosition d n i + keyLength d i)
 
 -- the keys 0 to n - 1 are inside, and rise
 pub record Sorted (d : List ℕ) (n : ℕ) : Type 0 where
@@ -73,6 +78,12 @@ pub record First (f : ℕ → List ℕ) (n : ℕ) (key : List ℕ) (i : ℕ) : T
   pub inside : i < n
   pub not-below : key ≼ f i
   pub earlier : (j : ℕ) → j < i → f j ≺ key
+
+-- document 01's number for what a key's search finds
+abbrev pub foundNo : Found → ℕ
+foundNo (At i) = 0
+foundNo Above = 19
+foundNo Outside = 20
 
 -- what a key's search may answer in every case, and what it answers where the keys are inside and rise
 unfoldable pub FoundIn : ℕ → Found → Type 0

@@ -5,13 +5,11 @@ ghost use Prim.Native.Nat.{_+_, _*_, _^_, _≤_, _<_, min};
 ghost use lib.ListN.{length, take, drop};
 ghost use Rattle.serialize.specs.Digits.{numberAt};
 ghost use Rattle.keys.specs.Order.{less, commonPrefixLen};
-ghost use Rattle.directory.specs.Read.{countOf, keyOffset, keyLength, keyOf, pairsBad, directoryBad, keysBad, directoryNo, keyOutside, Sorted, FoundIn, FoundAs};
-
-const PAIR_LEN: usize = 8;
-
-const MAX_BLOCKS: usize = 65536;
-
-const MAX_KEY_LEN: usize = 1024;
+ghost use Rattle.directory.specs.Read.{countOf, keyPosition, keyOf, keyOutside};
+ghost use Rattle.directory.specs.Read.{pairsBad, directoryBad, keysBad, directoryNo, Sorted, FoundIn, FoundAs};
+use layout::MAX_BLOCKS;
+use layout::MAX_KEY_LEN;
+use layout::PAIR_LEN;
 
 // The first key that isn't below the one looked for, that all are below it, or that a key lies outside the bytes.
 pub enum Found {
@@ -76,14 +74,21 @@ fn directory_bad(directory: &[u8]) -> bool
     len != keys + (number(directory, last) + number(directory, last + 4))
 }
 
+// Where key i of n begins.
+pub fn key_position(directory: &[u8], n: usize, i: usize) -> usize
+    requires { ⌜ (n ≤ 65536) × (i < n) × (keyOutside (now directory) n i ≡ false) ⌝ }
+    ensures { λ r. ⌜ r ≡ keyPosition (now (directory .entry)) n i ⌝ }
+{
+    4 + PAIR_LEN * n + number(directory, 4 + PAIR_LEN * i)
+}
+
 // Key i of n.
 pub fn key(directory: &[u8], n: usize, i: usize) -> &[u8]
     requires { ⌜ (n ≤ 65536) × (i < n) × (keyOutside (now directory) n i ≡ false) ⌝ }
     ensures { λ r. ⌜ now r ≡ keyOf (now (directory .entry)) n i ⌝ }
 {
-    let at = 4 + PAIR_LEN * i;
-    let from = 4 + PAIR_LEN * n + number(directory, at);
-    let end = from + number(directory, at + 4);
+    let from = key_position(directory, n, i);
+    let end = from + number(directory, 8 + PAIR_LEN * i);
     &directory[from..end]
 }
 

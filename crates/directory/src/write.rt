@@ -6,9 +6,7 @@ ghost use lib.Seq.{sets};
 ghost use Rattle.directory.specs.Directory.{directoryBytes, pairs, keyBytes};
 ghost use Rattle.directory.specs.Keys.{keysAt};
 ghost use Rattle.directory.specs.Facts.{KeysArea};
-
-// The bytes of a pair of offset and length.
-const PAIR_LEN: usize = 8;
+use layout::PAIR_LEN;
 
 // How many bytes the keys take.
 fn keys_len(area: &[u64], stride: usize, field: usize, keys: &[u8], n: usize) -> usize
@@ -35,7 +33,8 @@ pub fn directory_len(area: &[u64], stride: usize, field: usize, keys: &[u8], n: 
 // Writes the pairs from the front of `out` on.
 fn write_pairs(area: &[u64], stride: usize, field: usize, keys: &[u8], n: usize, out: &mut [u8])
     requires { ⌜ KeysArea (now area) stride field (now keys) n × (8 * n ≤ length (now out)) ⌝ }
-    ensures { λ _. ⌜ now (out .exit) ≡ sets (now (out .entry)) 0 (pairs 0 (keysAt (now (area .entry)) stride field (now (keys .entry)) 0 n)) ⌝ }
+    ensures { λ _. ⌜ now (out .exit)
+        ≡ sets (now (out .entry)) 0 (pairs 0 (keysAt (now (area .entry)) stride field (now (keys .entry)) 0 n)) ⌝ }
 {
     let mut offset: usize = 0;
     let mut i: usize = 0;
@@ -57,8 +56,10 @@ fn write_keys(
     n: usize,
     out: &mut [u8],
 ) -> usize
-    requires { ⌜ KeysArea (now area) stride field (now keys) n × (length (keyBytes (keysAt (now area) stride field (now keys) 0 n)) ≤ length (now out)) ⌝ }
-    ensures { λ r. ⌜ (r ≡ length (keyBytes (keysAt (now (area .entry)) stride field (now (keys .entry)) 0 n))) × (now (out .exit) ≡ sets (now (out .entry)) 0 (keyBytes (keysAt (now (area .entry)) stride field (now (keys .entry)) 0 n))) ⌝ }
+    requires { ⌜ KeysArea (now area) stride field (now keys) n
+        × (length (keyBytes (keysAt (now area) stride field (now keys) 0 n)) ≤ length (now out)) ⌝ }
+    ensures { λ r. ⌜ (r ≡ length (keyBytes (keysAt (now (area .entry)) stride field (now (keys .entry)) 0 n)))
+        × (now (out .exit) ≡ sets (now (out .entry)) 0 (keyBytes (keysAt (now (area .entry)) stride field (now (keys .entry)) 0 n))) ⌝ }
 {
     let mut to: usize = 0;
     let mut i: usize = 0;
@@ -81,8 +82,11 @@ pub fn serialize(
     n: usize,
     out: &mut [u8],
 ) -> usize
-    requires { ⌜ KeysArea (now area) stride field (now keys) n × (length (directoryBytes (keysAt (now area) stride field (now keys) 0 n)) ≤ length (now out)) ⌝ }
-    ensures { λ r. ⌜ (r ≡ length (directoryBytes (keysAt (now (area .entry)) stride field (now (keys .entry)) 0 n))) × (now (out .exit) ≡ sets (now (out .entry)) 0 (directoryBytes (keysAt (now (area .entry)) stride field (now (keys .entry)) 0 n))) ⌝ }
+    requires { ⌜ KeysArea (now area) stride field (now keys) n
+        × (length (directoryBytes (keysAt (now area) stride field (now keys) 0 n)) ≤ length (now out)) ⌝ }
+    ensures { λ r. ⌜ (r ≡ length (directoryBytes (keysAt (now (area .entry)) stride field (now (keys .entry)) 0 n)))
+        × (now (out .exit) ≡ sets (now (out .entry)) 0
+        (directoryBytes (keysAt (now (area .entry)) stride field (now (keys .entry)) 0 n))) ⌝ }
 {
     serialize::serialize_u32(out, 0, n as u32);
     write_pairs(area, stride, field, keys, n, &mut out[4..]);

@@ -8,7 +8,7 @@ use lib.ListN.{length, getD, set, length-append}
 use lib.Seq.{sets}
 use Rattle.serialize.proofs.Stores.{sets-append}
 use Rattle.automaton.specs.Table.{WellFormed, states, flag, next}
-use Rattle.automaton.specs.Words.{Bytes, run, Word}
+use Rattle.automaton.specs.Words.{Bytes, run, Accepts}
 use Rattle.automaton.proofs.Strings.{run-append, hits-nil, hits-cons, word-cases}
 use Rattle.example.specs.Distance.{Distances}
 
@@ -36,7 +36,7 @@ module _ {t d : List ℕ} (x : Distances t d) where
   pub one-nearer : (s b : ℕ) → WellFormed t → s < states t → b < 256 → getD d s 0 < 64 → getD d (next t s b) 0 < getD d s 0 → getD d (next t s b) 0 + 1 ≡ getD d s 0
   one-nearer s b wf hs hb small less =
       let m = x .near (next t s b) (wf .closed s b hs hb) (omega arith) in
-      omega (arith, m .good, x .least s (b ∷ m .word) hs (hits-cons s b hb (m .hits)))
+      omega (arith, m .good, x .least s (b ∷ m .string) hs (hits-cons s b hb (m .hits)))
 
 bytes-more : (w : List ℕ) (b : ℕ) → Bytes w → b < 256 → Bytes (w ++ (b ∷ []))
 bytes-more [] b h l = (l, tt)
@@ -44,37 +44,37 @@ bytes-more (x ∷ w) b h l = (h .0, bytes-more w b (h .1) l)
 
 -- ---- the string written so far leads from state to s, and what is left is as long as s is far
 pub record Sofar (t d old new : List ℕ) (state at s i : ℕ) : Type 0 where
-  pub word : List ℕ
-  pub bytes : Bytes word
-  pub leads : s ≡ run t state word
+  pub string : List ℕ
+  pub bytes : Bytes string
+  pub leads : s ≡ run t state string
   pub small : s < states t
-  pub ends : i ≡ at + length word
-  pub left : length word + getD d s 0 ≡ getD d state 0
-  pub put : new ≡ sets old at word
+  pub ends : i ≡ at + length string
+  pub left : length string + getD d s 0 ≡ getD d state 0
+  pub put : new ≡ sets old at string
 
 module _ {t d old : List ℕ} where
   pub sofar-none : (state at : ℕ) → state < states t → Sofar t d old old state at state at
   unfolding run
-  sofar-none state at h = record { word = []; bytes = tt; leads = refl; small = h; ends = omega arith; left = omega arith; put = refl }
+  sofar-none state at h = record { string = []; bytes = tt; leads = refl; small = h; ends = omega arith; left = omega arith; put = refl }
 
   module _ {new : List ℕ} {state at s i : ℕ} (z : Sofar t d old new state at s i) where
     pub sofar-more : (b : ℕ) → WellFormed t → b < 256 → getD d (next t s b) 0 + 1 ≡ getD d s 0 → Sofar t d old (set new i b) state at (next t s b) (i + 1)
     unfolding run
     sofar-more b wf h e =
-        let l = length-append (z .word) (b ∷ []) in
+        let l = length-append (z .string) (b ∷ []) in
         record {
-          word = z .word ++ (b ∷ []);
-          bytes = bytes-more (z .word) b (z .bytes) h;
-          leads = ap (λ (x : ℕ). next t x b) (z .leads) ∙ sym (run-append t state (z .word) (b ∷ []));
+          string = z .string ++ (b ∷ []);
+          bytes = bytes-more (z .string) b (z .bytes) h;
+          leads = ap (λ (x : ℕ). next t x b) (z .leads) ∙ sym (run-append t state (z .string) (b ∷ []));
           small = wf .closed s b (z .small) h;
           ends = omega (arith, z .ends);
           left = omega (arith, z .left);
-          put = rw (z .put, z .ends) (sets-append old (z .word) (b ∷ []) at);
+          put = rw (z .put, z .ends) (sets-append old (z .string) (b ∷ []) at);
         }
 
-    pub sofar-done : Distances t d → getD d s 0 ≡ 0 → Word t state (λ w. (length w ≡ getD d state 0) × (new ≡ sets old at w))
+    pub sofar-done : Distances t d → getD d s 0 ≡ 0 → Accepts t state (λ w. (length w ≡ getD d state 0) × (new ≡ sets old at w))
     sofar-done x e = record {
-      word = z .word;
+      string = z .string;
       hits = record { bytes = z .bytes; ends = subst (λ (q : ℕ). flag t q ≡ 1) (z .leads) (at-zero x s (z .small) e) };
       good = (omega (arith, z .left), z .put);
     }

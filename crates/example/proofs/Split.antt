@@ -8,7 +8,7 @@ use lib.ListN.{length, getD, take, drop}
 use lib.Seq.{take-all}
 use Rattle.keys.specs.Order.{less, _≺_, _≼_, commonPrefixLen}
 use Rattle.keys.proofs.Order.{by-test, less-trans, less-asym, ≺-≼-trans, prefix-≺, commonPrefixLen-take, commonPrefixLen-differ}
-use Rattle.automaton.specs.Words.{Word}
+use Rattle.automaton.specs.Words.{Accepts}
 use Rattle.pruning.specs.Interval.{MatchBetween}
 use Rattle.pruning.proofs.Intervals.{≺-lower}
 use Rattle.example.proofs.Bounds.{≺-behind, next-string, next-byte}
@@ -26,8 +26,8 @@ module _ (a b : List ℕ) {n : ℕ} (e : n ≡ commonPrefixLen a b) where
     pub prefix-found : (w : List ℕ) → (take n b ++ (0 ∷ [])) ≼ w → w ≼ b → (a ≺ w) × (w ≼ b)
     prefix-found w l u = (rw start-front (≺-≼-trans (take n b) (take n b ++ (0 ∷ [])) w (prefix-≺ (take n b) 0 []) l), u)
 
-    pub prefix-none : {t : List ℕ} → (Word t 0 (λ w. ((take n b ++ (0 ∷ [])) ≼ w) × (w ≼ b)) → ⊥) → MatchBetween t 0 a b → ⊥
-    prefix-none none m = none (record { word = m .word; hits = m .hits; good = (next-string (take n b) (m .word) (rw start-front at (m .good .0)), m .good .1) })
+    pub prefix-none : {t : List ℕ} → (Accepts t 0 (λ w. ((take n b ++ (0 ∷ [])) ≼ w) × (w ≼ b)) → ⊥) → MatchBetween t 0 a b → ⊥
+    prefix-none none m = none (record { string = m .string; hits = m .hits; good = (next-string (take n b) (m .string) (rw start-front at (m .good .0)), m .good .1) })
 
   -- ---- the start's next byte is below the end's
   module _ (ha : n < length a) (hb : n < length b) (h : getD a n 0 ≤ getD b n 0) where
@@ -53,8 +53,8 @@ module _ (a b : List ℕ) {n : ℕ} (e : n ≡ commonPrefixLen a b) where
         let g′ : a ≺ (take n b ++ ((x + 1) ∷ [])) = rw (split a n ha, same-front) at g in
         (≺-≼-trans a (take n b ++ ((x + 1) ∷ [])) w g′ l, u)
 
-    pub both-none : {t : List ℕ} → (Word t 0 (λ w. (a ≺ w) × (w ≺ (take (n + 1) a ++ (256 ∷ [])))) → ⊥) → (Word t 0 (λ w. ((take n b ++ ((getD a n 0 + 1) ∷ [])) ≼ w) × (w ≼ b)) → ⊥) → MatchBetween t 0 a b → ⊥
+    pub both-none : {t : List ℕ} → (Accepts t 0 (λ w. (a ≺ w) × (w ≺ (take (n + 1) a ++ (256 ∷ [])))) → ⊥) → (Accepts t 0 (λ w. ((take n b ++ ((getD a n 0 + 1) ∷ [])) ≼ w) × (w ≼ b)) → ⊥) → MatchBetween t 0 a b → ⊥
     both-none none₁ none₂ m =
-        by-test (less (m .word) (take n b ++ ((getD a n 0 + 1) ∷ [])))
-        (λ g. none₁ (record { word = m .word; hits = m .hits; good = (m .good .0, rw edge (next-byte (take n b) (getD a n 0) (m .word) (m .hits .bytes) g)) }))
-        (λ g. none₂ (record { word = m .word; hits = m .hits; good = (g, m .good .1) }))
+        by-test (less (m .string) (take n b ++ ((getD a n 0 + 1) ∷ [])))
+        (λ g. none₁ (record { string = m .string; hits = m .hits; good = (m .good .0, rw edge (next-byte (take n b) (getD a n 0) (m .string) (m .hits .bytes) g)) }))
+        (λ g. none₂ (record { string = m .string; hits = m .hits; good = (g, m .good .1) }))

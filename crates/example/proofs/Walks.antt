@@ -11,7 +11,7 @@ use lib.Seq.{take-suc, take-all}
 use Rattle.keys.specs.Order.{less, _≺_, _≼_}
 use Rattle.keys.proofs.Order.{by-test, less-asym, ≼-refl, ≼-cases, ≺-≼-trans, ≼-trans, prefix-≼, prefix-≺}
 use Rattle.automaton.specs.Table.{WellFormed, states, flag, next}
-use Rattle.automaton.specs.Words.{run, Hits, Word}
+use Rattle.automaton.specs.Words.{run, Hits, Accepts}
 use Rattle.automaton.proofs.Strings.{run-more}
 use Rattle.pruning.proofs.Intervals.{≺-lower, drop-byte}
 use Rattle.example.proofs.Bounds.{≺-behind, ≼-behind, ≼-byte, next-string, next-byte}
@@ -42,11 +42,11 @@ pub upto-start : {t : List ℕ} (key : List ℕ) (n lo s : ℕ) → n ≤ length
 upto-start key n lo s h r hs l = record { place = h; state = r; small = hs; over = l; from-m = ≼-refl (take n key ++ (lo ∷ [])); left = λ w i a b. a }
 
 module _ {t key m : List ℕ} {i low s : ℕ} (z : Upto t key m i low s) where
-  pub upto-end : length key ≤ i → Word t 0 (λ w. (m ≼ w) × (w ≼ key)) → ⊥
+  pub upto-end : length key ≤ i → Accepts t 0 (λ w. (m ≼ w) × (w ≼ key)) → ⊥
   upto-end h x =
       let e : take i key ≡ key = take-all i key h in
-      let a : (key ++ (low ∷ [])) ≼ x .word = subst (λ (p : List ℕ). (p ++ (low ∷ [])) ≼ x .word) e (z .left (x .word) (x .hits) (x .good .0) (x .good .1)) in
-      false≢true (sym (≼-trans (key ++ (low ∷ [])) (x .word) key a (x .good .1)) ∙ prefix-≺ key low [])
+      let a : (key ++ (low ∷ [])) ≼ x .string = subst (λ (p : List ℕ). (p ++ (low ∷ [])) ≼ x .string) e (z .left (x .string) (x .hits) (x .good .0) (x .good .1)) in
+      false≢true (sym (≼-trans (key ++ (low ∷ [])) (x .string) key a (x .good .1)) ∙ prefix-≺ key low [])
 
   module _ (h : i < length key) where
     -- leaving the key below its byte
@@ -67,7 +67,7 @@ module _ {t key m : List ℕ} {i low s : ℕ} (z : Upto t key m i low s) where
     pub next-state : next t s (getD key i 0) ≡ run t 0 (take (i + 1) key)
     next-state = ap (λ (x : ℕ). next t x (getD key i 0)) (z .state) ∙ sym (run-more t 0 key i h)
 
-    pub upto-turn : WellFormed t → getD key i 0 < 256 → (Word t 0 (λ w. ((take i key ++ (low ∷ [])) ≼ w) × (w ≺ (take i key ++ (getD key i 0 ∷ [])))) → ⊥)
+    pub upto-turn : WellFormed t → getD key i 0 < 256 → (Accepts t 0 (λ w. ((take i key ++ (low ∷ [])) ≼ w) × (w ≺ (take i key ++ (getD key i 0 ∷ [])))) → ⊥)
         → (flag t (next t s (getD key i 0)) ≡ 1 → ⊥) → Upto t key m (i + 1) 0 (next t s (getD key i 0))
     upto-turn wf hk none dead = record {
       place = omega arith;
@@ -76,7 +76,7 @@ module _ {t key m : List ℕ} {i low s : ℕ} (z : Upto t key m i low s) where
       over = zero-le;
       from-m = ≼-trans m (take (i + 1) key) (take (i + 1) key ++ (0 ∷ [])) from-more (prefix-≼ (take (i + 1) key) (0 ∷ []));
       left = λ w hw a b. by-test (less w (take (i + 1) key))
-          (λ e. absurd (none (record { word = w; hits = hw; good = (z .left w hw a b, rw (take-more key i h) at e) })))
+          (λ e. absurd (none (record { string = w; hits = hw; good = (z .left w hw a b, rw (take-more key i h) at e) })))
           (λ e. ⊎-elim
           (next-string (take (i + 1) key) w)
           (λ q. absurd (dead (ap (flag t) next-state ∙ subst (λ (x : List ℕ). flag t (run t 0 x) ≡ 1) (sym q) (hw .ends))))
@@ -106,9 +106,9 @@ module _ {t key : List ℕ} {n i s : ℕ} (z : Over t key n i s) where
     pub over-last : (w : List ℕ) → (take i key ++ (0 ∷ [])) ≼ w → w ≺ (take i key ++ (256 ∷ [])) → (key ≺ w) × (w ≺ (take n key ++ (256 ∷ [])))
     over-last w a b = (≺-≼-trans key (key ++ (0 ∷ [])) w (prefix-≺ key 0 []) (rw whole at a), below-n w b)
 
-    pub over-end : (Word t 0 (λ w. ((take i key ++ (0 ∷ [])) ≼ w) × (w ≺ (take i key ++ (256 ∷ [])))) → ⊥) → Word t 0 (λ w. (key ≺ w) × (w ≺ (take n key ++ (256 ∷ [])))) → ⊥
+    pub over-end : (Accepts t 0 (λ w. ((take i key ++ (0 ∷ [])) ≼ w) × (w ≺ (take i key ++ (256 ∷ [])))) → ⊥) → Accepts t 0 (λ w. (key ≺ w) × (w ≺ (take n key ++ (256 ∷ [])))) → ⊥
     over-end none x =
-        none (record { word = x .word; hits = x .hits; good = (rw whole (next-string key (x .word) (x .good .0)), z .left (x .word) (x .hits) (x .good .0) (x .good .1)) })
+        none (record { string = x .string; hits = x .hits; good = (rw whole (next-string key (x .string) (x .good .0)), z .left (x .string) (x .hits) (x .good .0) (x .good .1)) })
 
   module _ (h : i < length key) where
     -- leaving the key above its byte
@@ -121,7 +121,7 @@ module _ {t key : List ℕ} {n i s : ℕ} (z : Over t key n i s) where
     behind-more : take (i + 1) key ++ (256 ∷ []) ≡ take i key ++ (getD key i 0 ∷ (256 ∷ []))
     behind-more = rw (take-more key i h) (append-assoc (take i key) (getD key i 0 ∷ []) (256 ∷ []))
 
-    pub over-turn : WellFormed t → getD key i 0 < 256 → (Word t 0 (λ w. ((take i key ++ ((getD key i 0 + 1) ∷ [])) ≼ w) × (w ≺ (take i key ++ (256 ∷ [])))) → ⊥)
+    pub over-turn : WellFormed t → getD key i 0 < 256 → (Accepts t 0 (λ w. ((take i key ++ ((getD key i 0 + 1) ∷ [])) ≼ w) × (w ≺ (take i key ++ (256 ∷ [])))) → ⊥)
         → Over t key n (i + 1) (next t s (getD key i 0))
     over-turn wf hk none = record {
       place = omega arith;
@@ -131,5 +131,5 @@ module _ {t key : List ℕ} {n i s : ℕ} (z : Over t key n i s) where
           (less-asym (take i key ++ (getD key i 0 ∷ (256 ∷ []))) (take i key ++ (256 ∷ [])) (≺-behind (take i key) (getD key i 0 ∷ (256 ∷ [])) (256 ∷ []) (≺-lower (getD key i 0) 256 (256 ∷ []) [] hk)))
           (z .below));
       left = λ w hw a b. rw behind-more (next-byte (take i key) (getD key i 0) w (hw .bytes)
-          (by-test (less w (take i key ++ ((getD key i 0 + 1) ∷ []))) (λ e. e) (λ e. absurd (none (record { word = w; hits = hw; good = (e, z .left w hw a b) })))));
+          (by-test (less w (take i key ++ ((getD key i 0 + 1) ∷ []))) (λ e. e) (λ e. absurd (none (record { string = w; hits = hw; good = (e, z .left w hw a b) })))));
     }

@@ -1,8 +1,7 @@
--- The example call (document 01, "Pruning", rows 21 to 25): some accepted string of the interval; which one is free.
+-- The example call (SPECIFICATION 11.8, rows 21 to 25): an accepted string of an interval is written, and no word on which.
 use Prim.Native.Nat.{ℕ, _+_, _≤_, _<_, max}
 use mathlib.Core.Path.{_≡_}
 use mathlib.Core.List.{List}
-use mathlib.Core.Logic.{_⊎_}
 use mathlib.Core.Option.{Option, none, some}
 use lib.ListN.{length}
 use lib.Seq.{sets}
@@ -27,23 +26,34 @@ pub data ExampleNo (t : List ℕ) (start : Option (List ℕ)) (end : List ℕ) (
 
 -- the first `len` bytes written are an accepted string of the interval, not too long; the bytes behind stay
 pub record Shown (t : List ℕ) (start : Option (List ℕ)) (end out written : List ℕ) (len : ℕ) : Type 0 where
-  pub word : List ℕ
-  pub hits : Hits t 0 word
-  pub above : AboveStart start word
-  pub not-above : word ≼ end
-  pub whole : len ≡ length word
+  pub string : List ℕ
+  pub hits : Hits t 0 string
+  pub above : AboveStart start string
+  pub not-above : string ≼ end
+  pub whole : len ≡ length string
   pub short : len ≤ longer start end + 64
-  pub bytes : written ≡ sets out 0 word
+  pub bytes : written ≡ sets out 0 string
 
 -- document 01's number and length for each answer; a refusal has all else zero
-abbrev pub answerNo : ExampleAnswer → ℕ
-answerNo (Written len) = 0
-answerNo (Refused k) = k
+abbrev pub exampleAnswerNo : ExampleAnswer → ℕ
+exampleAnswerNo (Written len) = 0
+exampleAnswerNo (Refused k) = k
 
-abbrev pub answerLen : ExampleAnswer → ℕ
-answerLen (Written len) = len
-answerLen (Refused k) = 0
+abbrev pub exampleAnswerLen : ExampleAnswer → ℕ
+exampleAnswerLen (Written len) = len
+exampleAnswerLen (Refused k) = 0
 
--- what a call with number k leaves in the output: an example, or what was there
-abbrev pub ExampleLeaves : List ℕ → Option (List ℕ) → List ℕ → List ℕ → List ℕ → ℕ → ℕ → Type 0
-ExampleLeaves t start end out written k len = ((k ≡ 0) × Shown t start end out written len) ⊎ ((0 < k) × (len ≡ 0) × (written ≡ out))
+-- a refusal has a number above 0
+abbrev pub ExampleAnswerCased : ExampleAnswer → Type 0
+ExampleAnswerCased (Written len) = Unit {0}
+ExampleAnswerCased (Refused k) = 0 < k
+
+-- what a call with the number k leaves: its length, and the output
+pub record ExampleLeaves (t : List ℕ) (start : Option (List ℕ)) (end out written : List ℕ) (k len : ℕ) : Type 0 where
+  pub taken : k ≡ 0 → Shown t start end out written len
+  pub refused : 0 < k → (len ≡ 0) × (written ≡ out)
+
+-- a call for an example of the interval (start, end]
+pub record ExampleFor (t : List ℕ) (start : Option (List ℕ)) (end out written : List ℕ) (k len : ℕ) : Type 0 where
+  pub number : ExampleNo t start end (length out) k
+  pub leaves : ExampleLeaves t start end out written k len

@@ -7,10 +7,9 @@ use crate::walk::write_between;
 use crate::walk::write_range_end;
 ghost use mathlib.Core.Path.{_≡_};
 ghost use Prim.Native.Nat.{_+_, _≤_, _<_};
-ghost use lib.ListN.{length};
 ghost use Rattle.automaton.specs.Bits.{Exactly};
 ghost use Rattle.pruning.specs.Interval.{startOf};
-ghost use Rattle.example.specs.Example.{longer, ExampleNo, answerNo, answerLen, ExampleLeaves};
+ghost use Rattle.example.specs.Example.{longer, exampleAnswerNo, exampleAnswerLen, ExampleAnswerCased, ExampleFor};
 
 // The length of an example, or a row's number.
 pub enum ExampleAnswer {
@@ -56,8 +55,9 @@ pub fn example(
     table: &[u8],
     out: &mut [u8],
 ) -> ExampleAnswer
-    ensures { λ r. ⌜ ExampleNo (now (table .entry)) (startOf «has_start» (now («start_key» .entry))) (now («end_key» .entry)) (length (now (out .entry))) (answerNo r) ⌝ }
-    ensures { λ r. ⌜ ExampleLeaves (now (table .entry)) (startOf «has_start» (now («start_key» .entry))) (now («end_key» .entry)) (now (out .entry)) (now (out .exit)) (answerNo r) (answerLen r) ⌝ }
+    ensures { λ r. ⌜ ExampleFor (now (table .entry)) (startOf «has_start» (now («start_key» .entry))) (now («end_key» .entry))
+        (now (out .entry)) (now (out .exit)) (exampleAnswerNo r) (exampleAnswerLen r) ⌝ }
+    ensures { λ r. ⌜ ExampleAnswerCased r ⌝ }
 {
     let no = automaton::table::check(table);
     if no != 0 {

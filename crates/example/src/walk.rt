@@ -1,18 +1,17 @@
-// The walk along a key to where an example leaves it, and the example written from there. A length of 0 stands for none: nothing is written then.
+// The walk along a key to where an example leaves it, and the example written from there. A length of 0 stands for none:
+// nothing is written then.
 use crate::tail::write_tail;
 use automaton::table::accept;
 use pruning::block_match_automaton::accept_prefix;
 ghost use mathlib.Core.Path.{_≡_};
-ghost use mathlib.Core.List.{[], _∷_, _++_};
 ghost use Prim.Native.Nat.{_+_, _≤_, _<_, max};
 ghost use lib.ListN.{length, take, getD};
-ghost use lib.Seq.{sets};
 ghost use Rattle.keys.specs.Order.{_≺_, _≼_};
 ghost use Rattle.automaton.specs.Table.{WellFormed, states, next};
-ghost use Rattle.automaton.specs.Words.{run, Word};
+ghost use Rattle.automaton.specs.Words.{run};
 ghost use Rattle.automaton.specs.Live.{LiveByte};
-ghost use Rattle.pruning.specs.Interval.{MatchBetween};
 ghost use Rattle.example.specs.Distance.{Distances};
+ghost use Rattle.example.specs.Walk.{FromByte, UnderByte, Walked};
 
 // The first byte from lo on and below hi that leads to a state that can match; hi or more where there is none.
 fn first_byte(table: &[u8], distances: &[u8; 64], state: usize, lo: usize, hi: usize) -> usize
@@ -42,10 +41,11 @@ fn write_leaving(
     hi: usize,
     out: &mut [u8],
 ) -> usize
-    requires { ⌜ WellFormed (now table) × Distances (now table) (now distances) × (state < states (now table)) × (state ≡ run (now table) 0 (take len (now key))) ⌝ }
+    requires { ⌜ WellFormed (now table) × Distances (now table) (now distances) × (state < states (now table))
+        × (state ≡ run (now table) 0 (take len (now key))) ⌝ }
     requires { ⌜ (len ≤ length (now key)) × (length (now key) + 64 ≤ length (now out)) × (hi ≤ 256) ⌝ }
-    ensures { λ r. ⌜ (r ≡ 0 → (now (out .exit) ≡ now (out .entry)) × (Word (now (table .entry)) 0 (λ w. ((take len (now (key .entry)) ++ (lo ∷ [])) ≼ w) × (w ≺ (take len (now (key .entry)) ++ (hi ∷ [])))) → ⊥)) ⌝ }
-    ensures { λ r. ⌜ (0 < r → (r ≤ length (now (key .entry)) + 64) × Word (now (table .entry)) 0 (λ w. ((take len (now (key .entry)) ++ (lo ∷ [])) ≼ w) × (w ≺ (take len (now (key .entry)) ++ (hi ∷ []))) × (r ≡ length w) × (now (out .exit) ≡ sets (now (out .entry)) 0 w))) ⌝ }
+    ensures { λ r. ⌜ Walked (now (table .entry)) (FromByte (now (key .entry)) len lo) (UnderByte (now (key .entry)) len hi)
+        (length (now (key .entry)) + 64) (now (out .entry)) (now (out .exit)) r ⌝ }
 {
     let byte = first_byte(table, distances, state, lo, hi);
     if byte >= hi {
@@ -71,10 +71,11 @@ fn write_range_start(
     state: usize,
     out: &mut [u8],
 ) -> usize
-    requires { ⌜ WellFormed (now table) × Distances (now table) (now distances) × (state < states (now table)) × (state ≡ run (now table) 0 (take n (now key))) ⌝ }
+    requires { ⌜ WellFormed (now table) × Distances (now table) (now distances) × (state < states (now table))
+        × (state ≡ run (now table) 0 (take n (now key))) ⌝ }
     requires { ⌜ (n ≤ length (now key)) × (length (now key) + 64 ≤ length (now out)) ⌝ }
-    ensures { λ r. ⌜ (r ≡ 0 → (now (out .exit) ≡ now (out .entry)) × (Word (now (table .entry)) 0 (λ w. (now (key .entry) ≺ w) × (w ≺ (take n (now (key .entry)) ++ (256 ∷ [])))) → ⊥)) ⌝ }
-    ensures { λ r. ⌜ (0 < r → (r ≤ length (now (key .entry)) + 64) × Word (now (table .entry)) 0 (λ w. (now (key .entry) ≺ w) × (w ≺ (take n (now (key .entry)) ++ (256 ∷ []))) × (r ≡ length w) × (now (out .exit) ≡ sets (now (out .entry)) 0 w))) ⌝ }
+    ensures { λ r. ⌜ Walked (now (table .entry)) (λ w. now (key .entry) ≺ w) (UnderByte (now (key .entry)) n 256)
+        (length (now (key .entry)) + 64) (now (out .entry)) (now (out .exit)) r ⌝ }
 {
     let mut at = state;
     let mut i = n;
@@ -100,10 +101,11 @@ pub fn write_range_end(
     lo: usize,
     out: &mut [u8],
 ) -> usize
-    requires { ⌜ WellFormed (now table) × Distances (now table) (now distances) × (state < states (now table)) × (state ≡ run (now table) 0 (take n (now key))) ⌝ }
+    requires { ⌜ WellFormed (now table) × Distances (now table) (now distances) × (state < states (now table))
+        × (state ≡ run (now table) 0 (take n (now key))) ⌝ }
     requires { ⌜ (n ≤ length (now key)) × (lo ≤ getD (now key) n 0) × (length (now key) + 64 ≤ length (now out)) ⌝ }
-    ensures { λ r. ⌜ (r ≡ 0 → (now (out .exit) ≡ now (out .entry)) × (Word (now (table .entry)) 0 (λ w. ((take n (now (key .entry)) ++ (lo ∷ [])) ≼ w) × (w ≼ now (key .entry))) → ⊥)) ⌝ }
-    ensures { λ r. ⌜ (0 < r → (r ≤ length (now (key .entry)) + 64) × Word (now (table .entry)) 0 (λ w. ((take n (now (key .entry)) ++ (lo ∷ [])) ≼ w) × (w ≼ now (key .entry)) × (r ≡ length w) × (now (out .exit) ≡ sets (now (out .entry)) 0 w))) ⌝ }
+    ensures { λ r. ⌜ Walked (now (table .entry)) (FromByte (now (key .entry)) n lo) (λ w. w ≼ now (key .entry))
+        (length (now (key .entry)) + 64) (now (out .entry)) (now (out .exit)) r ⌝ }
 {
     let mut at = state;
     let mut low = lo;
@@ -132,9 +134,10 @@ pub fn write_between(
     end_key: &[u8],
     out: &mut [u8],
 ) -> usize
-    requires { ⌜ WellFormed (now table) × Distances (now table) (now distances) × (max (length (now «start_key»)) (length (now «end_key»)) + 64 ≤ length (now out)) ⌝ }
-    ensures { λ r. ⌜ (r ≡ 0 → (now (out .exit) ≡ now (out .entry)) × (MatchBetween (now (table .entry)) 0 (now («start_key» .entry)) (now («end_key» .entry)) → ⊥)) ⌝ }
-    ensures { λ r. ⌜ (0 < r → (r ≤ max (length (now («start_key» .entry))) (length (now («end_key» .entry))) + 64) × Word (now (table .entry)) 0 (λ w. (now («start_key» .entry) ≺ w) × (w ≼ now («end_key» .entry)) × (r ≡ length w) × (now (out .exit) ≡ sets (now (out .entry)) 0 w))) ⌝ }
+    requires { ⌜ WellFormed (now table) × Distances (now table) (now distances)
+        × (max (length (now «start_key»)) (length (now «end_key»)) + 64 ≤ length (now out)) ⌝ }
+    ensures { λ r. ⌜ Walked (now (table .entry)) (λ w. now («start_key» .entry) ≺ w) (λ w. w ≼ now («end_key» .entry))
+        (max (length (now («start_key» .entry))) (length (now («end_key» .entry))) + 64) (now (out .entry)) (now (out .exit)) r ⌝ }
 {
     let n = keys::common_prefix_len(start_key, end_key);
     if n == end_key.len() {

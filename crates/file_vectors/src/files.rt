@@ -14,7 +14,8 @@ pub fn ends_with(name: &[u8], end: &[u8]) -> bool {
     check::same(&name[from..], end)
 }
 
-// Reads the file to the front of the area and returns its length; the area's length where there is no such file, or no byte of room behind it.
+// Reads the file to the front of the area and returns its length; the
+// area's length where there is no such file, or no byte of room behind it.
 pub fn read(path: &[u8], area: &mut [u8]) -> usize
     ensures { λ r. ⌜ Counts r (now (area .exit)) ⌝ }
 {

@@ -9,7 +9,7 @@ use index::SSTableIndexV3;
 
 // Whether the text is the lines of the blocks.
 fn same_blocks(opened: SSTableIndexV3, data: &[u8], expected: &[u8]) -> bool
-    requires { ⌜ Opens 128 (now «data») opened ⌝ }
+    requires { ⌜ Opens (now «data») opened ⌝ }
 {
     let mut text = [0u8; LINE_LEN];
     let mut at: usize = 0;

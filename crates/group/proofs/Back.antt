@@ -9,8 +9,8 @@ use borrow.Author.Tests.{le-ltb}
 use lib.Dec.{ltb}
 use lib.ListN.{length, take, getD}
 use lib.Seq.{ext-getD, take-length}
-use Rattle.serialize.specs.Digits.{leVal, leBytes, Below}
-use Rattle.serialize.proofs.Digits.{digits-below}
+use Rattle.serialize.specs.Digits.{leVal, leBytes, DigitsBelow}
+use Rattle.serialize.proofs.Digits.{digitsOf-below}
 use Rattle.bitpacker.specs.Bits.{bytesOf}
 use Rattle.bitpacker.specs.Fields.{groupVal, rangeBit, ordinalBit, groupBits}
 use Rattle.bitpacker.proofs.Fields.{group-read-back}
@@ -40,7 +40,7 @@ field-back : (first s w : ℕ) (vs : List ℕ) → Takes s w vs → (j : ℕ) �
 field-back first s w vs t j h = rw (fields-at s w vs j h) (value-back first s w (suc j) (getD vs j 0) (t .shifted j h))
 
 module _ (m : BlockAddrBlockMetadata) (b : BlockAddr) (bs : List BlockAddr) (fit : Fitting m b bs) (legal : Legal (blockOf (b ∷ bs)) (suc (length bs)))
-    (l : List ℕ) (bytes : Below 8 l) (front : take (length (addrBytes m b bs)) l ≡ addrBytes m b bs) where
+    (l : List ℕ) (bytes : DigitsBelow 8 l) (front : take (length (addrBytes m b bs)) l ≡ addrBytes m b bs) where
   -- the fields that a reader finds
   found : (j : ℕ)
       → (j < suc (length bs) → leVal l / 2 ^ rangeBit (m .«range_start_nbits») (m .«first_ordinal_nbits») j % 2 ^ m .«range_start_nbits»
@@ -93,6 +93,6 @@ blocks-inj m b b′ bs bs′ fit fit′ legal legal′ e =
     let l = addrBytes m b bs in
     let n : length bs ≡ length bs′ = sym (fit .blocks) ∙ fit′ .blocks in
     let front : take (length l) l ≡ l = take-length l in
-    let bytes : Below 8 l = unfold addrBytes in digits-below 8 (bytesOf (groupBits (m .«range_start_nbits») (m .«first_ordinal_nbits») (length bs))) (groupNumber m b bs) in
+    let bytes : DigitsBelow 8 l = unfold addrBytes in digitsOf-below 8 (bytesOf (groupBits (m .«range_start_nbits») (m .«first_ordinal_nbits») (length bs))) (groupNumber m b bs) in
     ext-getD (record { start = 0; end = 0; «first_ordinal» = 0 }) (b ∷ bs) (b′ ∷ bs′) (ap suc n)
     (λ i h. sym (block-back m b bs fit legal l bytes front i (le-of-suc-le-suc h)) ∙ block-back m b′ bs′ fit′ legal′ l bytes (rw (← e) front) i (omega arith))

@@ -6,7 +6,7 @@ use native.Mathlib.Nat.{add-zero}
 use native.Mathlib.Omega.{arith}
 use lib.ListN.{length, take, drop}
 use lib.Seq.{take-all, take-add, drop-drop}
-use Rattle.serialize.specs.Digits.{digits, leBytes, Below, numberAt}
+use Rattle.serialize.specs.Digits.{digitsOf, leBytes, DigitsBelow, numberAt}
 use Rattle.serialize.proofs.Numbers.{part-of-front, number-back, number-lt, number-bytes}
 use Rattle.group.specs.Meta.{metaBytes, metaAt}
 use Rattle.group.specs.declared.BlockAddrBlockMetadata.{BlockAddrBlockMetadata}
@@ -48,11 +48,11 @@ pub record MetaFits (m : BlockAddrBlockMetadata) : Type 0 where
   pub block-len : m .«block_len» < 2 ^ 16
 
 pub length-metaBytes : (m : BlockAddrBlockMetadata) → length (metaBytes m) ≡ 36
-unfolding metaBytes digits
+unfolding metaBytes digitsOf
 length-metaBytes m = refl
 
 pub meta-back : (m : BlockAddrBlockMetadata) (s : List ℕ) (at : ℕ) → MetaFits m → take 36 (drop at s) ≡ metaBytes m → metaAt s at ≡ m
-unfolding metaBytes metaAt digits
+unfolding metaBytes metaAt digitsOf
 meta-back m s at k e =
     let field : (p w v : ℕ) → p + w ≤ 36 → v < 2 ^ (8 * w) → take w (drop p (metaBytes m)) ≡ leBytes w v → numberAt s (at + p) w ≡ v =
     λ p w v h l q. rw (drop-drop p at s) at (number-back (drop at s) p w v l (sym (part-of-front (drop at s) 36 p w h) ∙ ap (λ (x : List ℕ). take w (drop p x)) e ∙ q)) in
@@ -66,7 +66,7 @@ meta-back m s at k e =
     (field 33 1 (m .«range_start_nbits») (omega arith) (k .range-start-nbits) refl)
     (field 34 2 (m .«block_len») (omega arith) (k .block-len) refl)
 
-module _ (s : List ℕ) (at : ℕ) (below : Below 8 s) where
+module _ (s : List ℕ) (at : ℕ) (below : DigitsBelow 8 s) where
   -- a number behind n bytes that stand there
   more : {b : List ℕ} (n w : ℕ) → at + n + w ≤ length s → b ≡ take n (drop at s) → b ++ leBytes w (numberAt s (at + n) w) ≡ take (n + w) (drop at s)
   more n w h e = rw (e, number-bytes s (at + n) w h below, take-add n w (drop at s), drop-drop n at s)

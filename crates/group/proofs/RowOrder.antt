@@ -2,12 +2,12 @@
 use mathlib.Core.Path.{_≡_, refl}
 use Prim.Native.Nat.{ℕ, zero, suc}
 use native.Mathlib.Omega.{arith}
-use Rattle.group.specs.Rows.{orElse}
+use Rattle.group.specs.Rows.{orRow}
 
-pub orElse-first : (k later : ℕ) → (k ≡ 0 → ⊥) → orElse k later ≡ k
-orElse-first zero later h = absurd (h refl)
-orElse-first (suc k) later h = refl
+pub orRow-first : (k later : ℕ) → (k ≡ 0 → ⊥) → orRow k later ≡ k
+orRow-first zero later h = absurd (h refl)
+orRow-first (suc k) later h = refl
 
-pub orElse-zero : (k later : ℕ) → orElse k later ≡ 0 → (k ≡ 0) × (later ≡ 0)
-orElse-zero zero later e = (refl, e)
-orElse-zero (suc k) later e = absurd (let z : ⊥ = omega arith in z)
+pub orRow-zero : (k later : ℕ) → orRow k later ≡ 0 → (k ≡ 0) × (later ≡ 0)
+orRow-zero zero later e = (refl, e)
+orRow-zero (suc k) later e = absurd (let z : ⊥ = omega arith in z)

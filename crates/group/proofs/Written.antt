@@ -7,8 +7,8 @@ use native.Mathlib.Nat.{add-zero, add-suc, suc-add, eq-or-lt-of-le, le-of-suc-le
 use native.Mathlib.Omega.{arith}
 use lib.ListN.{length, getD}
 use lib.Pow.{pow-pos}
-use Rattle.serialize.specs.Digits.{Below}
-use Rattle.serialize.proofs.Digits.{length-digits}
+use Rattle.serialize.specs.Digits.{DigitsBelow}
+use Rattle.serialize.proofs.Digits.{length-digitsOf}
 use Rattle.bitpacker.specs.Bits.{bytesOf}
 use Rattle.bitpacker.specs.Fields.{groupBits}
 use Rattle.slope.specs.Slope.{storedOf, widthOf}
@@ -89,13 +89,13 @@ takes s vs slope few small =
     }
 
 -- a list whose elements are below 2 ^ k, also behind its end
-below-all : (k : ℕ) (l : List ℕ) → ((j : ℕ) → j < length l → getD l j 0 < 2 ^ k) → Below k l
+below-all : (k : ℕ) (l : List ℕ) → ((j : ℕ) → j < length l → getD l j 0 < 2 ^ k) → DigitsBelow k l
 below-all k [] h i = pow-pos k
 below-all k (x ∷ xs) h zero = h 0 (omega arith)
 below-all k (x ∷ xs) h (suc i) = below-all k xs (λ j l. h (suc j) (omega arith)) i
 
 -- what is stored of such values are digits of that width
-pub takes-below : (s w : ℕ) (vs : List ℕ) → Takes s w vs → Below w (fields s w 1 vs)
+pub takes-below : (s w : ℕ) (vs : List ℕ) → Takes s w vs → DigitsBelow w (fields s w 1 vs)
 takes-below s w vs t = below-all w (fields s w 1 vs) (λ j h.
     let l : j < length vs = rw (length-fields s w 1 vs) at h in
     rw (fields-at s w vs j l) (t .fits j l))
@@ -137,4 +137,4 @@ pub length-addrBytes : (m : BlockAddrBlockMetadata) (b : BlockAddr) (bs : List B
     → length (addrBytes m b bs) ≡ bytesOf (groupBits (m .«range_start_nbits») (m .«first_ordinal_nbits») (length bs))
 unfolding addrBytes
 length-addrBytes m b bs =
-    length-digits 8 (bytesOf (groupBits (m .«range_start_nbits») (m .«first_ordinal_nbits») (length bs))) (groupNumber m b bs)
+    length-digitsOf 8 (bytesOf (groupBits (m .«range_start_nbits») (m .«first_ordinal_nbits») (length bs))) (groupNumber m b bs)

@@ -1,5 +1,5 @@
--- The group record of document 01, `BlockAddrBlockMetadata`: offset 8, first start 8, first ordinal 8, range slope 4,
--- ordinal slope 4, ordinal width 1, range width 1, blocks minus one 2.
+-- The group record, `BlockAddrBlockMetadata` (SPECIFICATION 3.1): three numbers of 8 bytes, two of 4, two of 1 and one of 2.
+-- The ordinal's width stands before the range's.
 use Prim.Native.Nat.{ℕ, _+_}
 use mathlib.Core.List.{List, _++_}
 use Rattle.serialize.specs.Digits.{leBytes, numberAt}

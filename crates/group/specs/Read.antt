@@ -12,7 +12,7 @@ use Rattle.group.specs.declared.BlockAddrBlockMetadata.{BlockAddrBlockMe
 unfoldable pub widthBad : ℕ → Bool
 widthBad w = ltb w 1 || ltb 56 w
 
--- row 15 for a group that has `count` blocks, in a store with `len` address bytes: a bad width, wrong block count, or fields beyond the address bytes
+-- row 15 (SPECIFICATION 13.15) for a group that should have `count` blocks, in a store with `len` address bytes
 unfoldable pub groupBad : BlockAddrBlockMetadata → ℕ → ℕ → Bool
 groupBad m count len =
     widthBad (m .«first_ordinal_nbits») || widthBad (m .«range_start_nbits»)
@@ -23,7 +23,7 @@ groupBad m count len =
 abbrev pub firstValuesBad : BlockAddrBlockMetadata → Bool
 firstValuesBad m = leb limit (m .«range_start») || leb limit (m .«first_ordinal»)
 
--- a value read: first value + field + slope × i - 2^(width-1), over the whole numbers; one below 0 stands as the limit, which is outside too
+-- the value of a field (SPECIFICATION 8.4); one below 0 stands as the limit, which is out of range too
 unfoldable pub valueRead : ℕ → ℕ → ℕ → ℕ → ℕ → ℕ
 valueRead first field slope i width =
     cond (ltb (first + field + slope * i) (2 ^ (width - 1))) limit (first + field + slope * i - 2 ^ (width - 1))

@@ -5,19 +5,19 @@ use lib.Dec.{eqb, ltb, leb}
 use Rattle.group.specs.Legal.{limit}
 use Rattle.group.specs.declared.BlockAddr.{BlockAddr}
 
--- row 3: end < start, or end or ordinal at or above the limit
+-- row 3 (SPECIFICATION 13.3): a block that ends before it starts, or a number that is too large
 unfoldable pub numbersBad : BlockAddr → Bool
 numbersBad b = ltb (b .end) (b .start) || (leb limit (b .end) || leb limit (b .«first_ordinal»))
 
--- row 4: start isn't the end of the one before
+-- row 4 (SPECIFICATION 13.4): a block that doesn't touch the one before it
 unfoldable pub joinBad : BlockAddr → BlockAddr → Bool
 joinBad before b = not (eqb (b .start) (before .end))
 
--- row 5: not above the ordinal before
+-- row 5 (SPECIFICATION 13.5): a first ordinal that doesn't rise
 unfoldable pub ordinalBad : BlockAddr → BlockAddr → Bool
 ordinalBad before b = leb (b .«first_ordinal») (before .«first_ordinal»)
 
 -- a row that was hit, else those behind it; 0 where none is hit
-abbrev pub orElse : ℕ → ℕ → ℕ
-orElse zero later = later
-orElse (suc k) later = suc k
+abbrev pub orRow : ℕ → ℕ → ℕ
+orRow zero later = later
+orRow (suc k) later = suc k

@@ -37,7 +37,7 @@ metaOf choose offset b bs = record {
   «block_len» = length bs;
 }
 
--- the group's fields as one number: range then ordinal for blocks 1.., then the last end
+-- the group's fields as one number (SPECIFICATION 6.9)
 unfoldable pub groupNumber : BlockAddrBlockMetadata → BlockAddr → List BlockAddr → ℕ
 groupNumber m b bs =
     groupVal (m .«range_start_nbits») (m .«first_ordinal_nbits»)

@@ -144,7 +144,8 @@ pub fn deserialize_block_addr(
 // The last block of the group whose first ordinal is at or below `target`, if ordinals rise.
 pub fn bisect_for_ord(meta: BlockAddrBlockMetadata, data: &[u8], target: u64) -> usize
     requires { ⌜ Readable meta (length (now «data»)) × (meta .«first_ordinal» ≤ target) ⌝ }
-    ensures { λ r. ⌜ (r ≤ meta .«block_len») × (ordinalRead meta (leVal (now («data» .entry))) r ≤ target) × (r < meta .«block_len» → target < ordinalRead meta (leVal (now («data» .entry))) (r + 1)) ⌝ }
+    ensures { λ r. ⌜ (r ≤ meta .«block_len») × (ordinalRead meta (leVal (now («data» .entry))) r ≤ target)
+        × (r < meta .«block_len» → target < ordinalRead meta (leVal (now («data» .entry))) (r + 1)) ⌝ }
 {
     let mut left: usize = 0;
     let mut right = meta.block_len as usize + 1;

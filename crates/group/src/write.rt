@@ -24,7 +24,8 @@ pub fn plan_block(
     offset: u64,
 ) -> BlockAddrBlockMetadata
     requires { ⌜ GroupArea (now area) stride first count ⌝ }
-    ensures { λ r. ⌜ r ≡ metaOf bestSlope offset (blockAt (now (area .entry)) stride first) (blocksAt (now (area .entry)) stride (first + 1) (count - 1)) ⌝ }
+    ensures { λ r. ⌜ r ≡ metaOf bestSlope offset (blockAt (now (area .entry)) stride first)
+        (blocksAt (now (area .entry)) stride (first + 1) (count - 1)) ⌝ }
 {
     let at = stride * first;
     let range_start = area[at];
@@ -67,8 +68,14 @@ pub fn flush_block(
     count: usize,
     out: &mut [u8],
 ) -> usize
-    requires { ⌜ GroupArea (now area) stride first count × Fitting meta (blockAt (now area) stride first) (blocksAt (now area) stride (first + 1) (count - 1)) × (length (addrBytes meta (blockAt (now area) stride first) (blocksAt (now area) stride (first + 1) (count - 1))) ≤ length (now out)) ⌝ }
-    ensures { λ r. ⌜ (r ≡ length (addrBytes meta (blockAt (now (area .entry)) stride first) (blocksAt (now (area .entry)) stride (first + 1) (count - 1)))) × (now (out .exit) ≡ sets (now (out .entry)) 0 (addrBytes meta (blockAt (now (area .entry)) stride first) (blocksAt (now (area .entry)) stride (first + 1) (count - 1)))) ⌝ }
+    requires { ⌜ GroupArea (now area) stride first count
+        × Fitting meta (blockAt (now area) stride first) (blocksAt (now area) stride (first + 1) (count - 1))
+        × (length (addrBytes meta (blockAt (now area) stride first) (blocksAt (now area) stride (first + 1) (count - 1))) ≤ length
+        (now out)) ⌝ }
+    ensures { λ r. ⌜ (r ≡ length (addrBytes meta (blockAt (now (area .entry)) stride first)
+        (blocksAt (now (area .entry)) stride (first + 1) (count - 1))))
+        × (now (out .exit) ≡ sets (now (out .entry)) 0
+        (addrBytes meta (blockAt (now (area .entry)) stride first) (blocksAt (now (area .entry)) stride (first + 1) (count - 1)))) ⌝ }
 {
     let range_slope = meta.range_start_slope;
     let range_nbits = meta.range_start_nbits;

@@ -8,11 +8,11 @@ use Rattle.serialize.proofs.Tests.{neither}
 use Rattle.keys.proofs.Order.{by-test}
 use Rattle.store.specs.Store.{groupCount}
 use Rattle.index.specs.declared.SSTableIndexV3.{SSTableIndexV3}
-use Rattle.index.specs.Lookups.{openedBad, OpenedFits}
+use Rattle.index.specs.Lookups.{openedBadBy, OpenedFits}
 
 module _ (L : ℕ) (opened : SSTableIndexV3) (len : ℕ) where
-  pub opened-fits : openedBad L opened len ≡ false → OpenedFits L opened len
-  unfolding openedBad
+  pub opened-fits : openedBadBy L opened len ≡ false → OpenedFits L opened len
+  unfolding openedBadBy
   opened-fits e =
       let a = neither (ltb (opened .n) 1) _ e in
       let b = neither (ltb 65536 (opened .n)) _ (a .1) in
@@ -31,8 +31,8 @@ module _ (L : ℕ) (opened : SSTableIndexV3) (len : ℕ) where
   -- with the tests before it passed, the last one decides
   pub last-test : 1 ≤ opened .n → opened .n ≤ 65536 → opened .directory + opened .«directory_len» ≤ len
       → opened .metas + opened .«metas_len» ≤ len → opened .addrs + opened .«addrs_len» ≤ len
-      → openedBad L opened len ≡ ltb (opened .«metas_len») (36 * groupCount L (opened .n))
-  unfolding openedBad
+      → openedBadBy L opened len ≡ ltb (opened .«metas_len») (36 * groupCount L (opened .n))
+  unfolding openedBadBy
   last-test some few directory metas addrs =
       rw (
         le-ltb (opened .n) 1 some,
@@ -42,13 +42,13 @@ module _ (L : ℕ) (opened : SSTableIndexV3) (len : ℕ) where
         le-ltb len (opened .addrs + opened .«addrs_len») addrs,
       )
 
-  pub fits-passes : OpenedFits L opened len → openedBad L opened len ≡ false
+  pub fits-passes : OpenedFits L opened len → openedBadBy L opened len ≡ false
   fits-passes h =
       last-test (h .some) (h .few) (h .directory) (h .metas) (h .addrs) ∙ le-ltb (opened .«metas_len») (36 * groupCount L (opened .n)) (h .records)
 
   -- and so with a test that is hit
-  pub bad-unfit : openedBad L opened len ≡ true → OpenedFits L opened len → ⊥
+  pub bad-unfit : openedBadBy L opened len ≡ true → OpenedFits L opened len → ⊥
   bad-unfit e h = true≢false (sym e ∙ fits-passes h)
 
-  pub unfit-bad : (OpenedFits L opened len → ⊥) → openedBad L opened len ≡ true
-  unfit-bad h = by-test (openedBad L opened len) (λ e. e) (λ e. absurd (h (opened-fits e)))
+  pub unfit-bad : (OpenedFits L opened len → ⊥) → openedBadBy L opened len ≡ true
+  unfit-bad h = by-test (openedBadBy L opened len) (λ e. e) (λ e. absurd (h (opened-fits e)))

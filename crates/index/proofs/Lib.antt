@@ -1,10 +1,7 @@
 pub mod Answered
 pub mod Fits
-pub mod IndexOpens
 pub mod LookupLaws
 pub mod OpenFacts
-pub mod OpeningJoined
 pub mod OpeningRows
 pub mod Places
 pub mod Unique
-pub mod WrittenIndex

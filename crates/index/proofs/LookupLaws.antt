@@ -2,19 +2,20 @@
 use mathlib.Core.Path.{_≡_, refl, sym, ap, _∙_}
 use mathlib.Core.Bool.{false}
 use mathlib.Core.List.{List}
-use Prim.Native.Nat.{ℕ, _+_, _*_, _≤_, _<_}
+use Prim.Native.Nat.{ℕ, _<_}
+use native.Mathlib.Nat.{zero-add}
 use native.Mathlib.Omega.{arith}
-use lib.ListN.{take, drop, length-take}
+use lib.ListN.{length-take}
 use Rattle.serialize.proofs.Numbers.{part-of-front}
 use Rattle.group.specs.Legal.{Legal}
-use Rattle.directory.specs.Read.{keyOffset, keyLength, keyOutside}
-use Rattle.directory.proofs.Rules.{is-inside, length-place}
+use Rattle.directory.specs.Read.{keyLength, keyPosition, keyOutside}
+use Rattle.directory.proofs.Rules.{is-inside}
 use Rattle.index.specs.declared.SSTableIndexV3.{SSTableIndexV3}
 use Rattle.index.specs.declared.Place.the-variants.{Part}
 use Rattle.index.specs.Parts.{directoryLen, directoryPart, countIn, blockIn, separatorIn}
 use Rattle.index.specs.Opening.{openedOf}
 use Rattle.index.specs.Answers.{partAt}
-use Rattle.index.specs.Lookups.{placeDef}
+use Rattle.index.specs.Lookups.{placeBy}
 use Rattle.index.proofs.OpenFacts.{OpenFacts}
 use Rattle.index.proofs.Places.{place-read}
 
@@ -32,15 +33,15 @@ module _ (L : ℕ) (f : List ℕ) (opened : SSTableIndexV3) (facts : OpenFacts L
     inside h = facts .sorted .inside id (rw (facts .count) at h)
 
     pub place-known : id < opened .n
-        → placeDef L opened f id ≡ Part (4 + 8 * countIn f + keyOffset (directoryPart f) id) (keyLength (directoryPart f) id)
+        → placeBy L opened f id ≡ Part (keyPosition (directoryPart f) (countIn f) id) (keyLength (directoryPart f) id)
     place-known h =
         let named = place-read L opened f id (facts .fits) h (directoryPart f) (sym (facts .directory)) (rw (facts .count) (inside h)) _ _ refl refl in
-        sym named ∙ rw (begins, facts .count, length-place (directoryPart f) (countIn f) id)
+        sym named ∙ rw (begins, facts .count, zero-add (keyPosition (directoryPart f) (countIn f) id))
 
     -- the part that stands there is the block's separator
-    pub place-separator : id < opened .n → partAt f (placeDef L opened f id) ≡ separatorIn f id
+    pub place-separator : id < opened .n → partAt f (placeBy L opened f id) ≡ separatorIn f id
     unfolding separatorIn
     place-separator h =
         rw (place-known h)
-        (sym (part-of-front f (directoryLen f) (4 + 8 * countIn f + keyOffset (directoryPart f) id) (keyLength (directoryPart f) id)
+        (sym (part-of-front f (directoryLen f) (keyPosition (directoryPart f) (countIn f) id) (keyLength (directoryPart f) id)
         (omega (arith, is-inside (directoryPart f) (countIn f) id (inside h) .bytes, length-take (directoryLen f) f))))

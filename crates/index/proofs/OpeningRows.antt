@@ -11,16 +11,15 @@ use lib.ListN.{length, take, drop, length-drop}
 use lib.Seq.{length-take-le, take-take}
 use Rattle.serialize.specs.Digits.{leVal}
 use Rattle.serialize.proofs.Tests.{neither}
-use Rattle.group.specs.Rows.{orElse}
-use Rattle.group.proofs.RowOrder.{orElse-first, orElse-zero}
+use Rattle.group.proofs.RowOrder.{orRow-first, orRow-zero}
 use Rattle.store.specs.Store.{groupCount}
-use Rattle.store.specs.Facts.{RecordsOk}
+use Rattle.store.specs.Facts.{GroupRecordsOk}
 use Rattle.store.specs.Check.{storeNo}
 use Rattle.directory.specs.Read.{directoryNo}
 use Rattle.directory.proofs.Rules.{DirectoryOk, directory-kept}
 use Rattle.directory.proofs.Opened.{opened-good}
-use Rattle.index.specs.Parts.{directoryLen, directoryPart, storeLen, recordsLen, recordsPart, addrsPart, countIn}
-use Rattle.index.specs.Opening.{footerNo, recordsBad, openNo, openedOf, openDef}
+use Rattle.index.specs.Parts.{directoryLen, directoryPart, storeLen, groupRecordsLen, groupRecordsPart, addrsPart, countIn}
+use Rattle.index.specs.Opening.{footerNo, groupRecordsBad, openNo, openedOf, openDef}
 use Rattle.index.specs.declared.SSTableIndexV3.{SSTableIndexV3}
 use Rattle.index.specs.declared.Loaded.the-variants.{Opened, Refused}
 
@@ -87,57 +86,57 @@ module _ (f : List ℕ) (footer : FooterOk f) where
 -- ---- row 14
 
 pub record RecordsExact (L : ℕ) (f : List ℕ) : Type 0 where
-  pub exact : recordsLen f ≡ 36 * groupCount L (countIn f)
-  pub inside : 8 + recordsLen f ≤ storeLen f
+  pub exact : groupRecordsLen f ≡ 36 * groupCount L (countIn f)
+  pub inside : 8 + groupRecordsLen f ≤ storeLen f
 
 module _ (L : ℕ) (f : List ℕ) where
-  pub records-inexact : (recordsLen f ≡ 36 * groupCount L (countIn f) → ⊥) → true ≡ recordsBad L f
-  unfolding recordsBad
-  records-inexact h = simp (ne-eqb (recordsLen f) (36 * groupCount L (countIn f)) h)
+  pub records-inexact : (groupRecordsLen f ≡ 36 * groupCount L (countIn f) → ⊥) → true ≡ groupRecordsBad L f
+  unfolding groupRecordsBad
+  records-inexact h = simp (ne-eqb (groupRecordsLen f) (36 * groupCount L (countIn f)) h)
 
-  pub records-exact : recordsLen f ≡ 36 * groupCount L (countIn f) → ltb (storeLen f) (8 + recordsLen f) ≡ recordsBad L f
-  unfolding recordsBad
-  records-exact e = simp (eq-eqb (recordsLen f) (36 * groupCount L (countIn f)) e)
+  pub records-exact : groupRecordsLen f ≡ 36 * groupCount L (countIn f) → ltb (storeLen f) (8 + groupRecordsLen f) ≡ groupRecordsBad L f
+  unfolding groupRecordsBad
+  records-exact e = simp (eq-eqb (groupRecordsLen f) (36 * groupCount L (countIn f)) e)
 
   -- the code's test, by the directory's length d, n, the groups' count and the length read
   module _ (d n groups read : ℕ) (ed : d ≡ directoryLen f) (en : n ≡ countIn f) (eg : groups ≡ groupCount L n) (er : read ≡ leVal (take 8 (drop d f))) where
     needed : 36 * groups ≡ 36 * groupCount L (countIn f)
     needed = rw (eg, en)
 
-    length-read : read ≡ recordsLen f
+    length-read : read ≡ groupRecordsLen f
     length-read = rw (← ed) er
 
-    pub records-other : (read ≡ 36 * groups → ⊥) → true ≡ recordsBad L f
+    pub records-other : (read ≡ 36 * groups → ⊥) → true ≡ groupRecordsBad L f
     records-other h = records-inexact (λ e. h (length-read ∙ e ∙ sym needed))
 
-    pub records-same : read ≡ 36 * groups → ltb (length f - 8 - d) (8 + 36 * groups) ≡ recordsBad L f
+    pub records-same : read ≡ 36 * groups → ltb (length f - 8 - d) (8 + 36 * groups) ≡ groupRecordsBad L f
     records-same e = rw (← e, length-read, ed) (records-exact (sym length-read ∙ e ∙ needed))
 
-  pub records-good : RecordsExact L f → recordsBad L f ≡ false
-  records-good ok = sym (records-exact (ok .exact)) ∙ le-ltb (storeLen f) (8 + recordsLen f) (ok .inside)
+  pub records-good : RecordsExact L f → groupRecordsBad L f ≡ false
+  records-good ok = sym (records-exact (ok .exact)) ∙ le-ltb (storeLen f) (8 + groupRecordsLen f) (ok .inside)
 
-  pub records-ok : recordsBad L f ≡ false → RecordsExact L f
-  unfolding recordsBad
+  pub records-ok : groupRecordsBad L f ≡ false → RecordsExact L f
+  unfolding groupRecordsBad
   records-ok e =
-      let both = neither (not (eqb (recordsLen f) (36 * groupCount L (countIn f)))) _ e in
+      let both = neither (not (eqb (groupRecordsLen f) (36 * groupCount L (countIn f)))) _ e in
       record {
-        exact = eqb-true (recordsLen f) (36 * groupCount L (countIn f)) (not-false (eqb (recordsLen f) (36 * groupCount L (countIn f))) (both .0));
-        inside = ltb-false (storeLen f) (8 + recordsLen f) (both .1);
+        exact = eqb-true (groupRecordsLen f) (36 * groupCount L (countIn f)) (not-false (eqb (groupRecordsLen f) (36 * groupCount L (countIn f))) (both .0));
+        inside = ltb-false (storeLen f) (8 + groupRecordsLen f) (both .1);
       }
 
 -- ---- the parts, by the directory's length d, the records' length m and n
 
 module _ (L : ℕ) (f : List ℕ) (d m : ℕ) (footer : FooterOk f) (ed : d ≡ directoryLen f) (records : RecordsExact L f) (em : m ≡ leVal (take 8 (drop d f))) where
-  metas-read : m ≡ recordsLen f
+  metas-read : m ≡ groupRecordsLen f
   metas-read = rw (← ed) em
 
   pub addrs-inside : d + 8 + m ≤ length f - 8
   addrs-inside = omega (arith, metas-read, records .inside, footer .inside)
 
-  pub metas-part : take (d + 8 + m - (d + 8)) (drop (d + 8) f) ≡ recordsPart f
+  pub metas-part : take (d + 8 + m - (d + 8)) (drop (d + 8) f) ≡ groupRecordsPart f
   metas-part = rw (add-sub-cancel-left (d + 8) m, metas-read, ed)
 
-  addrs-long : length f - 8 - (d + 8 + m) ≡ storeLen f - (8 + recordsLen f)
+  addrs-long : length f - 8 - (d + 8 + m) ≡ storeLen f - (8 + groupRecordsLen f)
   addrs-long = omega (arith, metas-read, addrs-inside)
 
   pub addrs-part : take (length f - 8 - (d + 8 + m)) (drop (d + 8 + m) f) ≡ addrsPart f
@@ -145,7 +144,7 @@ module _ (L : ℕ) (f : List ℕ) (d m : ℕ) (footer : FooterOk f) (ed : d ≡ 
 
   module _ (n : ℕ) (en : n ≡ countIn f) where
     -- the records are as many as n blocks need
-    pub metas-enough : 1 ≤ n → n ≤ 65536 → RecordsOk L (take (d + 8 + m - (d + 8)) (drop (d + 8) f)) n
+    pub metas-enough : 1 ≤ n → n ≤ 65536 → GroupRecordsOk L (take (d + 8 + m - (d + 8)) (drop (d + 8) f)) n
     metas-enough some few = record {
       some = some;
       few = few;
@@ -173,25 +172,25 @@ module _ (L : ℕ) (f : List ℕ) (d m : ℕ) (footer : FooterOk f) (ed : d ≡ 
 pub record OpenOk (L : ℕ) (f : List ℕ) : Type 0 where
   pub footer : footerNo f ≡ 0
   pub directory : directoryNo (directoryPart f) ≡ 0
-  pub records : recordsBad L f ≡ false
-  pub store : storeNo L (recordsPart f) (addrsPart f) (countIn f) ≡ 0
+  pub records : groupRecordsBad L f ≡ false
+  pub store : storeNo L (groupRecordsPart f) (addrsPart f) (countIn f) ≡ 0
 
 module _ (L : ℕ) (f : List ℕ) where
   pub open-footer : (footerNo f ≡ 0 → ⊥) → footerNo f ≡ openNo L f
   unfolding openNo
-  open-footer h = sym (orElse-first (footerNo f) _ h)
+  open-footer h = sym (orRow-first (footerNo f) _ h)
 
   module _ (footer : footerNo f ≡ 0) where
     pub open-directory : (directoryNo (directoryPart f) ≡ 0 → ⊥) → directoryNo (directoryPart f) ≡ openNo L f
     unfolding openNo
-    open-directory h = rw footer (sym (orElse-first (directoryNo (directoryPart f)) _ h))
+    open-directory h = rw footer (sym (orRow-first (directoryNo (directoryPart f)) _ h))
 
     module _ (directory : directoryNo (directoryPart f) ≡ 0) where
-      pub open-records : recordsBad L f ≡ true → 14 ≡ openNo L f
+      pub open-records : groupRecordsBad L f ≡ true → 14 ≡ openNo L f
       unfolding openNo
       open-records bad = simp (footer, directory, bad)
 
-      pub open-store : recordsBad L f ≡ false → storeNo L (recordsPart f) (addrsPart f) (countIn f) ≡ openNo L f
+      pub open-store : groupRecordsBad L f ≡ false → storeNo L (groupRecordsPart f) (addrsPart f) (countIn f) ≡ openNo L f
       unfolding openNo
       open-store good = simp (footer, directory, good)
 
@@ -201,9 +200,9 @@ module _ (L : ℕ) (f : List ℕ) where
   pub open-ok : openNo L f ≡ 0 → OpenOk L f
   unfolding openNo
   open-ok e =
-      let footer = orElse-zero (footerNo f) _ e in
-      let directory = orElse-zero (directoryNo (directoryPart f)) _ (footer .1) in
-      let records = passed (recordsBad L f) 13 _ (directory .1) in
+      let footer = orRow-zero (footerNo f) _ e in
+      let directory = orRow-zero (directoryNo (directoryPart f)) _ (footer .1) in
+      let records = passed (groupRecordsBad L f) 13 _ (directory .1) in
       record { footer = footer .0; directory = directory .0; records = records .0; store = records .1 }
 
   pub open-refused : (k : ℕ) → k ≡ openNo L f → (k ≡ 0 → ⊥) → Refused k ≡ openDef L f

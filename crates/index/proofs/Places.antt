@@ -2,19 +2,19 @@
 use mathlib.Core.Path.{_≡_, refl, ap}
 use mathlib.Core.Bool.{Bool, true, false, _||_, cond}
 use mathlib.Core.List.{List}
-use Prim.Native.Nat.{ℕ, _+_, _*_, _≤_, _<_}
+use Prim.Native.Nat.{ℕ, _+_, _≤_, _<_}
 use native.Mathlib.Omega.{arith}
 use lib.Dec.{leb}
 use borrow.Author.Tests.{le-leb, lt-leb}
 use lib.ListN.{length, drop, length-take}
-use Rattle.serialize.specs.Digits.{numberAt}
-use Rattle.directory.specs.Read.{keyOffset, keyLength, keyOutside}
-use Rattle.directory.proofs.Rules.{is-inside, length-place}
+use Rattle.directory.specs.Read.{keyLength, keyPosition, keyOutside}
+use Rattle.directory.proofs.Rules.{is-inside}
 use Rattle.index.specs.declared.SSTableIndexV3.{SSTableIndexV3}
 use Rattle.index.specs.declared.Place.{Place}
 use Rattle.index.specs.declared.Place.the-variants.{Part, Missing}
 use Rattle.index.specs.Answers.{placeOffset, placeLen}
-use Rattle.index.specs.Lookups.{openedBad, OpenedFits, directoryAt, placeDef}
+use Rattle.index.specs.Opening.{groupOf}
+use Rattle.index.specs.Lookups.{openedBadBy, openedBad, OpenedFits, directoryAt, placeBy, placeDef}
 use Rattle.index.proofs.Fits.{opened-fits, fits-passes}
 
 -- a miss by one of three tests
@@ -38,31 +38,31 @@ passes false false true p offset len e = absurd (let z : _≡_ {A = ℕ} 0 1 = c
 passes false false false p offset len e = (refl, refl, e)
 
 module _ (L : ℕ) (opened : SSTableIndexV3) (f : List ℕ) (id : ℕ) where
-  pub place-bad : openedBad L opened (length f) ≡ true → placeDef L opened f id ≡ Missing
-  unfolding placeDef
-  place-bad e = miss-first (openedBad L opened (length f)) _ _ _ e
+  pub place-bad : openedBadBy L opened (length f) ≡ true → placeBy L opened f id ≡ Missing
+  unfolding placeBy
+  place-bad e = miss-first (openedBadBy L opened (length f)) _ _ _ e
 
-  pub place-unknown : opened .n ≤ id → placeDef L opened f id ≡ Missing
-  unfolding placeDef
-  place-unknown h = miss-second (openedBad L opened (length f)) (leb (opened .n) id) _ _ (le-leb (opened .n) id h)
+  pub place-unknown : opened .n ≤ id → placeBy L opened f id ≡ Missing
+  unfolding placeBy
+  place-unknown h = miss-second (openedBadBy L opened (length f)) (leb (opened .n) id) _ _ (le-leb (opened .n) id h)
 
-  pub place-outside : keyOutside (directoryAt opened f) (opened .n) id ≡ true → placeDef L opened f id ≡ Missing
-  unfolding placeDef
-  place-outside e = miss-third (openedBad L opened (length f)) (leb (opened .n) id) (keyOutside (directoryAt opened f) (opened .n) id) _ e
+  pub place-outside : keyOutside (directoryAt opened f) (opened .n) id ≡ true → placeBy L opened f id ≡ Missing
+  unfolding placeBy
+  place-outside e = miss-third (openedBadBy L opened (length f)) (leb (opened .n) id) (keyOutside (directoryAt opened f) (opened .n) id) _ e
 
-  -- with d the directory's bytes, and its pair read as the code reads it
+  -- with d the directory's bytes, and the key's position and length as the code reads them
   pub place-read : OpenedFits L opened (length f) → id < opened .n → (d : List ℕ) → d ≡ directoryAt opened f → keyOutside d (opened .n) id ≡ false
-      → (offset len : ℕ) → offset ≡ numberAt d (4 + 8 * id) 4 → len ≡ numberAt d (4 + 8 * id + 4) 4
-      → Part (opened .directory + 4 + 8 * opened .n + offset) len ≡ placeDef L opened f id
-  unfolding placeDef
-  place-read fits h d same e offset len o l =
-      rw (o, l, length-place d (opened .n) id, ← same, fits-passes L opened (length f) fits, lt-leb (opened .n) id h, e)
+      → (position len : ℕ) → position ≡ keyPosition d (opened .n) id → len ≡ keyLength d id
+      → Part (opened .directory + position) len ≡ placeBy L opened f id
+  unfolding placeBy
+  place-read fits h d same e position len p l =
+      rw (p, l, ← same, fits-passes L opened (length f) fits, lt-leb (opened .n) id h, e)
 
-  pub place-inside : (offset len : ℕ) → placeDef L opened f id ≡ Part offset len → offset + len ≤ length f
-  unfolding placeDef
+  pub place-inside : (offset len : ℕ) → placeBy L opened f id ≡ Part offset len → offset + len ≤ length f
+  unfolding placeBy
   place-inside offset len e =
-      let p = passes (openedBad L opened (length f)) (leb (opened .n) id) (keyOutside (directoryAt opened f) (opened .n) id) _ offset len e in
-      let at : opened .directory + 4 + 8 * opened .n + keyOffset (directoryAt opened f) id ≡ offset = ap placeOffset (p .2) in
+      let p = passes (openedBadBy L opened (length f)) (leb (opened .n) id) (keyOutside (directoryAt opened f) (opened .n) id) _ offset len e in
+      let at : opened .directory + keyPosition (directoryAt opened f) (opened .n) id ≡ offset = ap placeOffset (p .2) in
       let size : keyLength (directoryAt opened f) id ≡ len = ap placeLen (p .2) in
       omega (
         arith,
@@ -70,3 +70,7 @@ module _ (L : ℕ) (opened : SSTableIndexV3) (f : List ℕ) (id : ℕ) where
         length-take (opened .«directory_len») (drop (opened .directory) f),
         opened-fits L opened (length f) (p .0) .directory,
       )
+
+-- a record that fails its own test has no separator
+pub unfit-missing : (opened : SSTableIndexV3) (f : List ℕ) (id : ℕ) → openedBad opened (length f) ≡ true → placeDef opened f id ≡ Missing
+unfit-missing opened f id = place-bad (groupOf opened) opened f id

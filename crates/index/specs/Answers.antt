@@ -1,5 +1,5 @@
--- Document 01's number and values for each answer; a refusal has all else zero.
-use Prim.Native.Nat.{ℕ}
+-- Document 01's number and values for each answer; a refusal has all else zero, and a number above 0.
+use Prim.Native.Nat.{ℕ, _<_}
 use mathlib.Core.List.{List}
 use lib.ListN.{take, drop}
 use Rattle.group.specs.declared.BlockAddr.{BlockAddr}
@@ -38,6 +38,10 @@ abbrev pub byIdAddr : BlockById → BlockAddr
 byIdAddr (Block b) = b
 byIdAddr (NotById k) = noBlock
 
+abbrev pub BlockByIdCased : BlockById → Type 0
+BlockByIdCased (Block b) = Unit {0}
+BlockByIdCased (NotById k) = 0 < k
+
 -- by ordinal, and an address by key: its number, the id and the address
 abbrev pub locatedNo : Located → ℕ
 locatedNo (At i b) = 0
@@ -51,6 +55,10 @@ abbrev pub locatedAddr : Located → BlockAddr
 locatedAddr (At i b) = b
 locatedAddr (NotLocated k) = noBlock
 
+abbrev pub LocatedCased : Located → Type 0
+LocatedCased (At i b) = Unit {0}
+LocatedCased (NotLocated k) = 0 < k
+
 -- by key: its number and the id
 abbrev pub idNo : LocatedId → ℕ
 idNo (Id i) = 0
@@ -59,6 +67,10 @@ idNo (NoId k) = k
 abbrev pub idOf : LocatedId → ℕ
 idOf (Id i) = i
 idOf (NoId k) = 0
+
+abbrev pub LocatedIdCased : LocatedId → Type 0
+LocatedIdCased (Id i) = Unit {0}
+LocatedIdCased (NoId k) = 0 < k
 
 -- a separator's place, and the part of the bytes that stands there; a miss is the empty part
 abbrev pub placeOffset : Place → ℕ

@@ -1,16 +1,17 @@
 // The index over lent bytes: `SSTableIndexV3` of src/index/v3.rs.
-pub mod load;
-pub mod lookup;
+mod load;
+mod lookup;
 
 ghost use mathlib.Core.Path.{_≡_};
-ghost use Rattle.index.specs.Parts.{blockIn, separatorIn};
-ghost use Rattle.index.specs.Opening.{openDef, Opens};
-ghost use Rattle.index.specs.Answers.{byIdNo, byIdAddr, locatedNo, locatedId, locatedAddr, idNo, idOf, partAt};
-ghost use Rattle.index.specs.Lookups.{ByIdAllowed, ByIdExact, LocatedAllowed, ByOrdExact, ByKeyAllowed, ByKeyExact, AddrByKeyExact, placeDef};
+ghost use Rattle.index.specs.Opening.{loadDef};
+ghost use Rattle.index.specs.Answers.{byIdNo, byIdAddr, BlockByIdCased, idNo, idOf, LocatedIdCased, partAt};
+ghost use Rattle.index.specs.Answers.{locatedNo, locatedId, locatedAddr, LocatedCased};
+ghost use Rattle.index.specs.Lookups.{openedBad, GetBlock, LocateWithOrd, LocateWithKey, GetBlockWithKey, placeDef};
 use group::BlockAddr;
+use layout::STORE_BLOCK_LEN;
 
-// The blocks of a group.
-pub const STORE_BLOCK_LEN: usize = 128;
+// Row 20 of the table: a record, or bytes that it names, don't fit.
+pub const UNFIT: u32 = 20;
 
 // An opened index: how many blocks, and where its parts stand in the bytes.
 pub struct SSTableIndexV3 {
@@ -53,71 +54,63 @@ pub enum Place {
     Missing,
 }
 
+// Row 20 for the record: whether it can't be one of `len` bytes.
+pub fn opened_bad(opened: SSTableIndexV3, len: usize) -> bool
+    ensures { λ r. ⌜ r ≡ openedBad opened len ⌝ }
+{
+    lookup::opened_bad(opened, len, STORE_BLOCK_LEN)
+}
+
 impl SSTableIndexV3 {
     // Opens the bytes of an index that anyone may have written.
     pub fn load(data: &[u8]) -> Loaded
-        ensures { λ r. ⌜ r ≡ openDef 128 (now («data» .entry)) ⌝ }
+        ensures { λ r. ⌜ r ≡ loadDef (now («data» .entry)) ⌝ }
     {
         load::load(data, STORE_BLOCK_LEN)
     }
 
     // The address of block `block_id`.
     pub fn get_block(self, data: &[u8], block_id: u64) -> BlockById
-        ensures { λ r. ⌜ ByIdAllowed (self .n) «block_id» (byIdNo r) (byIdAddr r) ⌝ }
-        ensures { λ r. ⌜ (Opens 128 (now («data» .entry)) self → ByIdExact (blockIn 128 (now («data» .entry))) (self .n) «block_id» (byIdNo r) (byIdAddr r)) ⌝ }
+        ensures { λ r. ⌜ GetBlock (now («data» .entry)) self «block_id» (byIdNo r) (byIdAddr r) ⌝ }
+        ensures { λ r. ⌜ BlockByIdCased r ⌝ }
     {
-        if lookup::opened_bad(self, data.len(), STORE_BLOCK_LEN) {
-            return BlockById::Refused(20);
-        }
         lookup::get_block(self, data, STORE_BLOCK_LEN, block_id)
     }
 
     // The block that holds the ordinal.
     pub fn locate_with_ord(self, data: &[u8], ord: u64) -> Located
-        ensures { λ r. ⌜ LocatedAllowed 18 (self .n) (locatedNo r) (locatedId r) (locatedAddr r) ⌝ }
-        ensures { λ r. ⌜ (Opens 128 (now («data» .entry)) self → ByOrdExact (blockIn 128 (now («data» .entry))) (self .n) ord (locatedNo r) (locatedId r) (locatedAddr r)) ⌝ }
+        ensures { λ r. ⌜ LocateWithOrd (now («data» .entry)) self ord (locatedNo r) (locatedId r) (locatedAddr r) ⌝ }
+        ensures { λ r. ⌜ LocatedCased r ⌝ }
     {
-        if lookup::opened_bad(self, data.len(), STORE_BLOCK_LEN) {
-            return Located::Refused(20);
-        }
         lookup::locate_with_ord(self, data, STORE_BLOCK_LEN, ord)
     }
 
     // The block that may hold the key.
     pub fn locate_with_key(self, data: &[u8], key: &[u8]) -> LocatedId
-        ensures { λ r. ⌜ ByKeyAllowed (self .n) (idNo r) (idOf r) ⌝ }
-        ensures { λ r. ⌜ (Opens 128 (now («data» .entry)) self → ByKeyExact (separatorIn (now («data» .entry))) (self .n) (now (key .entry)) (idNo r) (idOf r)) ⌝ }
+        ensures { λ r. ⌜ LocateWithKey (now («data» .entry)) self (now (key .entry)) (idNo r) (idOf r) ⌝ }
+        ensures { λ r. ⌜ LocatedIdCased r ⌝ }
     {
-        if lookup::opened_bad(self, data.len(), STORE_BLOCK_LEN) {
-            return LocatedId::Refused(20);
-        }
         lookup::locate_with_key(self, data, STORE_BLOCK_LEN, key)
     }
 
     // The block that may hold the key, with its address.
     pub fn get_block_with_key(self, data: &[u8], key: &[u8]) -> Located
-        ensures { λ r. ⌜ LocatedAllowed 19 (self .n) (locatedNo r) (locatedId r) (locatedAddr r) ⌝ }
-        ensures { λ r. ⌜ (Opens 128 (now («data» .entry)) self → AddrByKeyExact (separatorIn (now («data» .entry))) (blockIn 128 (now («data» .entry))) (self .n) (now (key .entry)) (locatedNo r) (locatedId r) (locatedAddr r)) ⌝ }
+        ensures { λ r. ⌜ GetBlockWithKey (now («data» .entry)) self (now (key .entry)) (locatedNo r) (locatedId r) (locatedAddr r) ⌝ }
+        ensures { λ r. ⌜ LocatedCased r ⌝ }
     {
-        if lookup::opened_bad(self, data.len(), STORE_BLOCK_LEN) {
-            return Located::Refused(20);
-        }
         lookup::get_block_with_key(self, data, STORE_BLOCK_LEN, key)
     }
 
     // Where the separator of block `block_id` stands.
     pub fn separator_place(self, data: &[u8], block_id: u64) -> Place
-        ensures { λ r. ⌜ r ≡ placeDef 128 self (now («data» .entry)) «block_id» ⌝ }
+        ensures { λ r. ⌜ r ≡ placeDef self (now («data» .entry)) «block_id» ⌝ }
     {
-        if lookup::opened_bad(self, data.len(), STORE_BLOCK_LEN) {
-            return Place::Missing;
-        }
         lookup::separator_place(self, data, STORE_BLOCK_LEN, block_id)
     }
 
     // The separator of block `block_id`, as a part of the bytes; an empty part where there is none.
     pub fn separator(self, data: &[u8], block_id: u64) -> &[u8]
-        ensures { λ r. ⌜ now r ≡ partAt (now («data» .entry)) (placeDef 128 self (now («data» .entry)) «block_id») ⌝ }
+        ensures { λ r. ⌜ now r ≡ partAt (now («data» .entry)) (placeDef self (now («data» .entry)) «block_id») ⌝ }
     {
         let Place::Part(offset, len) = self.separator_place(data, block_id) else {
             return &data[..0];

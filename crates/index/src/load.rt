@@ -2,16 +2,25 @@
 ghost use mathlib.Core.Path.{_≡_};
 ghost use Prim.Native.Nat.{_+_, _≤_};
 ghost use lib.ListN.{length};
+ghost use Rattle.layout.specs.Layout.{maxBlocks};
 ghost use Rattle.store.specs.Facts.{GroupLenOk};
 ghost use Rattle.directory.specs.Read.{directoryNo};
 ghost use Rattle.index.specs.Parts.{directoryLen, directoryPart, countIn};
-ghost use Rattle.index.specs.Opening.{footerNo, recordsBad, openDef};
+ghost use Rattle.index.specs.Opening.{footerNo, groupRecordsBad, openDef};
 use crate::Loaded;
 use crate::SSTableIndexV3;
+use layout::META_LEN;
 
 const FOOTER_LEN: usize = 8;
 
-const META_LEN: usize = 36;
+// Row 10 of the table: fewer bytes than the lengths need.
+const TOO_SHORT: u32 = 10;
+
+// Row 11: no directory.
+const NO_DIRECTORY: u32 = 11;
+
+// Row 14: the group records' length.
+const RECORDS_BAD: u32 = 14;
 
 // Rows 10 and 11.
 fn footer_no(data: &[u8]) -> u32
@@ -19,25 +28,29 @@ fn footer_no(data: &[u8]) -> u32
 {
     let len = data.len();
     if len < FOOTER_LEN {
-        return 10;
+        return TOO_SHORT;
     }
     let directory = serialize::deserialize_u64(data, len - FOOTER_LEN);
     if directory == 0 {
-        return 11;
+        return NO_DIRECTORY;
     }
     if directory > len as u64 {
-        return 10;
+        return TOO_SHORT;
     }
     if len < directory as usize + 16 {
-        return 10;
+        return TOO_SHORT;
     }
     0
 }
 
 // Row 14: whether the records' length isn't that of the groups of n blocks, or is beyond the store.
 fn records_bad(data: &[u8], directory_len: usize, n: usize, group_len: usize) -> bool
-    requires { ⌜ GroupLenOk «group_len» × («directory_len» ≡ directoryLen (now «data»)) × («directory_len» + 16 ≤ length (now «data»)) × (n ≡ countIn (now «data»)) × (n ≤ 65536) ⌝ }
-    ensures { λ r. ⌜ r ≡ recordsBad «group_len» (now («data» .entry)) ⌝ }
+    requires { ⌜ GroupLenOk «group_len»
+        × («directory_len» ≡ directoryLen (now «data»))
+        × («directory_len» + 16 ≤ length (now «data»))
+        × (n ≡ countIn (now «data»))
+        × (n ≤ maxBlocks) ⌝ }
+    ensures { λ r. ⌜ r ≡ groupRecordsBad «group_len» (now («data» .entry)) ⌝ }
 {
     let metas_len = META_LEN * store::write::group_count(n, group_len);
     if serialize::deserialize_u64(data, directory_len) != metas_len as u64 {
@@ -46,14 +59,17 @@ fn records_bad(data: &[u8], directory_len: usize, n: usize, group_len: usize) ->
     data.len() - FOOTER_LEN - directory_len < 8 + metas_len
 }
 
-// Rows 14 to 16 and the record, behind a directory that keeps the rows before them.
+// Rows 14 to 16 and the record, after a directory that keeps the rows before them.
 fn load_store(data: &[u8], directory_len: usize, group_len: usize) -> Loaded
-    requires { ⌜ GroupLenOk «group_len» × (footerNo (now «data») ≡ 0) × («directory_len» ≡ directoryLen (now «data»)) × (directoryNo (directoryPart (now «data»)) ≡ 0) ⌝ }
+    requires { ⌜ GroupLenOk «group_len»
+        × (footerNo (now «data») ≡ 0)
+        × («directory_len» ≡ directoryLen (now «data»))
+        × (directoryNo (directoryPart (now «data»)) ≡ 0) ⌝ }
     ensures { λ r. ⌜ r ≡ openDef «group_len» (now («data» .entry)) ⌝ }
 {
     let n = serialize::deserialize_u32(data, 0) as usize;
     if records_bad(data, directory_len, n, group_len) {
-        return Loaded::Refused(14);
+        return Loaded::Refused(RECORDS_BAD);
     }
     let metas_len = serialize::deserialize_u64(data, directory_len) as usize;
     let metas = directory_len + 8;

@@ -4,23 +4,34 @@ ghost use Prim.Native.Nat.{_+_, _≤_, _<_};
 ghost use lib.Dec.{ltb};
 ghost use lib.ListN.{length, take, drop};
 ghost use Rattle.store.specs.Facts.{GroupLenOk};
-ghost use Rattle.index.specs.Parts.{blockIn, separatorIn};
-ghost use Rattle.index.specs.Opening.{Opens};
-ghost use Rattle.index.specs.Answers.{byIdNo, byIdAddr, locatedNo, locatedId, locatedAddr, idNo, idOf};
-ghost use Rattle.index.specs.Lookups.{openedBad, OpenedFits, ByIdAllowed, ByIdExact, LocatedAllowed, ByOrdExact, ByKeyAllowed, ByKeyExact, AddrByKeyExact, placeDef};
+ghost use Rattle.store.specs.Read.{ordFoundNo};
+ghost use Rattle.directory.specs.Read.{foundNo};
+ghost use Rattle.index.specs.Parts.{blockIn};
+ghost use Rattle.index.specs.Opening.{OpensBy};
+ghost use Rattle.index.specs.Answers.{byIdNo, byIdAddr, BlockByIdCased, idNo, idOf, LocatedIdCased};
+ghost use Rattle.index.specs.Answers.{locatedNo, locatedId, locatedAddr, LocatedCased};
+ghost use Rattle.index.specs.Lookups.{openedBadBy, OpenedFits, placeBy};
+ghost use Rattle.index.specs.Lookups.{GetBlockBy, LocateWithOrdBy, LocateWithKeyBy, GetBlockWithKeyBy};
 use crate::BlockById;
 use crate::Located;
 use crate::LocatedId;
 use crate::Place;
 use crate::SSTableIndexV3;
+use crate::UNFIT;
 use directory::read::Found;
 use group::BlockAddr;
+use layout::MAX_BLOCKS;
+use layout::META_LEN;
+use store::OrdFound;
 
-const MAX_BLOCKS: usize = 65536;
+// Row 17 of the table: an id without a block.
+const UNKNOWN_ID: u32 = 17;
 
-const META_LEN: usize = 36;
+// Row 18: an ordinal below the first.
+const ORDINAL_BELOW: u32 = 18;
 
-const PAIR_LEN: usize = 8;
+// Row 19: a key above the last separator.
+const KEY_ABOVE: u32 = 19;
 
 // Whether a part lies outside `len` bytes.
 fn part_outside(offset: usize, part_len: usize, len: usize) -> bool
@@ -44,7 +55,7 @@ fn part(data: &[u8], offset: usize, len: usize) -> &[u8]
 // Row 20 for the record: whether it can't be one of `len` bytes.
 pub fn opened_bad(opened: SSTableIndexV3, len: usize, group_len: usize) -> bool
     requires { ⌜ GroupLenOk «group_len» ⌝ }
-    ensures { λ r. ⌜ r ≡ openedBad «group_len» opened len ⌝ }
+    ensures { λ r. ⌜ r ≡ openedBadBy «group_len» opened len ⌝ }
 {
     if opened.n < 1 {
         return true;
@@ -67,7 +78,7 @@ pub fn opened_bad(opened: SSTableIndexV3, len: usize, group_len: usize) -> bool
 // Block `id` as the store gives it: where its group can't be read, its numbers break row 3.
 fn get(opened: SSTableIndexV3, data: &[u8], group_len: usize, id: usize) -> BlockAddr
     requires { ⌜ GroupLenOk «group_len» × OpenedFits «group_len» opened (length (now «data»)) × (id < opened .n) ⌝ }
-    ensures { λ r. ⌜ (Opens «group_len» (now («data» .entry)) opened → r ≡ blockIn «group_len» (now («data» .entry)) id) ⌝ }
+    ensures { λ r. ⌜ (OpensBy «group_len» (now («data» .entry)) opened → r ≡ blockIn «group_len» (now («data» .entry)) id) ⌝ }
 {
     store::read::block(
         part(data, opened.metas, opened.metas_len),
@@ -78,50 +89,67 @@ fn get(opened: SSTableIndexV3, data: &[u8], group_len: usize, id: usize) -> Bloc
     )
 }
 
-// The row that a search without a block hits.
+// The row that a key's search without a block hits.
 fn refusal(found: Found) -> u32
-    ensures { λ r. ⌜ (found ≡ Found.Above → r ≡ 19) × (found ≡ Found.Outside → r ≡ 20) ⌝ }
+    ensures { λ r. ⌜ r ≡ foundNo found ⌝ }
 {
     match found {
         Found::At(_) => 0,
-        Found::Above => 19,
-        Found::Outside => 20,
+        Found::Above => KEY_ABOVE,
+        Found::Outside => UNFIT,
+    }
+}
+
+// The row that an ordinal's search without a block hits.
+fn ord_refusal(found: OrdFound) -> u32
+    ensures { λ r. ⌜ r ≡ ordFoundNo found ⌝ }
+{
+    match found {
+        OrdFound::At(_, _) => 0,
+        OrdFound::Below => ORDINAL_BELOW,
+        OrdFound::Broken => UNFIT,
     }
 }
 
 // The address of block `block_id`.
 pub fn get_block(opened: SSTableIndexV3, data: &[u8], group_len: usize, block_id: u64) -> BlockById
-    requires { ⌜ GroupLenOk «group_len» × OpenedFits «group_len» opened (length (now «data»)) ⌝ }
-    ensures { λ r. ⌜ ByIdAllowed (opened .n) «block_id» (byIdNo r) (byIdAddr r) ⌝ }
-    ensures { λ r. ⌜ (Opens «group_len» (now («data» .entry)) opened → ByIdExact (blockIn «group_len» (now («data» .entry))) (opened .n) «block_id» (byIdNo r) (byIdAddr r)) ⌝ }
+    requires { ⌜ GroupLenOk «group_len» ⌝ }
+    ensures { λ r. ⌜ GetBlockBy «group_len» (now («data» .entry)) opened «block_id» (byIdNo r) (byIdAddr r) ⌝ }
+    ensures { λ r. ⌜ BlockByIdCased r ⌝ }
 {
+    if opened_bad(opened, data.len(), group_len) {
+        return BlockById::Refused(UNFIT);
+    }
     if block_id >= opened.n as u64 {
-        return BlockById::Refused(17);
+        return BlockById::Refused(UNKNOWN_ID);
     }
     let block = get(opened, data, group_len, block_id as usize);
     if group::rows::numbers_bad(block) {
-        return BlockById::Refused(20);
+        return BlockById::Refused(UNFIT);
     }
     BlockById::Block(block)
 }
 
 // The last block whose first ordinal is at or below `ord`.
 pub fn locate_with_ord(opened: SSTableIndexV3, data: &[u8], group_len: usize, ord: u64) -> Located
-    requires { ⌜ GroupLenOk «group_len» × OpenedFits «group_len» opened (length (now «data»)) ⌝ }
-    ensures { λ r. ⌜ LocatedAllowed 18 (opened .n) (locatedNo r) (locatedId r) (locatedAddr r) ⌝ }
-    ensures { λ r. ⌜ (Opens «group_len» (now («data» .entry)) opened → ByOrdExact (blockIn «group_len» (now («data» .entry))) (opened .n) ord (locatedNo r) (locatedId r) (locatedAddr r)) ⌝ }
+    requires { ⌜ GroupLenOk «group_len» ⌝ }
+    ensures { λ r. ⌜ LocateWithOrdBy «group_len» (now («data» .entry)) opened ord (locatedNo r) (locatedId r) (locatedAddr r) ⌝ }
+    ensures { λ r. ⌜ LocatedCased r ⌝ }
 {
-    match store::read::binary_search_ord(
+    if opened_bad(opened, data.len(), group_len) {
+        return Located::Refused(UNFIT);
+    }
+    let found = store::read::binary_search_ord(
         part(data, opened.metas, opened.metas_len),
         part(data, opened.addrs, opened.addrs_len),
         opened.n,
         group_len,
         ord,
-    ) {
-        store::Located::At(id, block) => Located::At(id, block),
-        store::Located::Below => Located::Refused(18),
-        store::Located::Unsound => Located::Refused(20),
-    }
+    );
+    let OrdFound::At(id, block) = found else {
+        return Located::Refused(ord_refusal(found));
+    };
+    Located::At(id, block)
 }
 
 // The first block whose separator isn't below `key`.
@@ -131,10 +159,13 @@ pub fn locate_with_key(
     group_len: usize,
     key: &[u8],
 ) -> LocatedId
-    requires { ⌜ GroupLenOk «group_len» × OpenedFits «group_len» opened (length (now «data»)) ⌝ }
-    ensures { λ r. ⌜ ByKeyAllowed (opened .n) (idNo r) (idOf r) ⌝ }
-    ensures { λ r. ⌜ (Opens «group_len» (now («data» .entry)) opened → ByKeyExact (separatorIn (now («data» .entry))) (opened .n) (now (key .entry)) (idNo r) (idOf r)) ⌝ }
+    requires { ⌜ GroupLenOk «group_len» ⌝ }
+    ensures { λ r. ⌜ LocateWithKeyBy «group_len» (now («data» .entry)) opened (now (key .entry)) (idNo r) (idOf r) ⌝ }
+    ensures { λ r. ⌜ LocatedIdCased r ⌝ }
 {
+    if opened_bad(opened, data.len(), group_len) {
+        return LocatedId::Refused(UNFIT);
+    }
     let keys = part(data, opened.directory, opened.directory_len);
     let found = directory::read::locate_with_key(keys, opened.n, key);
     let Found::At(id) = found else {
@@ -150,10 +181,14 @@ pub fn get_block_with_key(
     group_len: usize,
     key: &[u8],
 ) -> Located
-    requires { ⌜ GroupLenOk «group_len» × OpenedFits «group_len» opened (length (now «data»)) ⌝ }
-    ensures { λ r. ⌜ LocatedAllowed 19 (opened .n) (locatedNo r) (locatedId r) (locatedAddr r) ⌝ }
-    ensures { λ r. ⌜ (Opens «group_len» (now («data» .entry)) opened → AddrByKeyExact (separatorIn (now («data» .entry))) (blockIn «group_len» (now («data» .entry))) (opened .n) (now (key .entry)) (locatedNo r) (locatedId r) (locatedAddr r)) ⌝ }
+    requires { ⌜ GroupLenOk «group_len» ⌝ }
+    ensures { λ r. ⌜ GetBlockWithKeyBy «group_len» (now («data» .entry)) opened (now (key .entry))
+        (locatedNo r) (locatedId r) (locatedAddr r) ⌝ }
+    ensures { λ r. ⌜ LocatedCased r ⌝ }
 {
+    if opened_bad(opened, data.len(), group_len) {
+        return Located::Refused(UNFIT);
+    }
     let keys = part(data, opened.directory, opened.directory_len);
     let found = directory::read::locate_with_key(keys, opened.n, key);
     let Found::At(id) = found else {
@@ -161,7 +196,7 @@ pub fn get_block_with_key(
     };
     let block = get(opened, data, group_len, id);
     if group::rows::numbers_bad(block) {
-        return Located::Refused(20);
+        return Located::Refused(UNFIT);
     }
     Located::At(id, block)
 }
@@ -173,9 +208,12 @@ pub fn separator_place(
     group_len: usize,
     block_id: u64,
 ) -> Place
-    requires { ⌜ GroupLenOk «group_len» × OpenedFits «group_len» opened (length (now «data»)) ⌝ }
-    ensures { λ r. ⌜ r ≡ placeDef «group_len» opened (now («data» .entry)) «block_id» ⌝ }
+    requires { ⌜ GroupLenOk «group_len» ⌝ }
+    ensures { λ r. ⌜ r ≡ placeBy «group_len» opened (now («data» .entry)) «block_id» ⌝ }
 {
+    if opened_bad(opened, data.len(), group_len) {
+        return Place::Missing;
+    }
     if block_id >= opened.n as u64 {
         return Place::Missing;
     }
@@ -184,8 +222,6 @@ pub fn separator_place(
     if directory::read::key_outside(keys, opened.n, id) {
         return Place::Missing;
     }
-    let pair = 4 + PAIR_LEN * id;
-    let offset = serialize::deserialize_u32(keys, pair) as usize;
-    let len = serialize::deserialize_u32(keys, pair + 4) as usize;
-    Place::Part(opened.directory + 4 + PAIR_LEN * opened.n + offset, len)
+    let position = opened.directory + directory::read::key_position(keys, opened.n, id);
+    Place::Part(position, directory::read::key(keys, opened.n, id).len())
 }

@@ -11,7 +11,7 @@ use lib.Count.{trailingZeros, under, trailing-of-zero}
 use lib.ListN.{length, take, drop, getD, length-drop}
 use lib.Seq.{take-take, getD-drop}
 use borrow.Author.Tests.{eqb-true, eqb-false, lt-ltb, le-ltb, ltb-true, ltb-false}
-use Rattle.serialize.specs.Digits.{ofDigits, leVal, Below}
+use Rattle.serialize.specs.Digits.{ofDigits, leVal, DigitsBelow}
 use Rattle.serialize.proofs.Digits.{below-drop}
 use Rattle.keys.specs.Order.{commonPrefixLen}
 use Rattle.keys.proofs.Order.{by-test, commonPrefixLen-take, commonPrefixLen-same, commonPrefixLen-other}
@@ -123,7 +123,7 @@ module _ (n a b x y : ℕ) (f : x < 2 ^ 8) (g : y < 2 ^ 8) where
       rw parts (omega arith)
 
 -- the n first bytes in common, by the two words that they spell
-pub commonPrefixLen-word : (n : ℕ) (a b : List ℕ) → Below 8 a → Below 8 b → n ≤ length a → n ≤ length b
+pub commonPrefixLen-word : (n : ℕ) (a b : List ℕ) → DigitsBelow 8 a → DigitsBelow 8 b → n ≤ length a → n ≤ length b
     → trailingZeros (8 * n) (bitXor (leVal (take n a)) (leVal (take n b))) / 8 ≡ commonPrefixLen (take n a) (take n b)
 unfolding ofDigits commonPrefixLen
 commonPrefixLen-word zero a b f g h k = unfold trailingZeros in refl
@@ -138,7 +138,7 @@ commonPrefixLen-word (suc n) (x ∷ a) (y ∷ b) f g h k =
     (λ e. simp e (lowest-differ n (leVal (take n a)) (leVal (take n b)) x y (f 0) (g 0) (eqb-false x y e)))
 
 -- eight bytes more
-module _ (a b : List ℕ) (f : Below 8 a) (g : Below 8 b) (i : ℕ) (h : i + 8 ≤ length a) (k : i + 8 ≤ length b) where
+module _ (a b : List ℕ) (f : DigitsBelow 8 a) (g : DigitsBelow 8 b) (i : ℕ) (h : i + 8 ≤ length a) (k : i + 8 ≤ length b) where
   pub word-count : trailingZeros 64 (bitXor (leVal (take 8 (drop i a))) (leVal (take 8 (drop i b)))) / 8 ≡ min 8 (commonPrefixLen (drop i a) (drop i b))
   word-count =
       commonPrefixLen-word 8 (drop i a) (drop i b) (below-drop 8 i a f) (below-drop 8 i b g) (omega (arith, length-drop i a)) (omega (arith, length-drop i b))

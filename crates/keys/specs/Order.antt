@@ -5,7 +5,7 @@ use mathlib.Core.List.{List, [], _∷_}
 use mathlib.Core.Bool.{Bool, true, false, cond}
 use lib.Dec.{eqb, ltb}
 
--- document 01: "byte strings compare as unsigned bytes, a prefix being smaller"
+-- the order of byte strings (SPECIFICATION 1.3): the first byte that differs decides, and a front is below the whole
 unfoldable pub less : List ℕ → List ℕ → Bool
 less [] [] = false
 less [] (y ∷ ys) = true

@@ -4,12 +4,12 @@ use mathlib.Core.List.{List, [], _∷_}
 use mathlib.Core.Bool.{cond}
 use lib.Dec.{eqb}
 
--- the first byte that isn't FF grows by one and the rest is dropped; if there is none, unchanged
+-- FFs are passed over; the byte after them is raised, and nothing after it stays. All FF stays as it is
 unfoldable pub raise : List ℕ → List ℕ
 raise [] = []
 raise (x ∷ xs) = cond (eqb x 255) (x ∷ raise xs) ((x + 1) ∷ [])
 
--- a left that is the common prefix is unchanged; otherwise the search starts behind the first differing byte
+-- the shared front stays; the byte that differs stays too, and what comes after it is raised
 unfoldable pub shorten : List ℕ → List ℕ → List ℕ
 shorten [] right = []
 shorten (x ∷ xs) [] = x ∷ raise xs

@@ -47,8 +47,10 @@ fn common_of_word(left: &[u8], right: &[u8], at: usize) -> usize
 fn first_other_word(left: &[u8], right: &[u8], from: usize, last: usize) -> usize
     requires { ⌜ last + 8 ≡ min (length (now left)) (length (now right)) ⌝ }
     ensures { λ r. ⌜ r ≤ last ⌝ }
-    ensures { λ r. ⌜ (from ≤ commonPrefixLen (now (left .entry)) (now (right .entry)) → r ≤ commonPrefixLen (now (left .entry)) (now (right .entry))) ⌝ }
-    ensures { λ r. ⌜ (from ≤ commonPrefixLen (now (left .entry)) (now (right .entry)) → commonPrefixLen (now (left .entry)) (now (right .entry)) ≤ r + 8) ⌝ }
+    ensures { λ r. ⌜ (from ≤ commonPrefixLen (now (left .entry)) (now (right .entry))
+        → r ≤ commonPrefixLen (now (left .entry)) (now (right .entry))) ⌝ }
+    ensures { λ r. ⌜ (from ≤ commonPrefixLen (now (left .entry)) (now (right .entry))
+        → commonPrefixLen (now (left .entry)) (now (right .entry)) ≤ r + 8) ⌝ }
 {
     let mut at = from;
     while at < last {
@@ -61,8 +63,9 @@ fn first_other_word(left: &[u8], right: &[u8], from: usize, last: usize) -> usiz
 }
 
 // How many bytes the keys have in common at the front, if the first `from` are. The last word may overlap the one before it.
-pub fn common_prefix_len_from(left: &[u8], right: &[u8], from: usize) -> usize
-    ensures { λ r. ⌜ (from ≤ commonPrefixLen (now (left .entry)) (now (right .entry)) → r ≡ commonPrefixLen (now (left .entry)) (now (right .entry))) ⌝ }
+fn common_prefix_len_from(left: &[u8], right: &[u8], from: usize) -> usize
+    ensures { λ r. ⌜ (from ≤ commonPrefixLen (now (left .entry)) (now (right .entry))
+        → r ≡ commonPrefixLen (now (left .entry)) (now (right .entry))) ⌝ }
 {
     let short = shorter(left, right);
     if short < 8 {
@@ -97,7 +100,8 @@ fn differs(left: &[u8], right: &[u8], at: usize) -> bool
 // Where all are, the shorter key's length.
 fn first_other_run(left: &[u8], right: &[u8], from: usize, last: usize) -> usize
     requires { ⌜ last + 64 ≡ min (length (now left)) (length (now right)) ⌝ }
-    ensures { λ r. ⌜ (from ≤ commonPrefixLen (now (left .entry)) (now (right .entry)) → r ≤ commonPrefixLen (now (left .entry)) (now (right .entry))) ⌝ }
+    ensures { λ r. ⌜ (from ≤ commonPrefixLen (now (left .entry)) (now (right .entry))
+        → r ≤ commonPrefixLen (now (left .entry)) (now (right .entry))) ⌝ }
 {
     let mut at = from;
     while at < last {
@@ -114,7 +118,8 @@ fn first_other_run(left: &[u8], right: &[u8], from: usize, last: usize) -> usize
 
 // The same as `common_prefix_len_from`, by runs first: faster for long keys, and larger.
 pub fn common_prefix_len_by_runs(left: &[u8], right: &[u8], from: usize) -> usize
-    ensures { λ r. ⌜ (from ≤ commonPrefixLen (now (left .entry)) (now (right .entry)) → r ≡ commonPrefixLen (now (left .entry)) (now (right .entry))) ⌝ }
+    ensures { λ r. ⌜ (from ≤ commonPrefixLen (now (left .entry)) (now (right .entry))
+        → r ≡ commonPrefixLen (now (left .entry)) (now (right .entry))) ⌝ }
 {
     let short = shorter(left, right);
     if short < 8 {
@@ -129,7 +134,7 @@ pub fn common_prefix_len_by_runs(left: &[u8], right: &[u8], from: usize) -> usiz
     at + common_of_word(left, right, at)
 }
 
-// The common prefix, as the front of the first key.
+// The common prefix, as the front of the first key: document 01's form.
 pub fn common_prefix<'a>(left: &'a [u8], right: &[u8]) -> &'a [u8]
     ensures { λ r. ⌜ now r ≡ take (commonPrefixLen (now (left .entry)) (now (right .entry))) (now (left .entry)) ⌝ }
 {
@@ -179,7 +184,9 @@ fn first_below_ff(keys: &[u8], from: usize, end: usize) -> usize
 // `find_shorter_str_in_between` for every right with which the key has `common_len` bytes in common: the search needs no more of it.
 pub fn shorter_str_behind(keys: &mut [u8], at: usize, len: usize, common_len: usize) -> usize
     requires { ⌜ (at + len ≤ length (now keys)) × («common_len» ≤ len) ⌝ }
-    ensures { λ r. ⌜ ((right : List ℕ) → «common_len» ≡ commonPrefixLen (take len (drop at (now (keys .entry)))) right → (r ≡ length (shorten (take len (drop at (now (keys .entry)))) right)) × (now (keys .exit) ≡ sets (now (keys .entry)) at (shorten (take len (drop at (now (keys .entry)))) right))) ⌝ }
+    ensures { λ r. ⌜ ((right : List ℕ) → «common_len» ≡ commonPrefixLen (take len (drop at (now (keys .entry)))) right
+        → (r ≡ length (shorten (take len (drop at (now (keys .entry)))) right))
+        × (now (keys .exit) ≡ sets (now (keys .entry)) at (shorten (take len (drop at (now (keys .entry)))) right))) ⌝ }
 {
     if common_len == len {
         return len;
@@ -195,11 +202,13 @@ pub fn shorter_str_behind(keys: &mut [u8], at: usize, len: usize, common_len: us
 }
 
 // Shortens the key of `len` bytes at `at`, in place, to one that isn't below it and still below `right` (if the key is).
-// Returns the new length. At most one byte changes.
+// Returns the new length. At most one byte changes. Document 01 names this function and `common_prefix`, and the programs
+// of vectors call them; the builder, which knows the common prefix by then, calls `shorter_str_behind`.
 pub fn find_shorter_str_in_between(keys: &mut [u8], at: usize, len: usize, right: &[u8]) -> usize
     requires { ⌜ at + len ≤ length (now keys) ⌝ }
     ensures { λ r. ⌜ r ≡ length (shorten (take len (drop at (now (keys .entry)))) (now (right .entry))) ⌝ }
-    ensures { λ _. ⌜ now (keys .exit) ≡ sets (now (keys .entry)) at (shorten (take len (drop at (now (keys .entry)))) (now (right .entry))) ⌝ }
+    ensures { λ _. ⌜ now (keys .exit)
+        ≡ sets (now (keys .entry)) at (shorten (take len (drop at (now (keys .entry)))) (now (right .entry))) ⌝ }
 {
     let end = at + len;
     let common_len = common_prefix_len(&keys[at..end], right);

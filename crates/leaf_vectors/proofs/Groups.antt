@@ -6,7 +6,7 @@ use native.Mathlib.Omega.{arith}
 use native.Mathlib.Numerals.{add-one}
 use lib.ListN.{length, take, getD}
 use lib.Seq.{sets, take-all}
-use Rattle.serialize.specs.Digits.{leBytes, Below}
+use Rattle.serialize.specs.Digits.{leBytes, DigitsBelow}
 use Rattle.bitpacker.specs.declared.BitPacker.{BitPacker}
 use Rattle.bitpacker.specs.Bits.{bytesOf}
 use Rattle.bitpacker.specs.Fields.{groupVal, rangeBit, ordinalBit, groupBits}
@@ -29,8 +29,8 @@ Wrote p l v n p′ l′ = (p′ ≡ packedWith p v n) × (l′ ≡ sets l (p .wr
 
 -- every field fits its width
 pub record Small (r o : ℕ) (fs : List ℕ) : Type 0 where
-  pub range : Below r (ranges fs)
-  pub ordinal : Below o (ordinals fs)
+  pub range : DigitsBelow r (ranges fs)
+  pub ordinal : DigitsBelow o (ordinals fs)
 
 module _ {r o : ℕ} {fs : List ℕ} (small : Small r o fs) where
   range-small : (i : ℕ) → getD fs (2 * i) 0 < 2 ^ r

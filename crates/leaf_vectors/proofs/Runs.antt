@@ -7,7 +7,7 @@ use native.Mathlib.Omega.{arith}
 use native.Mathlib.Numerals.{add-one}
 use lib.ListN.{length, take, getD}
 use lib.Seq.{sets}
-use Rattle.serialize.specs.Digits.{ofDigits, Below}
+use Rattle.serialize.specs.Digits.{ofDigits, DigitsBelow}
 use Rattle.serialize.proofs.Digits.{ofDigits-suc}
 use Rattle.bitpacker.specs.declared.BitPacker.{BitPacker}
 use Rattle.bitpacker.specs.Packer.{Waiting, leaving, packedWith}
@@ -21,7 +21,7 @@ pub run-none : (w : ℕ) (fs d : List ℕ) {p : BitPacker} → (p .buffer ≡ 0)
 unfolding ofDigits
 run-none w fs d e = rw (mul-zero w) (packed-new d e)
 
-module _ (w : ℕ) (fs : List ℕ) (small : Below w fs) {d l : List ℕ} {p : BitPacker} (i : ℕ) (k : Run w fs d l p i) where
+module _ (w : ℕ) (fs : List ℕ) (small : DigitsBelow w fs) {d l : List ℕ} {p : BitPacker} (i : ℕ) (k : Run w fs d l p i) where
   pub run-room : i < length fs → w ≤ 56 → w * length fs ≤ 8 * length d
       → Waiting p × (w ≤ 56) × (getD fs i 0 < 2 ^ w) × (8 * p .written + p .filled + w ≤ 8 * length l)
   run-room h few room =

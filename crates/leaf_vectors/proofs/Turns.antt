@@ -6,7 +6,7 @@ use native.Mathlib.Omega.{arith}
 use native.Mathlib.Numerals.{add-one}
 use lib.ListN.{length, getD}
 use lib.Pow.{pow-pos}
-use Rattle.serialize.specs.Digits.{Below}
+use Rattle.serialize.specs.Digits.{DigitsBelow}
 use Rattle.leaf_vectors.specs.Fields.{ranges, ordinals}
 
 double : (i : ℕ) → 2 * suc i ≡ suc (suc (2 * i))
@@ -37,7 +37,7 @@ ordinals-length [] = omega arith
 ordinals-length (x ∷ fs) = let h = ranges-length fs in omega arith
 
 -- where both widths are the same
-pub below-turns : (w : ℕ) (fs : List ℕ) → Below w (ranges fs) → Below w (ordinals fs) → Below w fs
+pub below-turns : (w : ℕ) (fs : List ℕ) → DigitsBelow w (ranges fs) → DigitsBelow w (ordinals fs) → DigitsBelow w fs
 unfolding ordinals
 below-turns w [] hr ho i = pow-pos w
 below-turns w (x ∷ fs) hr ho zero = rw (range-at (x ∷ fs) 0) at (hr 0)

@@ -9,7 +9,7 @@ use borrow.Author.Tests.{eq-eqb, ne-eqb}
 use lib.Dec.{eqb}
 use lib.ListN.{length, getD}
 use lib.Pow.{pow-pos}
-use Rattle.serialize.specs.Digits.{Below}
+use Rattle.serialize.specs.Digits.{DigitsBelow}
 use Rattle.leaf_vectors.specs.Fields.{ranges, ordinals}
 use Rattle.leaf_vectors.proofs.Turns.{range-at, ordinal-at}
 
@@ -34,12 +34,12 @@ all-below w (x ∷ fs) h zero = h 0 (omega arith)
 all-below w (x ∷ fs) h (suc k) = all-below (λ j. w (suc j)) fs (λ j l. h (suc j) (omega arith)) k
 
 module _ (r o : ℕ) (fs : List ℕ) (h : (k : ℕ) → k < length fs → getD fs k 0 < 2 ^ width r o k) where
-  pub fit-ranges : Below r (ranges fs)
+  pub fit-ranges : DigitsBelow r (ranges fs)
   fit-ranges i =
       let e : 2 * i % 2 ≡ 0 = omega arith in
       rw (range-at fs i) (rw (eq-eqb (2 * i % 2) 0 e) at (all-below (width r o) fs h (2 * i)))
 
-  pub fit-ordinals : Below o (ordinals fs)
+  pub fit-ordinals : DigitsBelow o (ordinals fs)
   fit-ordinals i =
       let e : (2 * i + 1) % 2 ≡ 0 → ⊥ = λ z. omega arith in
       rw (ordinal-at fs i) (rw (ne-eqb ((2 * i + 1) % 2) 0 e) at (all-below (width r o) fs h (2 * i + 1)))

@@ -5,7 +5,7 @@ ghost use Prim.Native.Nat.{_+_, _*_, _%_, _≤_};
 ghost use lib.Dec.{eqb};
 ghost use lib.ListN.{length};
 ghost use lib.Seq.{sets};
-ghost use Rattle.serialize.specs.Digits.{ofDigits, leBytes, Below};
+ghost use Rattle.serialize.specs.Digits.{ofDigits, leBytes, DigitsBelow};
 ghost use Rattle.bitpacker.specs.Bits.{bytesOf};
 ghost use Rattle.bitpacker.specs.Fields.{groupVal, groupBits};
 ghost use Rattle.leaf_vectors.specs.Fields.{ranges, ordinals};
@@ -13,8 +13,10 @@ use bitpacker::BitPacker;
 
 // Writes the fields, each of `width` bits. Returns how many bytes there are.
 pub fn pack_fields(out: &mut [u8], fields: &[u64], width: u8) -> usize
-    requires { ⌜ (width ≤ 56) × Below width (now fields) × (width * length (now fields) ≤ 8 * length (now out)) ⌝ }
-    ensures { λ n. ⌜ (n ≡ bytesOf (width * length (now (fields .entry)))) × (now (out .exit) ≡ sets (now (out .entry)) 0 (leBytes (bytesOf (width * length (now (fields .entry)))) (ofDigits width (now (fields .entry))))) ⌝ }
+    requires { ⌜ (width ≤ 56) × DigitsBelow width (now fields) × (width * length (now fields) ≤ 8 * length (now out)) ⌝ }
+    ensures { λ n. ⌜ (n ≡ bytesOf (width * length (now (fields .entry))))
+        × (now (out .exit) ≡ sets (now (out .entry)) 0
+        (leBytes (bytesOf (width * length (now (fields .entry)))) (ofDigits width (now (fields .entry))))) ⌝ }
 {
     let mut packer = BitPacker::new();
     let mut i: usize = 0;
@@ -29,9 +31,11 @@ pub fn pack_fields(out: &mut [u8], fields: &[u64], width: u8) -> usize
 // Returns how many bytes there are.
 pub fn pack_group(out: &mut [u8], fields: &[u64], r: u8, o: u8, count: usize) -> usize
     requires { ⌜ (r ≤ 56) × (o ≤ 56) × (length (now fields) ≡ 2 * count + 1) ⌝ }
-    requires { ⌜ Below r (ranges (now fields)) × Below o (ordinals (now fields)) ⌝ }
+    requires { ⌜ DigitsBelow r (ranges (now fields)) × DigitsBelow o (ordinals (now fields)) ⌝ }
     requires { ⌜ groupBits r o count ≤ 8 * length (now out) ⌝ }
-    ensures { λ n. ⌜ (n ≡ bytesOf (groupBits r o count)) × (now (out .exit) ≡ sets (now (out .entry)) 0 (leBytes (bytesOf (groupBits r o count)) (groupVal r o (ranges (now (fields .entry))) (ordinals (now (fields .entry)))))) ⌝ }
+    ensures { λ n. ⌜ (n ≡ bytesOf (groupBits r o count))
+        × (now (out .exit) ≡ sets (now (out .entry)) 0
+        (leBytes (bytesOf (groupBits r o count)) (groupVal r o (ranges (now (fields .entry))) (ordinals (now (fields .entry)))))) ⌝ }
 {
     let mut packer = BitPacker::new();
     let mut i: usize = 0;
@@ -54,7 +58,7 @@ fn width_at(i: usize, r: u8, o: u8) -> u8
 // Whether the fields in turn fit their widths.
 pub fn fit(fields: &[u64], r: u8, o: u8) -> bool
     requires { ⌜ (r ≤ 56) × (o ≤ 56) ⌝ }
-    ensures { λ ok. ⌜ (ok ≡ true → Below r (ranges (now (fields .entry))) × Below o (ordinals (now (fields .entry)))) ⌝ }
+    ensures { λ ok. ⌜ (ok ≡ true → DigitsBelow r (ranges (now (fields .entry))) × DigitsBelow o (ordinals (now (fields .entry)))) ⌝ }
 {
     let mut i: usize = 0;
     while i < fields.len() {

@@ -4,7 +4,7 @@ use mathlib.Core.Bool.{Bool, true, false, cond}
 use mathlib.Core.List.{List, [], _∷_, _++_}
 use mathlib.Core.Logic.{⊎-elim, inl, inr}
 use mathlib.Core.Option.{some}
-use Prim.Native.Nat.{ℕ, zero, suc, _+_, _-_, _≤_, _<_}
+use Prim.Native.Nat.{ℕ, zero, suc, _+_, _-_, _≤_}
 use native.Mathlib.Nat.{add-zero, zero-add, add-suc, suc-add, add-assoc}
 use native.Mathlib.Omega.{arith}
 use lib.Dec.{eqb}
@@ -13,7 +13,7 @@ use lib.Seq.{sets, length-sets, getD-at, set-set}
 use Rattle.automaton.specs.Bits.{Exactly}
 use Rattle.automaton.proofs.Exact.{same-or}
 use Rattle.pruning.specs.Interval.{Marked}
-use Rattle.listing.specs.Marks.{startAt, Mark, Marks, ones}
+use Rattle.listing.specs.Marks.{startAt, Mark, Marks, countOnes}
 use Rattle.listing.specs.Listing.{Listing}
 
 -- a block behind the first starts at the separator before it
@@ -22,19 +22,19 @@ start-behind separator zero h = absurd (omega arith)
 start-behind separator (suc i) h = let e : suc i - 1 ≡ i = omega arith in rw e
 
 -- ---- the count of ones
-pub ones-append : (a b : List ℕ) → ones (a ++ b) ≡ ones a + ones b
-unfolding ones
-ones-append [] b = sym (zero-add (ones b))
-ones-append (x ∷ a) b = rw (ones-append a b, add-assoc (cond (eqb x 1) 1 0) (ones a) (ones b))
+pub countOnes-append : (a b : List ℕ) → countOnes (a ++ b) ≡ countOnes a + countOnes b
+unfolding countOnes
+countOnes-append [] b = sym (zero-add (countOnes b))
+countOnes-append (x ∷ a) b = rw (countOnes-append a b, add-assoc (cond (eqb x 1) 1 0) (countOnes a) (countOnes b))
 
 pub one-at-most : (b : Bool) → cond b 1 0 ≤ 1
 one-at-most true = omega arith
 one-at-most false = omega arith
 
-pub ones-le : (ms : List ℕ) → ones ms ≤ length ms
-unfolding ones
-ones-le [] = omega arith
-ones-le (x ∷ ms) = omega (arith, one-at-most (eqb x 1), ones-le ms)
+pub countOnes-le : (ms : List ℕ) → countOnes ms ≤ length ms
+unfolding countOnes
+countOnes-le [] = omega arith
+countOnes-le (x ∷ ms) = omega (arith, one-at-most (eqb x 1), countOnes-le ms)
 
 -- ---- one block more
 sets-more : (d ms : List ℕ) (i x : ℕ) → set (sets d i ms) (i + length ms) x ≡ sets d i (ms ++ (x ∷ []))
@@ -43,7 +43,7 @@ sets-more d (y ∷ ms) i x = rw (add-suc i (length ms), ← (suc-add i (length m
 
 module _ (t : List ℕ) (separator : ℕ → List ℕ) where
   pub listing-none : (marks : List ℕ) → Listing t separator 0 marks marks 0
-  unfolding ones
+  unfolding countOnes
   listing-none marks = record {
     list = [];
     right = record { long = refl; each = λ i h. absurd (omega arith) };
@@ -62,11 +62,11 @@ module _ (t : List ℕ) (separator : ℕ → List ℕ) where
 
   module _ (i count : ℕ) (marks written : List ℕ) (l : Listing t separator i marks written count) where
     listing-more : (x : ℕ) → Mark x (Marked t (startAt separator i) (separator i)) → Listing t separator (i + 1) marks (set written i x) (count + cond (eqb x 1) 1 0)
-    unfolding ones
+    unfolding countOnes
     listing-more x p = record {
       list = l .list ++ (x ∷ []);
       right = marks-more i x (l .list) (l .right) p;
-      counted = rw (ones-append (l .list) (x ∷ []), l .counted, add-zero (cond (eqb x 1) 1 0));
+      counted = rw (countOnes-append (l .list) (x ∷ []), l .counted, add-zero (cond (eqb x 1) 1 0));
       bytes = rw (l .bytes, ← (sets-more marks (l .list) 0 x), zero-add (length (l .list)), l .right .long);
     }
 
@@ -103,4 +103,4 @@ module _ {t : List ℕ} {separator : ℕ → List ℕ} {n : ℕ} {marks written 
   listing-length = rw (l .bytes) (length-sets marks 0 (l .list))
 
   pub listing-count : count ≤ n
-  listing-count = omega (arith, l .counted, ones-le (l .list), l .right .long)
+  listing-count = omega (arith, l .counted, countOnes-le (l .list), l .right .long)

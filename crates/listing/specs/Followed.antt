@@ -4,6 +4,7 @@ use mathlib.Core.Path.{_≡_}
 use mathlib.Core.List.{List}
 use mathlib.Core.Bool.{Bool}
 use lib.ListN.{length, take, getD}
+use Rattle.layout.specs.Layout.{maxKeyLen}
 use Rattle.automaton.specs.Bits.{Exactly}
 use Rattle.automaton.specs.Words.{run}
 use Rattle.pruning.specs.Interval.{MatchBetween}
@@ -17,5 +18,5 @@ pub record Followed (t key states : List ℕ) (known : ℕ) : Type 0 where
 pub record Turned (t start end states : List ℕ) (matches : Bool) (known : ℕ) : Type 0 where
   pub right : Exactly matches (MatchBetween t 0 start end)
   pub followed : Followed t end states known
-  pub few : known ≤ 1024
+  pub few : known ≤ maxKeyLen
   pub within : known ≤ length end

@@ -1,4 +1,4 @@
--- The marks of a listing (document 01, "Pruning"): 0 or 1 per block, n bytes, and the count of ones.
+-- The marks of a listing (SPECIFICATION 11.7), a byte for each block, and how many are 1.
 use Prim.Native.Nat.{ℕ, zero, suc, _+_, _<_}
 use mathlib.Core.Path.{_≡_}
 use mathlib.Core.List.{List, [], _∷_}
@@ -18,12 +18,12 @@ startAt separator (suc i) = some (separator i)
 abbrev pub Mark : ℕ → Type 0 → Type 0
 Mark x P = ((x ≡ 1) × P) ⊎ ((x ≡ 0) × (P → ⊥))
 
--- mark i is 1 exactly when the automaton accepts some byte string above separator i - 1 and not above separator i
+-- n marks, each of which says whether an accepted string lies in its block's interval (SPECIFICATION 11.4)
 pub record Marks (t : List ℕ) (separator : ℕ → List ℕ) (n : ℕ) (marks : List ℕ) : Type 0 where
   pub long : length marks ≡ n
   pub each : (i : ℕ) → i < n → Mark (getD marks i 0) (Marked t (startAt separator i) (separator i))
 
 -- the count of ones
-unfoldable pub ones : List ℕ → ℕ
-ones [] = 0
-ones (x ∷ xs) = cond (eqb x 1) 1 0 + ones xs
+unfoldable pub countOnes : List ℕ → ℕ
+countOnes [] = 0
+countOnes (x ∷ xs) = cond (eqb x 1) 1 0 + countOnes xs

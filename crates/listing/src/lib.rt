@@ -11,18 +11,21 @@ ghost use Rattle.automaton.specs.Words.{run, Reach};
 ghost use Rattle.pruning.specs.Interval.{MatchBetween};
 ghost use Rattle.pruning.specs.Prepared.{Prepared};
 ghost use Rattle.directory.specs.Read.{keyOf};
-ghost use Rattle.listing.specs.Listing.{keysOutside, listingNo, separatorAt, Listing, listedNo, listedCount, ListingLeaves};
+ghost use Rattle.listing.specs.Listing.{keysOutside, Listing, GetBlockForAutomaton, listedNo, listedCount, ListedCased};
 ghost use Rattle.listing.specs.Followed.{Followed, Turned};
 use automaton::live::UNKNOWN;
 use automaton::reach::can_match;
 use automaton::table::accept;
 use directory::read::key;
 use index::SSTableIndexV3;
-use index::STORE_BLOCK_LEN;
-use index::lookup::opened_bad;
+use index::UNFIT;
+use index::opened_bad;
 use pruning::block_match_automaton::accept_prefix;
 use pruning::block_match_automaton::can_block_match;
 use pruning::block_match_automaton::can_block_match_from;
+
+// Row 24 of the table: fewer bytes for marks than blocks.
+const FEW_MARKS: u32 = 24;
 
 // How many blocks are marked, or a row's number.
 pub enum Listed {
@@ -68,8 +71,11 @@ fn shares_dead(
     start_key: &[u8],
     end_key: &[u8],
 ) -> bool
-    requires { ⌜ WellFormed (now table) × Reach (now table) reach × Followed (now table) (now «start_key») (now states) known × ((known ≤ 1024) × (known ≤ length (now «start_key»))) ⌝ }
-    ensures { λ r. ⌜ (r ≡ true → (known ≤ commonPrefixLen (now («start_key» .entry)) (now («end_key» .entry))) × (MatchBetween (now (table .entry)) 0 (now («start_key» .entry)) (now («end_key» .entry)) → ⊥)) ⌝ }
+    requires { ⌜ WellFormed (now table) × Reach (now table) reach
+        × Followed (now table) (now «start_key») (now states) known
+        × ((known ≤ 1024) × (known ≤ length (now «start_key»))) ⌝ }
+    ensures { λ r. ⌜ (r ≡ true → (known ≤ commonPrefixLen (now («start_key» .entry)) (now («end_key» .entry)))
+        × (MatchBetween (now (table .entry)) 0 (now («start_key» .entry)) (now («end_key» .entry)) → ⊥)) ⌝ }
 {
     if !is_dead(reach, states, known) {
         return false;
@@ -115,8 +121,12 @@ fn follow_loops(
     end: usize,
     state: usize,
 ) -> usize
-    requires { ⌜ WellFormed (now table) × Followed (now table) (now key) (now states) from × ((state ≡ run (now table) 0 (take from (now key))) × (state < stateCount (now table))) × (from ≤ end) × ((end ≤ 1024) × (end ≤ length (now key))) ⌝ }
-    ensures { λ r. ⌜ ((from ≤ r) × (r ≤ end)) × Followed (now (table .entry)) (now (key .entry)) (now (states .exit)) r × (state ≡ run (now (table .entry)) 0 (take r (now (key .entry)))) ⌝ }
+    requires { ⌜ WellFormed (now table) × Followed (now table) (now key) (now states) from
+        × ((state ≡ run (now table) 0 (take from (now key))) × (state < stateCount (now table)))
+        × (from ≤ end) × ((end ≤ 1024) × (end ≤ length (now key))) ⌝ }
+    ensures { λ r. ⌜ ((from ≤ r) × (r ≤ end))
+        × Followed (now (table .entry)) (now (key .entry)) (now (states .exit)) r
+        × (state ≡ run (now (table .entry)) 0 (take r (now (key .entry)))) ⌝ }
 {
     if from % 8 != 0 {
         return from;
@@ -199,8 +209,11 @@ fn match_block(
     start_key: &[u8],
     end_key: &[u8],
 ) -> Turn
-    requires { ⌜ Prepared (now table) reach (now firsts) (now ends) × Followed (now table) (now «start_key») (now states) known × (known ≤ 1024) × (known ≤ length (now «start_key»)) ⌝ }
-    ensures { λ r. ⌜ Turned (now (table .entry)) (now («start_key» .entry)) (now («end_key» .entry)) (now (states .exit)) (r .matches) (r .known) ⌝ }
+    requires { ⌜ Prepared (now table) reach (now firsts) (now ends)
+        × Followed (now table) (now «start_key») (now states) known
+        × (known ≤ 1024) × (known ≤ length (now «start_key»)) ⌝ }
+    ensures { λ r. ⌜ Turned (now (table .entry)) (now («start_key» .entry)) (now («end_key» .entry))
+        (now (states .exit)) (r .matches) (r .known) ⌝ }
     ensures { λ _. ⌜ Prepared (now (table .entry)) reach (now (firsts .exit)) (now (ends .exit)) ⌝ }
 {
     if shares_dead(table, reach, states, known, start_key, end_key) {
@@ -273,24 +286,25 @@ pub fn get_block_for_automaton(
     table: &[u8],
     marks: &mut [u8],
 ) -> Listed
-    ensures { λ r. ⌜ listedNo r ≡ listingNo 128 opened (now («data» .entry)) (now (table .entry)) (length (now (marks .entry))) ⌝ }
-    ensures { λ r. ⌜ ListingLeaves (now (table .entry)) (separatorAt opened (now («data» .entry))) (opened .n) (now (marks .entry)) (now (marks .exit)) (listedNo r) (listedCount r) ⌝ }
+    ensures { λ r. ⌜ GetBlockForAutomaton (now («data» .entry)) opened (now (table .entry))
+        (now (marks .entry)) (now (marks .exit)) (listedNo r) (listedCount r) ⌝ }
+    ensures { λ r. ⌜ ListedCased r ⌝ }
 {
-    if opened_bad(opened, data.len(), STORE_BLOCK_LEN) {
-        return Listed::Refused(20);
+    if opened_bad(opened, data.len()) {
+        return Listed::Refused(UNFIT);
     }
     let from = opened.directory;
     let end = from + opened.directory_len;
     let directory = &data[from..end];
     if keys_outside(directory, opened.n) {
-        return Listed::Refused(20);
+        return Listed::Refused(UNFIT);
     }
     let no = automaton::table::check(table);
     if no != 0 {
         return Listed::Refused(no);
     }
     if marks.len() < opened.n {
-        return Listed::Refused(24);
+        return Listed::Refused(FEW_MARKS);
     }
     Listed::Count(mark_blocks(directory, opened.n, table, marks))
 }

@@ -15,7 +15,7 @@ use borrow.Author.Tests.{eqb-true, eqb-false, ne-eqb, lt-ltb, ltb-true, ltb-fals
 use Rattle.keys.specs.Order.{less, _≺_, _≼_, commonPrefixLen}
 use Rattle.keys.proofs.Order.{by-test, less-asym, less-append, prefix-≼, prefix-≺, ≺-≼-trans, commonPrefixLen-take, commonPrefixLen-differ, less-end-right, less-at}
 use Rattle.automaton.specs.Table.{flag, next}
-use Rattle.automaton.specs.Words.{Bytes, run, Hits, Word}
+use Rattle.automaton.specs.Words.{Bytes, run, Hits, Accepts}
 use Rattle.automaton.specs.Live.{LiveByte}
 use Rattle.automaton.proofs.Refusal.{part-rest}
 use Rattle.automaton.proofs.Strings.{word-nil, word-cons, word-map, word-cases, byte-word, can-match-hits, bytes-take}
@@ -58,8 +58,8 @@ pub past : {P Q R : Type 0} → P ↔ (Q ⊎ R) → (Q → ⊥) → P ↔ R
 past i n = (λ p. ⊎-elim (λ q. absurd (n q)) (λ r. r) (i .0 p), λ r. i .1 (inr r))
 
 -- the string w after the byte b, where b is k
-from : {t w : List ℕ} (s : ℕ) (P : List ℕ → Type 0) (b k : ℕ) → b ≡ k → Hits t (next t s b) w → P w → Word t (next t s k) P
-from {t} {w} s P b k e h p = subst (λ (x : ℕ). Word t (next t s x) P) e (record { word = w; hits = h; good = p })
+from : {t w : List ℕ} (s : ℕ) (P : List ℕ → Type 0) (b k : ℕ) → b ≡ k → Hits t (next t s b) w → P w → Accepts t (next t s k) P
+from {t} {w} s P b k e h p = subst (λ (x : ℕ). Accepts t (next t s x) P) e (record { string = w; hits = h; good = p })
 
 -- ---- above a key
 pub after-nil : (t : List ℕ) (s : ℕ) → MatchAbove t s [] ↔ LiveByte t s 0 256
@@ -84,11 +84,11 @@ after-cons t s k ks hk = (
 )
 
 -- ---- not above a key: the empty string, or one of (empty, key]
-pub upto-split : (t : List ℕ) (s : ℕ) (b : List ℕ) → Word t s (λ w. w ≼ b) ↔ ((flag t s ≡ 1) ⊎ MatchBetween t s [] b)
+pub upto-split : (t : List ℕ) (s : ℕ) (b : List ℕ) → Accepts t s (λ w. w ≼ b) ↔ ((flag t s ≡ 1) ⊎ MatchBetween t s [] b)
 upto-split t s b = (
   word-cases (λ w. w ≼ b) ((flag t s ≡ 1) ⊎ MatchBetween t s [] b)
       (λ e p. inl e)
-      (λ c w h i p. inr (word-cons s c (λ v. ([] ≺ v) × (v ≼ b)) (λ v. (c ∷ v) ≼ b) h (λ v l. (prefix-≺ [] c v, l)) (record { word = w; hits = i; good = p }))),
+      (λ c w h i p. inr (word-cons s c (λ v. ([] ≺ v) × (v ≼ b)) (λ v. (c ∷ v) ≼ b) h (λ v l. (prefix-≺ [] c v, l)) (record { string = w; hits = i; good = p }))),
   ⊎-elim
       (λ e. word-nil (λ w. w ≼ b) e (prefix-≼ [] b))
       (word-map (λ w. ([] ≺ w) × (w ≼ b)) (λ w. w ≼ b) (λ w p. p .1)),
@@ -114,7 +114,7 @@ upto-cons t s k ks hk = (
 -- ---- between two keys
 -- none where the start isn't below the end
 pub between-none : (t : List ℕ) (s : ℕ) (a b : List ℕ) → b ≼ a → MatchBetween t s a b → ⊥
-between-none t s a b h m = false≢true (sym h ∙ ≺-≼-trans a (m .word) b (m .good .0) (m .good .1))
+between-none t s a b h m = false≢true (sym h ∙ ≺-≼-trans a (m .string) b (m .good .0) (m .good .1))
 
 -- equal first bytes
 pub between-same : (t : List ℕ) (s x : ℕ) (a b : List ℕ) → x < 256 → MatchBetween t s (x ∷ a) (x ∷ b) ↔ MatchBetween t (next t s x) a b

@@ -1,10 +1,10 @@
--- The interval (start, end] of a block's keys (document 01, "Pruning"); start is absent for block 0, which lets the empty string in.
+-- The interval of a block's keys (SPECIFICATION 11.4): above its start, if it has one, and not above its end.
 use Prim.Native.Nat.{ℕ}
 use mathlib.Core.List.{List}
 use mathlib.Core.Bool.{Bool, true, false}
 use mathlib.Core.Option.{Option, none, some}
 use Rattle.keys.specs.Order.{_≺_, _≼_}
-use Rattle.automaton.specs.Words.{Word}
+use Rattle.automaton.specs.Words.{Accepts}
 
 -- the start that a flag and a key give: where it is absent, the key is ignored
 abbrev pub startOf : Bool → List ℕ → Option (List ℕ)
@@ -16,14 +16,14 @@ abbrev pub AboveStart : Option (List ℕ) → List ℕ → Type 0
 AboveStart none w = Unit {0}
 AboveStart (some start) w = start ≺ w
 
--- the automaton accepts some byte string above start and not above end
+-- an accepted string lies in the interval
 abbrev pub Marked : List ℕ → Option (List ℕ) → List ℕ → Type 0
-Marked t start end = Word t 0 (λ w. AboveStart start w × (w ≼ end))
+Marked t start end = Accepts t 0 (λ w. AboveStart start w × (w ≼ end))
 
 -- from the state s on it accepts some byte string above the key
 abbrev pub MatchAbove : List ℕ → ℕ → List ℕ → Type 0
-MatchAbove t s key = Word t s (λ w. key ≺ w)
+MatchAbove t s key = Accepts t s (λ w. key ≺ w)
 
 -- from the state s on it accepts some byte string above start and not above end
 abbrev pub MatchBetween : List ℕ → ℕ → List ℕ → List ℕ → Type 0
-MatchBetween t s start end = Word t s (λ w. (start ≺ w) × (w ≼ end))
+MatchBetween t s start end = Accepts t s (λ w. (start ≺ w) × (w ≼ end))

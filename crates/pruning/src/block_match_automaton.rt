@@ -98,7 +98,9 @@ fn match_between(
     end_key: &[u8],
     state: usize,
 ) -> bool
-    requires { ⌜ Prepared (now table) reach (now firsts) (now ends) × (state < states (now table)) × (0 < length (now «start_key»)) × (0 < length (now «end_key»)) × (getD (now «start_key») 0 0 < getD (now «end_key») 0 0) ⌝ }
+    requires { ⌜ Prepared (now table) reach (now firsts) (now ends) × (state < states (now table))
+        × (0 < length (now «start_key»)) × (0 < length (now «end_key»))
+        × (getD (now «start_key») 0 0 < getD (now «end_key») 0 0) ⌝ }
     ensures { λ r. ⌜ Exactly r (MatchBetween (now (table .entry)) state (now («start_key» .entry)) (now («end_key» .entry))) ⌝ }
     ensures { λ _. ⌜ Prepared (now (table .entry)) reach (now (firsts .exit)) (now (ends .exit)) ⌝ }
 {
@@ -141,7 +143,9 @@ pub fn can_block_match_from(
     start_key: &[u8],
     end_key: &[u8],
 ) -> bool
-    requires { ⌜ Prepared (now table) reach (now firsts) (now ends) × (n ≡ commonPrefixLen (now «start_key») (now «end_key»)) × (base ≡ run (now table) 0 (take n (now «start_key»))) × (base < states (now table)) ⌝ }
+    requires { ⌜ Prepared (now table) reach (now firsts) (now ends)
+        × (n ≡ commonPrefixLen (now «start_key») (now «end_key»))
+        × (base ≡ run (now table) 0 (take n (now «start_key»))) × (base < states (now table)) ⌝ }
     ensures { λ r. ⌜ Exactly r (MatchBetween (now (table .entry)) 0 (now («start_key» .entry)) (now («end_key» .entry))) ⌝ }
     ensures { λ _. ⌜ Prepared (now (table .entry)) reach (now (firsts .exit)) (now (ends .exit)) ⌝ }
 {

@@ -2,11 +2,8 @@
 pub mod block_match_automaton;
 
 use automaton::live::UNKNOWN;
-ghost use mathlib.Core.Path.{_≡_};
-ghost use Rattle.automaton.specs.Bits.{Exactly};
-ghost use Rattle.automaton.specs.Table.{tableNo};
-ghost use Rattle.pruning.specs.Interval.{startOf, Marked};
-ghost use Rattle.pruning.specs.Answers.{matchedNo, matches};
+ghost use Rattle.pruning.specs.Interval.{startOf};
+ghost use Rattle.pruning.specs.Answers.{matchedNo, matches, MatchedCased, CanBlockMatch};
 
 // Whether a block can match, or the row that the automaton's table breaks.
 pub enum Matched {
@@ -21,8 +18,9 @@ pub fn can_block_match_automaton(
     end_key: &[u8],
     table: &[u8],
 ) -> Matched
-    ensures { λ r. ⌜ matchedNo r ≡ tableNo (now (table .entry)) ⌝ }
-    ensures { λ r. ⌜ (tableNo (now (table .entry)) ≡ 0 → Exactly (matches r) (Marked (now (table .entry)) (startOf «has_start» (now («start_key» .entry))) (now («end_key» .entry)))) ⌝ }
+    ensures { λ r. ⌜ CanBlockMatch (now (table .entry)) (startOf «has_start» (now («start_key» .entry))) (now («end_key» .entry))
+        (matchedNo r) (matches r) ⌝ }
+    ensures { λ r. ⌜ MatchedCased r ⌝ }
 {
     let no = automaton::table::check(table);
     if no != 0 {

@@ -4,22 +4,23 @@ use mathlib.Core.Path.{_≡_, refl, sym, ap, ap₂, _∙_}
 use mathlib.Core.List.{List, [], _++_}
 use native.Mathlib.Nat.{zero-add, le-refl}
 use native.Mathlib.Omega.{arith}
-use lib.Dec.{eqb, ltb}
+use lib.Dec.{ltb}
 use lib.ListN.{length, getD, drop, replicate, length-replicate, List·getD-append, List·getD-eq-default}
 use lib.Seq.{sets, sets-eq, getD-append-add, getD-drop}
-use borrow.Author.Tests.{eqb-true, eqb-false, ltb-true, ltb-false}
+use borrow.Author.Tests.{ltb-true, ltb-false, le-ltb}
 use Rattle.keys.proofs.Order.{by-test}
 use Rattle.group.specs.declared.BlockAddr.{BlockAddr}
-use Rattle.builder.specs.Plain.{Entry}
+use Rattle.group.specs.Rows.{orRow}
+use Rattle.builder.specs.Index.{Settings}
+use Rattle.machine.specs.Plain.{Entry, plainIndex}
 use Rattle.automaton.specs.Table.{tableNo}
 use Rattle.index.specs.declared.SSTableIndexV3.{SSTableIndexV3}
-use Rattle.index.specs.declared.Place.the-variants.{Part, Missing}
-use Rattle.index.specs.Answers.{partAt}
-use Rattle.index.specs.Lookups.{placeDef}
-use Rattle.listing.specs.Listing.{Listing}
-use Rattle.demands.specs.Demand3.{GetBlock, LocateWithOrd, LocateWithKey, GetBlockWithKey, GetBlockForAutomaton}
+use Rattle.index.specs.declared.Place.{Place}
+use Rattle.index.specs.Lookups.{GetBlock, LocateWithOrd, LocateWithKey, GetBlockWithKey, placeDef}
+use Rattle.listing.specs.Listing.{Listing, GetBlockForAutomaton}
+use Rattle.demands.specs.Demand3.{entrySeparator, entryPlace}
 use Rattle.replay.specs.Made.{cells}
-use Rattle.replay.specs.Replay.{IdAnswer, OrdAnswer, KeyAnswer, AddrAnswer, SeparatorAnswer, MarkAnswer}
+use Rattle.replay.specs.Replay.{IdAnswer, OrdAnswer, KeyAnswer, AddrAnswer, placeCells, SeparatorAnswer, MarkAnswer}
 use Rattle.replay.specs.Asked.{Indexed}
 
 abbrev zeros : ℕ → List ℕ
@@ -46,7 +47,11 @@ over-zeros l w h zeros i =
     ∙ getD-append-add w (drop (length w) l) (i - length w) 0 ∙ getD-drop (length w) l (i - length w) 0 ∙ zeros (length w + (i - length w))
     ∙ sym (List·getD-eq-default w 0 behind)))
 
-module _ (es : List Entry) (f : List ℕ) (opened : SSTableIndexV3) (x : Indexed es f opened) where
+or-none : (k : ℕ) → orRow k 0 ≡ k
+or-none zero = refl
+or-none (suc k) = refl
+
+module _ (S : Settings) (es : List Entry) (f : List ℕ) (opened : SSTableIndexV3) (x : Indexed S es f opened) where
   pub id-answer : (id k : ℕ) (addr : BlockAddr) (cs : List ℕ) → GetBlock f opened id k addr → cs ≡ cells k 0 (addr .start) (addr .end) (addr .«first_ordinal»)
       → IdAnswer es id cs
   id-answer id k addr cs g w = record { no = k; addr = addr; written = w; right = x .finds .by-id id k addr g }
@@ -63,20 +68,10 @@ module _ (es : List Entry) (f : List ℕ) (opened : SSTableIndexV3) (x : Indexed
   addr-answer key k id addr cs g w = record { no = k; id = id; addr = addr; written = w; right = x .finds .address-by-key key k id addr g }
 
   -- a separator's place
-  pub part-answer : (id offset len : ℕ) → Part offset len ≡ placeDef 128 opened f id → SeparatorAnswer es id (cells 0 offset len 1 0)
-  part-answer id offset len e = record {
-    offset = offset;
-    len = len;
-    found = λ h. (refl, rw (sym (x .bytes)) (ap (partAt f) e ∙ x .finds .separators id h));
-    missing = λ h. absurd (let z : _≡_ {A = ℕ} 0 1 = cc (x .finds .no-separator id h) in omega arith);
-  }
-
-  pub missing-answer : (id : ℕ) → Missing ≡ placeDef 128 opened f id → SeparatorAnswer es id (cells 0 0 0 0 0)
-  missing-answer id e = record {
-    offset = 0;
-    len = 0;
-    found = λ h. absurd (x .known id h (sym e));
-    missing = λ h. refl;
+  pub place-answer : (id : ℕ) (place : Place) → place ≡ placeDef opened f id → SeparatorAnswer S es id (placeCells place)
+  place-answer id place e = record {
+    place = ap placeCells (e ∙ x .finds .separator-place id);
+    bytes = λ h. rw (sym (x .bytes), sym (x .finds .separator-place id)) (x .finds .separator id h);
   }
 
   -- a listing
@@ -84,24 +79,22 @@ module _ (es : List Entry) (f : List ℕ) (opened : SSTableIndexV3) (x : Indexed
     fits : length es ≤ length marks
     fits = omega (arith, x .few)
 
+    -- refused for the table alone: there is room for all marks
+    number : k ≡ tableNo t
+    number = x .finds .listing t marks written k count g .0 ∙ rw (le-ltb (length marks) (length es) fits) (or-none (tableNo t))
+
     pub unlisted-answer : (k ≡ 0 → ⊥) → MarkAnswer es i t (cells k 0 0 0 0)
     unlisted-answer f = record {
-      refused = λ h. ap (λ (j : ℕ). cells j 0 0 0 0) (g .0 ∙ x .unlisted t (length marks) (λ z. omega arith));
+      refused = λ h. ap (λ (j : ℕ). cells j 0 0 0 0) number;
       marks = [];
-      listed = λ z. absurd (f (x .finds .listing t marks written k count z fits g .0));
+      listed = λ z. absurd (f (number ∙ z));
     }
-
-    table-good : k ≡ 0 → tableNo t ≡ 0
-    table-good z =
-        by-test (eqb (tableNo t) 0)
-        (λ y. eqb-true (tableNo t) 0 y)
-        (λ n. sym (x .unlisted t (length marks) (eqb-false (tableNo t) 0 n)) ∙ sym (g .0) ∙ z)
 
     pub listed-answer : k ≡ 0 → ((j : ℕ) → getD marks j 0 ≡ 0) → MarkAnswer es i t (cells 0 count (getD written i 0) 0 0)
     listed-answer z zeros =
-        let l : Listing t _ (length es) marks written count = x .finds .listing t marks written k count (table-good z) fits g .1 in
+        let l : Listing t (entrySeparator es) (length es) marks written count = x .finds .listing t marks written k count g .1 .taken z in
         record {
-          refused = λ h. absurd (let y : ⊥ = omega (arith, table-good z) in y);
+          refused = λ h. absurd (let y : ⊥ = omega (arith, number) in y);
           marks = l .list;
           listed = λ e. (l .right, ap₂ (λ (a b : ℕ). cells 0 a b 0 0) (l .counted) (ap (λ (w : List ℕ). getD w i 0) (l .bytes) ∙ over-zeros marks (l .list) (omega (arith, l .right .long, fits)) zeros i));
         }

@@ -9,7 +9,7 @@ use lib.ListN.{length}
 use borrow.Author.Tests.{lt-ltb, le-ltb, le-leb, lt-leb, eq-eqb, ne-eqb, eqb-true, eqb-false, ltb-false, leb-true, leb-false, not-false}
 use Rattle.serialize.proofs.Tests.{neither}
 use Rattle.keys.proofs.Order.{by-test}
-use Rattle.replay.specs.Format.{tagAt, stringLen, within, callLen, questionLen, behind, callCount, questionCount, questionsFrom, listBad}
+use Rattle.replay.specs.Format.{tagAt, stringLen, within, callLen, questionLen, behind, settingsLen, callsFrom, callCount, questionCount, questionsFrom, headBad, listBad}
 
 module _ (s : List ℕ) (at : ℕ) where
   -- a question has one number, or one key, and nothing else
@@ -191,34 +191,64 @@ module _ (len : ℕ → ℕ) (at : ℕ) where
 -- ---- the list
 
 module _ (s : List ℕ) where
-  pub too-short : length s < 8 → listBad s ≡ true
-  unfolding listBad
-  too-short h = rw (lt-ltb (length s) 8 h)
+  -- a head that is one, in numbers
+  pub record HeadOk : Type 0 where
+    pub four : 4 ≤ length s
+    pub none : settingsLen s ≡ 0
+    pub counts : callsFrom s ≤ length s
 
-  module _ (h : 8 ≤ length s) (m from : ℕ) (c : m ≡ callCount s) (e : from ≡ behind (callLen s) 8 m) where
+  pub head-ok : headBad s ≡ false → HeadOk
+  unfolding headBad
+  head-ok e =
+      let short = neither (ltb (length s) 4) _ e in
+      let both = neither (not (eqb (settingsLen s) 0)) _ (short .1) in
+      record {
+        four = ltb-false (length s) 4 (short .0);
+        none = eqb-true (settingsLen s) 0 (not-false _ (both .0));
+        counts = ltb-false (length s) (callsFrom s) (both .1);
+      }
+
+  -- a head by the code's tests
+  pub no-settings-len : length s < 4 → headBad s ≡ true
+  unfolding headBad
+  no-settings-len h = rw (lt-ltb (length s) 4 h)
+
+  pub unknown-settings : 4 ≤ length s → (settingsLen s ≡ 0 → ⊥) → headBad s ≡ true
+  unfolding headBad
+  unknown-settings h f = rw (le-ltb (length s) 4 h, ne-eqb (settingsLen s) 0 f)
+
+  pub head-by-counts : 4 ≤ length s → settingsLen s ≡ 0 → headBad s ≡ ltb (length s) (callsFrom s)
+  unfolding headBad
+  head-by-counts h e = rw (le-ltb (length s) 4 h, eq-eqb (settingsLen s) 0 e)
+
+  pub bad-head : headBad s ≡ true → listBad s ≡ true
+  unfolding listBad
+  bad-head e = rw e
+
+  module _ (h : headBad s ≡ false) (m from : ℕ) (c : m ≡ callCount s) (e : from ≡ behind (callLen s) (callsFrom s) m) where
     pub from-is : from ≡ questionsFrom s
     from-is = rw c at e
 
     pub call-missing : from ≡ 0 → listBad s ≡ true
     unfolding listBad
-    call-missing z = rw (le-ltb (length s) 8 h, ← from-is, z)
+    call-missing z = rw (h, ← from-is, z)
 
     pub list-end : (n end : ℕ) → (from ≡ 0 → ⊥) → n ≡ questionCount s → end ≡ behind (questionLen s) from n → listBad s ≡ not (eqb end (length s))
     unfolding listBad
-    list-end n end f q z = rw (le-ltb (length s) 8 h, ← from-is, ne-eqb from 0 f, z, q)
+    list-end n end f q z = rw (h, ← from-is, ne-eqb from 0 f, z, q)
 
   pub record ListOk : Type 0 where
-    pub counts : 8 ≤ length s
+    pub head : headBad s ≡ false
     pub calls-there : questionsFrom s ≡ 0 → ⊥
     pub ends : behind (questionLen s) (questionsFrom s) (questionCount s) ≡ length s
 
   pub list-ok : listBad s ≡ false → ListOk
   unfolding listBad
   list-ok e =
-      let short = neither (ltb (length s) 8) _ e in
+      let short = neither (headBad s) _ e in
       let both = neither (eqb (questionsFrom s) 0) _ (short .1) in
       record {
-        counts = ltb-false (length s) 8 (short .0);
+        head = short .0;
         calls-there = eqb-false (questionsFrom s) 0 (both .0);
         ends = eqb-true (behind (questionLen s) (questionsFrom s) (questionCount s)) (length s) (not-false _ (both .1));
       }

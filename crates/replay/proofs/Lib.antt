@@ -6,3 +6,4 @@ pub mod Tags
 pub mod Asking
 pub mod Opening
 pub mod Whole
+pub mod Equal

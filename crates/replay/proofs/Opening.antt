@@ -1,81 +1,111 @@
--- What a list's finish gives is opened as the entries' index, or refused with 10.
+-- The first total bytes of a list's finish open as the entries' index, or are none and get 10.
 use Prim.Native.Nat.{ℕ, _≤_, _<_}
-use mathlib.Core.Path.{_≡_, refl, sym}
+use mathlib.Core.Path.{_≡_, refl, sym, ap, subst, _∙_}
 use mathlib.Core.List.{List, []}
-use mathlib.Core.Logic.{inl, inr}
+use mathlib.Core.Logic.{⊎-elim}
 use native.Mathlib.Omega.{arith}
-use lib.Dec.{ltb}
-use lib.ListN.{length}
-use borrow.Author.Tests.{ltb-true, ltb-false, le-ltb}
+use lib.Dec.{eqb, ltb}
+use lib.ListN.{length, take}
+use borrow.Author.Tests.{eqb-true, eqb-false, ltb-true, ltb-false}
 use Rattle.keys.proofs.Order.{by-test}
-use Rattle.group.specs.declared.BlockAddr.{BlockAddr}
-use Rattle.group.specs.Blocks.{noBlock}
-use Rattle.builder.specs.Plain.{Entry}
-use Rattle.builder.specs.Finish.{indexOf}
-use Rattle.builder.proofs.Rules.{EntriesOk, run-rules}
-use Rattle.index.specs.declared.SSTableIndexV3.{SSTableIndexV3}
-use Rattle.index.specs.Opening.{footerNo, openNo, openDef, openedOf}
-use Rattle.index.specs.Lookups.{ByIdExact}
-use Rattle.index.proofs.OpenFacts.{OpenFacts}
-use Rattle.index.proofs.LookupLaws.{place-known}
-use Rattle.listing.proofs.Rows.{table-refused}
-use Rattle.listing.proofs.ListedOpened.{opened-passes, opened-inside, list-facts}
-use Rattle.demands.specs.Demand3.{Finds, entryBlock}
-use Rattle.demands.proofs.Found.{entries-open, found}
+use Rattle.serialize.proofs.Stores.{sets-part}
+use Rattle.builder.specs.Index.{Settings}
+use Rattle.builder.specs.Finish.{Finish}
+use Rattle.machine.specs.Plain.{Entry, plainIndex}
+use Rattle.machine.specs.Finished.{plainFinish}
+use Rattle.machine.proofs.PlainFinish.{plain-none, plain-refused, plain-taken, plain-number}
+use Rattle.index.specs.declared.Loaded.{Loaded}
+use Rattle.index.specs.Opening.{footerNo, openNo, openDef, loadDef, openedOf}
+use Rattle.demands.specs.Demand3.{Finishes, indexOfCalls}
 use Rattle.replay.specs.Format.{calls}
-use Rattle.replay.specs.Made.{freshOf, entriesOf, isShort, openNumber}
-use Rattle.replay.specs.Asked.{Indexed, Given}
-use Rattle.replay.proofs.Entries.{given, some-index, none-index}
+use Rattle.replay.specs.Made.{listSettings, freshOf, entriesOf, finishOfList, openNumber}
+use Rattle.replay.specs.Asked.{OpenedAs}
+use Rattle.replay.proofs.Entries.{list-demand, list-finish}
 
--- an id that is found is one of the entries', and theirs are found
-missing-id : (block : ℕ → BlockAddr) (n id : ℕ) → ByIdExact block n id 17 noBlock → n ≤ id
-missing-id block n id (inl p) = absurd (let z : ⊥ = omega (arith, p .0) in z)
-missing-id block n id (inr p) = p .1
+-- ---- a finish of entries
 
-module _ (es : List Entry) (ok : EntriesOk es) (few : length es ≤ 65536) (two : 2 ≤ length es) where
-  abbrev opened : SSTableIndexV3
-  opened = openedOf (indexOf es)
+-- its first total bytes are the index, or none
+pub record FinishParts (S : Settings) (es : List Entry) (out : List ℕ) (f : Finish) : Type 0 where
+  pub fits : f .total ≤ length out
+  pub none : f .total ≡ 0 → take (f .total) (f .out) ≡ []
+  pub some : (f .total ≡ 0 → ⊥) → take (f .total) (f .out) ≡ plainIndex S es
+  pub two : (f .total ≡ 0 → ⊥) → 2 ≤ length es
+  pub taken : (f .total ≡ 0 → ⊥) → f .no ≡ 0
 
-  facts : OpenFacts 128 (indexOf es) opened
-  facts = list-facts (indexOf es) opened (entries-open es ok few two)
+module _ (S : Settings) (es : List Entry) (out : List ℕ) where
+  take-none : (n : ℕ) (l : List ℕ) → n ≡ 0 → take n l ≡ []
+  take-none n l e = rw e
 
-  found-in : Finds es (indexOf es) opened
-  found-in = found es ok few two
+  has-two : (length (plainIndex S es) ≡ 0 → ⊥) → 2 ≤ length es
+  has-two f =
+      by-test (ltb (length es) 2)
+      (λ u. absurd (f (ap length (plain-none es S (ltb-true (length es) 2 u)))))
+      (λ u. ltb-false (length es) 2 u)
 
-  all-known : (id : ℕ) → opened .n ≤ id → length es ≤ id
-  all-known id h = missing-id (entryBlock es) (length es) id (found-in .by-id id 17 noBlock (inr (inl refl, refl), λ o. inr (refl, h, refl)))
+  pub finish-parts : FinishParts S es out (plainFinish S es out)
+  finish-parts =
+      ⊎-elim
+      (λ p. subst (FinishParts S es out) (sym (plain-refused S es out (p .0))) (record {
+        fits = omega arith;
+        none = λ e. refl;
+        some = λ f. absurd (f refl);
+        two = λ f. absurd (f refl);
+        taken = λ f. absurd (f refl);
+      }))
+      (λ p. subst (FinishParts S es out) (sym (plain-taken S es out (p .0))) (record {
+        fits = p .0;
+        none = λ e. take-none _ _ e;
+        some = λ f. sets-part out (plainIndex S es) 0 (omega (arith, p .0));
+        two = has-two;
+        taken = λ f. refl;
+      }))
+      (plain-number S es out)
 
-  pub entries-indexed : Indexed es (indexOf es) opened
-  entries-indexed = record {
-    bytes = sym (some-index es two);
-    few = few;
-    finds = found-in;
-    known = λ id h e.
-        let inside : id < opened .n = by-test (ltb id (opened .n)) (λ t. ltb-true id (opened .n) t) (λ t. absurd (let z : ⊥ = omega (arith, all-known id (ltb-false id (opened .n) t)) in z)) in
-        let z : _≡_ {A = ℕ} 0 1 = cc (place-known 128 (indexOf es) opened facts id inside) in omega arith;
-    unlisted = λ t room. table-refused 128 opened (indexOf es) t room (opened-passes facts) (opened-inside facts);
+-- no bytes get 10
+opens-none : (S : Settings) (es : List Entry) → OpenedAs 10 S es [] (loadDef [])
+unfolding openDef openNo footerNo
+opens-none S es = (refl, omega arith)
+
+-- ---- the bytes after a list's calls and finish
+
+module _ (s B K out : List ℕ) where
+  abbrev f : Finish
+  f = finishOfList s B K out
+
+  parts : FinishParts (listSettings s) (entriesOf s B K) out f
+  parts = finish-parts (listSettings s) (entriesOf s B K) out
+
+  -- as demand 3 has them
+  pub list-after : indexOfCalls (listSettings s) (calls s) (freshOf B K) out ≡ take (f .total) (f .out)
+  list-after = ap (λ (x : Finish). take (x .total) (x .out)) (list-finish s B K out)
+
+  -- an index is there, and the finish isn't refused
+  pub list-finishes : (f .total ≡ 0 → ⊥) → Finishes (listSettings s) (calls s) (freshOf B K) out
+  list-finishes some = record {
+    two = parts .two some;
+    accepted = ap (λ (x : Finish). x .no) (list-finish s B K out) ∙ parts .taken some;
   }
 
--- no bytes
-opens-none : (es : List Entry) → Given 10 es [] (openDef 128 [])
-unfolding openDef openNo footerNo
-opens-none es = (refl, omega arith)
+  opened-some : (f .total ≡ 0 → ⊥) → OpenedAs 0 (listSettings s) (entriesOf s B K) (take (f .total) (f .out)) (loadDef (take (f .total) (f .out)))
+  opened-some some =
+      let d = list-demand s B K out in
+      let finishes = list-finishes some in
+      let opens : loadDef (take (f .total) (f .out)) ≡ Loaded.Opened (openedOf (take (f .total) (f .out))) = rw list-after at (d .opens finishes) in
+      rw opens (
+        refl,
+        record {
+          bytes = parts .some some;
+          few = d .few;
+          finds = rw list-after at (d .finds finishes);
+        },
+      )
 
-module _ (es : List Entry) (ok : EntriesOk es) (few : length es ≤ 65536) (out : List ℕ) where
-  pub entries-given : Given (openNumber es out) es (given es out) (openDef 128 (given es out))
+  pub list-opened : OpenedAs (openNumber f) (listSettings s) (entriesOf s B K) (take (f .total) (f .out)) (loadDef (take (f .total) (f .out)))
   unfolding openNumber
-  entries-given =
-      by-test (ltb (length es) 2)
-      (λ t. rw (t, none-index es (ltb-true (length es) 2 t), le-ltb (length out) 0 (omega arith)) (opens-none es))
-      (λ t.
-      let two : 2 ≤ length es = ltb-false (length es) 2 t in
-      by-test (isShort es out)
-      (λ u. rw (t, u) (opens-none es))
-      (λ u. rw (t, u, some-index es two, entries-open es ok few two) (refl, entries-indexed es ok few two)))
+  list-opened =
+      by-test (eqb (f .total) 0)
+      (λ t. rw (t, parts .none (eqb-true (f .total) 0 t)) (opens-none (listSettings s) (entriesOf s B K)))
+      (λ t. rw t (opened-some (eqb-false (f .total) 0 t)))
 
--- the bytes behind a list's calls and finish
-pub list-given : (s B K out : List ℕ)
-    → Given (openNumber (entriesOf s B K) out) (entriesOf s B K) (given (entriesOf s B K) out) (openDef 128 (given (entriesOf s B K) out))
-list-given s B K out =
-    let both = run-rules (calls s) (freshOf B K) refl in
-    entries-given (entriesOf s B K) (both .1) (both .0 .rep .few) out
+  pub list-fits : f .total ≤ length out
+  list-fits = parts .fits

@@ -10,30 +10,31 @@ use lib.Seq.{sets}
 use borrow.Author.Tests.{lt-ltb, le-ltb, ltb-true, ltb-false}
 use Rattle.keys.proofs.Order.{by-test}
 use Rattle.serialize.proofs.Stores.{sets-append}
-use Rattle.builder.specs.Calls.{After}
-use Rattle.builder.specs.Plain.{Entry, Call, runNumbers, runEnd}
-use Rattle.builder.proofs.Finishing.{finished}
-use Rattle.index.specs.Opening.{openDef}
-use Rattle.replay.specs.Format.{callLen, callAt, questionLen, questionAt, behind, items, calls, questions, callCount, questionCount, questionsFrom, listBad}
-use Rattle.replay.specs.Made.{cells, callCells, freshOf, entriesOf, isShort, finishCells, openNumber}
-use Rattle.replay.specs.Steps.{leaves, finishedCells}
+use Rattle.builder.specs.Calls.{State}
+use Rattle.builder.specs.Finish.{Finish, finishDef}
+use Rattle.machine.specs.Plain.{Call}
+use Rattle.machine.specs.Runs.{runNumbers, runEnd}
+use Rattle.index.specs.Opening.{loadDef}
+use Rattle.replay.specs.Format.{callLen, callAt, questionLen, questionAt, behind, items, calls, questions, callCount, questionCount, callsFrom, questionsFrom, listBad}
+use Rattle.replay.specs.Made.{cells, callCells, finishCells, listSettings, freshOf, entriesOf, finishOfList, openNumber}
+use Rattle.replay.specs.Steps.{stateOf}
 use Rattle.replay.specs.Replay.{replayNo, Replayed}
-use Rattle.replay.specs.Asked.{Given, OpeningAsks}
+use Rattle.replay.specs.Asked.{OpenedAs, OpeningAnswered}
 use Rattle.replay.specs.declared.calls.Called.{Called}
-use Rattle.replay.proofs.Items.{ListOk}
+use Rattle.replay.proofs.Items.{head-ok, ListOk}
 use Rattle.replay.proofs.Turns.{cells-turn}
-use Rattle.replay.proofs.Entries.{numbers-plain, given, FinishOf, list-finish}
-use Rattle.replay.proofs.Opening.{list-given}
+use Rattle.replay.proofs.Entries.{numbers-plain, list-finish}
+use Rattle.replay.proofs.Opening.{list-opened, list-fits}
 
 -- ---- the number
 
 module _ (s : List ℕ) (room : ℕ) where
-  pub no-list : listBad s ≡ true → replayNo s room ≡ 26
+  pub no-list : listBad s ≡ true → replayNo s room ≡ 101
   unfolding replayNo
   no-list e = rw e
 
   module _ (e : listBad s ≡ false) (m n : ℕ) (c : m ≡ callCount s) (q : n ≡ questionCount s) where
-    pub no-room : room < 5 * (m + 2 + n) → replayNo s room ≡ 27
+    pub no-room : room < 5 * (m + 2 + n) → replayNo s room ≡ 102
     unfolding replayNo
     no-room h = rw (e, ← c, ← q, lt-ltb room (5 * (m + 2 + n)) h)
 
@@ -48,11 +49,11 @@ module _ (s : List ℕ) (room : ℕ) where
   pub replay-ok : replayNo s room ≡ 0 → ReplayOk
   replay-ok e =
       by-test (listBad s)
-      (λ t. absurd (let z : _≡_ {A = ℕ} 26 0 = sym (no-list t) ∙ e in let y : ⊥ = omega arith in y))
+      (λ t. absurd (let z : _≡_ {A = ℕ} 101 0 = sym (no-list t) ∙ e in let y : ⊥ = omega arith in y))
       (λ t. record {
         list = t;
         fits = by-test (ltb room (5 * (callCount s + 2 + questionCount s)))
-            (λ u. absurd (let z : _≡_ {A = ℕ} 27 0 = sym (no-room t _ _ refl refl (ltb-true room (5 * (callCount s + 2 + questionCount s)) u)) ∙ e in let y : ⊥ = omega arith in y))
+            (λ u. absurd (let z : _≡_ {A = ℕ} 102 0 = sym (no-room t _ _ refl refl (ltb-true room (5 * (callCount s + 2 + questionCount s)) u)) ∙ e in let y : ⊥ = omega arith in y))
             (λ u. ltb-false room (5 * (callCount s + 2 + questionCount s)) u);
       })
 
@@ -63,7 +64,7 @@ unfolding callCells
 length-callCells [] = refl
 length-callCells (k ∷ ks) = omega (arith, length-callCells ks)
 
-length-run : (cs : List Call) (a : After) → length (runNumbers cs a) ≡ length cs
+length-run : (cs : List Call) (a : State) → length (runNumbers cs a) ≡ length cs
 unfolding runNumbers
 length-run [] a = refl
 length-run (c ∷ cs) a = ap suc (length-run cs _)
@@ -73,14 +74,10 @@ unfolding items
 length-items len item at zero = refl
 length-items len item at (suc k) = ap suc (length-items len item (at + len at) k)
 
-call-answers : (s : List ℕ) (a : After) → length (callCells (runNumbers (calls s) a)) ≡ 5 * callCount s
+call-answers : (s : List ℕ) (a : State) → length (callCells (runNumbers (calls s) a)) ≡ 5 * callCount s
 unfolding calls
 call-answers s a =
-    omega (arith, length-callCells (runNumbers (calls s) a), length-run (calls s) a, length-items (callLen s) (callAt s) 8 (callCount s))
-
-length-finishCells : (es : List Entry) (out : List ℕ) → length (finishCells es out) ≡ 5
-unfolding finishCells
-length-finishCells es out = by-test (isShort es out) (λ t. rw t) (λ t. rw t)
+    omega (arith, length-callCells (runNumbers (calls s) a), length-run (calls s) a, length-items (callLen s) (callAt s) (callsFrom s) (callCount s))
 
 list-questions : (s : List ℕ) (from : ℕ) → from ≡ questionsFrom s → items (questionLen s) (questionAt s) from (questionCount s) ≡ questions s
 unfolding questions
@@ -88,47 +85,46 @@ list-questions s from e = rw e
 
 -- the questions are there
 pub questions-there : (s : List ℕ) (from : ℕ) → from ≡ questionsFrom s → ListOk s → behind (questionLen s) from (questionCount s) ≡ 0 → ⊥
-questions-there s from e ok z = let none : length s ≡ 0 = sym (ok .ends) ∙ rw e at z in omega (arith, ok .counts)
+questions-there s from e ok z = let none : length s ≡ 0 = sym (ok .ends) ∙ rw e at z in omega (arith, head-ok s (ok .head) .four)
 
-module _ (s B K out B′ K′ : List ℕ) (made : Called) (m : leaves made B′ K′ ≡ runEnd (calls s) (freshOf B K)) where
+module _ (s B K out B′ K′ : List ℕ) (made : Called) (m : stateOf made B′ K′ ≡ runEnd (calls s) (freshOf B K)) where
   -- the finish on what the calls left
-  pub made-finish : FinishOf (entriesOf s B K) out (finished (leaves made B′ K′) out)
-  made-finish = subst (λ (a : After). FinishOf (entriesOf s B K) out (finished a out)) (sym m) (list-finish s B K out)
+  abbrev left : Finish
+  left = finishDef (listSettings s) (made .builder) B′ K′ out
 
-  module _ (total : ℕ) (out′ : List ℕ) (t : total ≡ finished (leaves made B′ K′) out .total) (o : out′ ≡ finished (leaves made B′ K′) out .out) where
+  made-finish : left ≡ finishOfList s B K out
+  made-finish = ap (λ (a : State). finishDef (listSettings s) (a .builder) (a .blocks) (a .keys) out) m ∙ list-finish s B K out
+
+  module _ (total : ℕ) (out′ : List ℕ) (t : total ≡ left .total) (o : out′ ≡ left .out) where
     pub total-fits : length out′ ≡ length out → total ≤ length out′
-    total-fits e = rw (e, t) (made-finish .fits)
+    total-fits e = rw (e, t, made-finish) (list-fits s B K out)
 
-    bytes-given : take total out′ ≡ given (entriesOf s B K) out
-    bytes-given = rw (t, o) (made-finish .bytes)
-
-    pub opened-given : Given (openNumber (entriesOf s B K) out) (entriesOf s B K) (take total out′) (openDef 128 (take total out′))
-    opened-given =
-        subst (λ (f : List ℕ). Given (openNumber (entriesOf s B K) out) (entriesOf s B K) f (openDef 128 f)) (sym bytes-given) (list-given s B K out)
+    pub opened-list : OpenedAs (openNumber (finishOfList s B K out)) (listSettings s) (entriesOf s B K) (take total out′) (loadDef (take total out′))
+    opened-list = rw (t, o, made-finish) (list-opened s B K out)
 
   pub replayed : (answers : List ℕ) (count : ℕ) → count ≡ callCount s → (answers₁ answers₂ answers₃ out′ : List ℕ)
       → answers₁ ≡ sets answers 0 (callCells (runNumbers (calls s) (freshOf B K)))
-      → out′ ≡ finished (leaves made B′ K′) out .out
-      → answers₂ ≡ sets answers₁ (5 * count) (finishedCells (finished (leaves made B′ K′) out))
+      → out′ ≡ left .out
+      → answers₂ ≡ sets answers₁ (5 * count) (finishCells left)
       → made .next ≡ questionsFrom s
-      → OpeningAsks (openNumber (entriesOf s B K) out) (entriesOf s B K) (items (questionLen s) (questionAt s) (made .next) (questionCount s)) (count + 1) answers₂ answers₃
+      → OpeningAnswered (openNumber (finishOfList s B K out)) (listSettings s) (entriesOf s B K) (items (questionLen s) (questionAt s) (made .next) (questionCount s)) (count + 1) answers₂ answers₃
       → Replayed s B K out answers B′ K′ out′ answers₃
-  replayed answers count c answers₁ answers₂ answers₃ out′ called left finished next opened =
-      let es = entriesOf s B K in
-      let rest : List ℕ = cells (openNumber es out) 0 0 0 0 ++ opened .asked in
-      let behind : List ℕ = finishCells es out ++ rest in
+  replayed answers count c answers₁ answers₂ answers₃ out′ called written finished next opened =
+      let f = finishOfList s B K out in
+      let rest : List ℕ = cells (openNumber f) 0 0 0 0 ++ opened .asked in
+      let after : List ℕ = finishCells f ++ rest in
       let all : List ℕ = callCells (runNumbers (calls s) (freshOf B K)) in
       let place : 5 * count ≡ 0 + length all = omega (arith, call-answers s (freshOf B K)) in
       record {
-        blocks = ap (λ (a : After). a .blocks) m;
-        keys = ap (λ (a : After). a .keys) m;
-        output = left ∙ made-finish .output;
+        blocks = ap (λ (a : State). a .blocks) m;
+        keys = ap (λ (a : State). a .keys) m;
+        output = written ∙ ap (λ (x : Finish). x .out) made-finish;
         asked = opened .asked;
         answered = rw (list-questions s (made .next) next) at (opened .answered);
         written = opened .written
-            ∙ sym (cells-turn answers₁ answers₂ (finishCells es out) rest count (length-finishCells es out) (finished ∙ ap (sets answers₁ (5 * count)) (made-finish .answer)))
-            ∙ ap (λ (o : List ℕ). sets o (5 * count) behind) called
-            ∙ ap (λ (j : ℕ). sets (sets answers 0 all) j behind) place
-            ∙ sets-append answers all behind 0
-            ∙ ap (λ (ks : List ℕ). sets answers 0 (callCells ks ++ behind)) (numbers-plain s B K);
+            ∙ sym (cells-turn answers₁ answers₂ (finishCells f) rest count refl (finished ∙ ap (λ (x : Finish). sets answers₁ (5 * count) (finishCells x)) made-finish))
+            ∙ ap (λ (o : List ℕ). sets o (5 * count) after) called
+            ∙ ap (λ (j : ℕ). sets (sets answers 0 all) j after) place
+            ∙ sets-append answers all after 0
+            ∙ ap (λ (ks : List ℕ). sets answers 0 (callCells ks ++ after)) (numbers-plain s B K out);
       }

@@ -1,4 +1,5 @@
--- A list of calls and questions in bytes: how many calls and how many questions (4 and 4), the calls, the questions.
+-- A list of calls and questions in bytes: the settings' length (4) and the settings, of which there are none yet; how many calls and
+-- how many questions (4 and 4), the calls, the questions.
 -- Each begins with its tag. Numbers are little-endian; a byte string is its length (4) and its bytes.
 --     0 add        start 8, end 8, first ordinal 8, key
 --     1 shorten    next key
@@ -11,7 +12,7 @@ use lib.Dec.{eqb, ltb, leb}
 use lib.ListN.{length, getD, take, drop}
 use Rattle.serialize.specs.Digits.{numberAt}
 use Rattle.group.specs.declared.BlockAddr.{BlockAddr}
-use Rattle.builder.specs.Plain.{Call, add, shortenLast}
+use Rattle.machine.specs.Plain.{Call, add, shortenLast}
 
 -- what is asked of the finished index
 pub data Question : Type 0 where
@@ -79,24 +80,38 @@ unfoldable pub items : {X : Type 0} → (ℕ → ℕ) → (ℕ → X) → ℕ �
 items len item at zero = []
 items len item at (suc k) = item at ∷ items len item (at + len at) k
 
--- how many calls and questions, where the questions begin and where they end
+-- how many bytes of settings, and where the counts stand after them
+abbrev pub settingsLen : List ℕ → ℕ
+settingsLen s = numberAt s 0 4
+
+abbrev pub countsAt : List ℕ → ℕ
+countsAt s = 4 + settingsLen s
+
+-- how many calls and questions, and where each begin
 abbrev pub callCount : List ℕ → ℕ
-callCount s = numberAt s 0 4
+callCount s = numberAt s (countsAt s) 4
 
 abbrev pub questionCount : List ℕ → ℕ
-questionCount s = numberAt s 4 4
+questionCount s = numberAt s (countsAt s + 4) 4
+
+abbrev pub callsFrom : List ℕ → ℕ
+callsFrom s = countsAt s + 8
 
 abbrev pub questionsFrom : List ℕ → ℕ
-questionsFrom s = behind (callLen s) 8 (callCount s)
+questionsFrom s = behind (callLen s) (callsFrom s) (callCount s)
 
 unfoldable pub calls : List ℕ → List Call
-calls s = items (callLen s) (callAt s) 8 (callCount s)
+calls s = items (callLen s) (callAt s) (callsFrom s) (callCount s)
 
 unfoldable pub questions : List ℕ → List Question
 questions s = items (questionLen s) (questionAt s) (questionsFrom s) (questionCount s)
 
--- the bytes aren't such a list: too short, an item that isn't there, or bytes behind the last
+-- the head isn't one: no length of settings, settings that nobody knows, or no counts
+unfoldable pub headBad : List ℕ → Bool
+headBad s = ltb (length s) 4 || (not (eqb (settingsLen s) 0) || ltb (length s) (callsFrom s))
+
+-- the bytes aren't such a list: a bad head, an item that isn't there, or bytes after the last
 unfoldable pub listBad : List ℕ → Bool
 listBad s =
-    ltb (length s) 8
+    headBad s
     || (eqb (questionsFrom s) 0 || not (eqb (behind (questionLen s) (questionsFrom s) (questionCount s)) (length s)))

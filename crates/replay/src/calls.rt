@@ -5,11 +5,11 @@ ghost use mathlib.Core.List.{List};
 ghost use Prim.Native.Nat.{ℕ, _+_, _*_, _≤_, _<_};
 ghost use lib.ListN.{length};
 ghost use lib.Seq.{sets};
-ghost use Rattle.builder.specs.Calls.{after};
-ghost use Rattle.builder.specs.Plain.{callDef, runNumbers, runEnd};
+ghost use Rattle.builder.specs.Calls.{called};
+ghost use Rattle.machine.specs.Runs.{callDef, runNumbers, runEnd};
 ghost use Rattle.replay.specs.Format.{callLen, callAt, calls, callCount, questionsFrom, listBad, addedBlock};
 ghost use Rattle.replay.specs.Made.{callCells, freshOf};
-ghost use Rattle.replay.specs.Steps.{leaves};
+ghost use Rattle.replay.specs.Steps.{stateOf, leaves};
 use crate::cells::Cells;
 use crate::cells::WIDTH;
 use crate::format;
@@ -26,7 +26,7 @@ pub struct Called {
 
 // Document 01's number and builder for an answer.
 fn read_answer(answer: Answer, next: usize) -> Called
-    ensures { λ r. ⌜ ((B K : List ℕ) → leaves r B K ≡ after answer B K) × (r .next ≡ next) ⌝ }
+    ensures { λ r. ⌜ ((B K : List ℕ) → leaves r B K ≡ called answer B K) × (r .next ≡ next) ⌝ }
 {
     match answer {
         Answer::Taken(taken) => Called {
@@ -53,7 +53,8 @@ fn block(list: &[u8], at: usize) -> BlockAddr
 // Makes the call at `at` on the builder that the last one left.
 fn make_call(list: &[u8], at: usize, last: Called, blocks: &mut [u64], keys: &mut [u8]) -> Called
     requires { ⌜ 0 < callLen (now list) at ⌝ }
-    ensures { λ r. ⌜ leaves r (now (blocks .exit)) (now (keys .exit)) ≡ callDef (callAt (now (list .entry)) at) (leaves last (now (blocks .entry)) (now (keys .entry))) ⌝ }
+    ensures { λ r. ⌜ leaves r (now (blocks .exit)) (now (keys .exit))
+        ≡ callDef (callAt (now (list .entry)) at) (stateOf last (now (blocks .entry)) (now (keys .entry))) ⌝ }
     ensures { λ r. ⌜ r .next ≡ at + callLen (now (list .entry)) at ⌝ }
 {
     let builder = last.builder;
@@ -73,14 +74,17 @@ fn make_call(list: &[u8], at: usize, last: Called, blocks: &mut [u64], keys: &mu
 // Makes the list's calls on a fresh builder, each on what the last one left, and writes their numbers.
 pub fn make_calls(list: &[u8], blocks: &mut [u64], keys: &mut [u8], answers: &mut [u64]) -> Called
     requires { ⌜ (listBad (now list) ≡ false) × (5 * callCount (now list) ≤ length (now answers)) ⌝ }
-    ensures { λ r. ⌜ (leaves r (now (blocks .exit)) (now (keys .exit)) ≡ runEnd (calls (now (list .entry))) (freshOf (now (blocks .entry)) (now (keys .entry)))) × (r .next ≡ questionsFrom (now (list .entry))) ⌝ }
-    ensures { λ _. ⌜ now (answers .exit) ≡ sets (now (answers .entry)) 0 (callCells (runNumbers (calls (now (list .entry))) (freshOf (now (blocks .entry)) (now (keys .entry))))) ⌝ }
+    ensures { λ r. ⌜ (stateOf r (now (blocks .exit)) (now (keys .exit))
+        ≡ runEnd (calls (now (list .entry))) (freshOf (now (blocks .entry)) (now (keys .entry))))
+        × (r .next ≡ questionsFrom (now (list .entry))) ⌝ }
+    ensures { λ _. ⌜ now (answers .exit) ≡ sets (now (answers .entry)) 0
+        (callCells (runNumbers (calls (now (list .entry))) (freshOf (now (blocks .entry)) (now (keys .entry))))) ⌝ }
 {
     let count = format::call_count(list);
     let mut last = Called {
         no: 0,
         builder: SSTableIndexBuilder { n: 0 },
-        next: format::COUNTS_LEN,
+        next: format::calls_from(list),
     };
     let mut i: usize = 0;
     while i < count {

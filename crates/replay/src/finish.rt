@@ -3,8 +3,9 @@ ghost use mathlib.Core.Path.{_≡_};
 ghost use Prim.Native.Nat.{_+_, _≤_};
 ghost use lib.ListN.{length};
 ghost use lib.Seq.{sets};
+ghost use Rattle.builder.specs.Index.{standard};
 ghost use Rattle.builder.specs.Finish.{finishDef};
-ghost use Rattle.replay.specs.Steps.{finishedCells};
+ghost use Rattle.replay.specs.Made.{finishCells};
 use crate::cells::Cells;
 use builder::Finished;
 use builder::SSTableIndexBuilder;
@@ -19,9 +20,11 @@ pub fn finish_list(
     at: usize,
 ) -> usize
     requires { ⌜ at + 5 ≤ length (now answers) ⌝ }
-    ensures { λ r. ⌜ r ≡ finishDef builder (now (blocks .entry)) (now (keys .entry)) (now (out .entry)) .total ⌝ }
-    ensures { λ _. ⌜ now (out .exit) ≡ finishDef builder (now (blocks .entry)) (now (keys .entry)) (now (out .entry)) .out ⌝ }
-    ensures { λ _. ⌜ now (answers .exit) ≡ sets (now (answers .entry)) at (finishedCells (finishDef builder (now (blocks .entry)) (now (keys .entry)) (now (out .entry)))) ⌝ }
+    ensures { λ r. ⌜ r ≡ finishDef standard builder (now (blocks .entry)) (now (keys .entry)) (now (out .entry)) .total ⌝ }
+    ensures { λ _. ⌜ now (out .exit)
+        ≡ finishDef standard builder (now (blocks .entry)) (now (keys .entry)) (now (out .entry)) .out ⌝ }
+    ensures { λ _. ⌜ now (answers .exit) ≡ sets (now (answers .entry)) at
+        (finishCells (finishDef standard builder (now (blocks .entry)) (now (keys .entry)) (now (out .entry)))) ⌝ }
 {
     match builder.finish(blocks, keys, out) {
         Finished::Written(_, total, directory) => {

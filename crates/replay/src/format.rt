@@ -1,11 +1,12 @@
 // A list of calls and questions in bytes.
 ghost use mathlib.Core.Path.{_≡_};
-ghost use mathlib.Core.Bool.{cond, _||_};
+ghost use mathlib.Core.Bool.{false, cond, _||_};
 ghost use Prim.Native.Nat.{_+_, _^_, _≤_, _<_};
 ghost use lib.Dec.{eqb};
 ghost use lib.ListN.{length};
 ghost use Rattle.serialize.specs.Digits.{numberAt};
-ghost use Rattle.replay.specs.Format.{stringLen, stringAt, within, callLen, questionLen, behind, callCount, questionCount, listBad};
+ghost use Rattle.replay.specs.Format.{stringLen, stringAt, within, callLen, questionLen, behind, settingsLen};
+ghost use Rattle.replay.specs.Format.{countsAt, callsFrom, callCount, questionCount, headBad, listBad};
 
 pub const ADD: u8 = 0;
 
@@ -23,8 +24,10 @@ pub const SEPARATOR: u8 = 6;
 
 const MARK: u8 = 7;
 
-// How many bytes both counts take.
-pub const COUNTS_LEN: usize = 8;
+// How many bytes the settings' length takes, and both counts.
+const SETTINGS_LEN_LEN: usize = 4;
+
+const COUNTS_LEN: usize = 8;
 
 // The number of the eight bytes from `at` on.
 pub fn number(list: &[u8], at: usize) -> u64
@@ -135,7 +138,8 @@ fn item_len(list: &[u8], at: usize, is_call: bool) -> usize
 
 // Behind `count` items from `from` on, calls or questions; 0 where one of them isn't there.
 fn behind_items(list: &[u8], from: usize, count: usize, are_calls: bool) -> usize
-    ensures { λ r. ⌜ r ≡ behind (λ at. cond «are_calls» (callLen (now (list .entry)) at) (questionLen (now (list .entry)) at)) from count ⌝ }
+    ensures { λ r. ⌜ r ≡ behind (λ at. cond «are_calls» (callLen (now (list .entry)) at) (questionLen (now (list .entry)) at)) from
+        count ⌝ }
 {
     let mut at = from;
     let mut left = count;
@@ -150,30 +154,59 @@ fn behind_items(list: &[u8], from: usize, count: usize, are_calls: bool) -> usiz
     at
 }
 
+// Where the counts stand: after the settings.
+fn counts_at(list: &[u8]) -> usize
+    requires { ⌜ 4 ≤ length (now list) ⌝ }
+    ensures { λ r. ⌜ (r ≡ countsAt (now (list .entry))) × (r < 2 ^ 33) ⌝ }
+{
+    SETTINGS_LEN_LEN + small_number(list, 0)
+}
+
+// Whether the head isn't one: no length of settings, settings that nobody knows, or no counts.
+pub fn head_bad(list: &[u8]) -> bool
+    ensures { λ r. ⌜ r ≡ headBad (now (list .entry)) ⌝ }
+{
+    if list.len() < SETTINGS_LEN_LEN {
+        return true;
+    }
+    if small_number(list, 0) != 0 {
+        return true;
+    }
+    list.len() < counts_at(list) + COUNTS_LEN
+}
+
+// Where the first call stands.
+pub fn calls_from(list: &[u8]) -> usize
+    requires { ⌜ headBad (now list) ≡ false ⌝ }
+    ensures { λ r. ⌜ r ≡ callsFrom (now (list .entry)) ⌝ }
+{
+    counts_at(list) + COUNTS_LEN
+}
+
 // How many calls.
 pub fn call_count(list: &[u8]) -> usize
-    requires { ⌜ 8 ≤ length (now list) ⌝ }
+    requires { ⌜ headBad (now list) ≡ false ⌝ }
     ensures { λ r. ⌜ (r ≡ callCount (now (list .entry))) × (r < 2 ^ 32) ⌝ }
 {
-    small_number(list, 0)
+    small_number(list, counts_at(list))
 }
 
 // How many questions.
 pub fn question_count(list: &[u8]) -> usize
-    requires { ⌜ 8 ≤ length (now list) ⌝ }
+    requires { ⌜ headBad (now list) ≡ false ⌝ }
     ensures { λ r. ⌜ (r ≡ questionCount (now (list .entry))) × (r < 2 ^ 32) ⌝ }
 {
-    small_number(list, 4)
+    small_number(list, counts_at(list) + 4)
 }
 
-// Whether the bytes aren't such a list: too short, an item that isn't there, or bytes behind the last.
+// Whether the bytes aren't such a list: a bad head, an item that isn't there, or bytes after the last.
 pub fn list_bad(list: &[u8]) -> bool
     ensures { λ r. ⌜ r ≡ listBad (now (list .entry)) ⌝ }
 {
-    if list.len() < COUNTS_LEN {
+    if head_bad(list) {
         return true;
     }
-    let questions = behind_items(list, COUNTS_LEN, call_count(list), true);
+    let questions = behind_items(list, calls_from(list), call_count(list), true);
     if questions == 0 {
         return true;
     }

@@ -11,15 +11,20 @@ ghost use lib.ListN.{length};
 ghost use Rattle.replay.specs.Replay.{replayNo, Replayed};
 use cells::WIDTH;
 
-// 26: the bytes aren't a list; 27: the answers have no room.
+// This function's own numbers: the bytes aren't a list, and the answers have no room.
+const NO_LIST: u32 = 101;
+
+const NO_ROOM: u32 = 102;
+
+// The first of them that is hit, or 0.
 fn replay_no(calls: &[u8], room: usize) -> u32
     ensures { λ r. ⌜ r ≡ replayNo (now (calls .entry)) room ⌝ }
 {
     if format::list_bad(calls) {
-        return 26;
+        return NO_LIST;
     }
     if room < WIDTH * (format::call_count(calls) + 2 + format::question_count(calls)) {
-        return 27;
+        return NO_ROOM;
     }
     0
 }
@@ -33,7 +38,8 @@ fn replay_list(
     answers: &mut [u64],
 )
     requires { ⌜ replayNo (now calls) (length (now answers)) ≡ 0 ⌝ }
-    ensures { λ _. ⌜ Replayed (now (calls .entry)) (now (blocks .entry)) (now (keys .entry)) (now (out .entry)) (now (answers .entry)) (now (blocks .exit)) (now (keys .exit)) (now (out .exit)) (now (answers .exit)) ⌝ }
+    ensures { λ _. ⌜ Replayed (now (calls .entry)) (now (blocks .entry)) (now (keys .entry)) (now (out .entry)) (now (answers .entry))
+        (now (blocks .exit)) (now (keys .exit)) (now (out .exit)) (now (answers .exit)) ⌝ }
 {
     let made = self::calls::make_calls(calls, blocks, keys, answers);
     let count = format::call_count(calls);
@@ -50,8 +56,10 @@ pub fn replay(
     answers: &mut [u64],
 ) -> u32
     ensures { λ r. ⌜ r ≡ replayNo (now (calls .entry)) (length (now (answers .entry))) ⌝ }
-    ensures { λ r. ⌜ (r ≡ 0 → Replayed (now (calls .entry)) (now (blocks .entry)) (now (keys .entry)) (now (out .entry)) (now (answers .entry)) (now (blocks .exit)) (now (keys .exit)) (now (out .exit)) (now (answers .exit))) ⌝ }
-    ensures { λ r. ⌜ (0 < r → (now (blocks .exit) ≡ now (blocks .entry)) × (now (keys .exit) ≡ now (keys .entry)) × (now (out .exit) ≡ now (out .entry)) × (now (answers .exit) ≡ now (answers .entry))) ⌝ }
+    ensures { λ r. ⌜ (r ≡ 0 → Replayed (now (calls .entry)) (now (blocks .entry)) (now (keys .entry)) (now (out .entry))
+        (now (answers .entry)) (now (blocks .exit)) (now (keys .exit)) (now (out .exit)) (now (answers .exit))) ⌝ }
+    ensures { λ r. ⌜ (0 < r → (now (blocks .exit) ≡ now (blocks .entry)) × (now (keys .exit) ≡ now (keys .entry))
+        × (now (out .exit) ≡ now (out .entry)) × (now (answers .exit) ≡ now (answers .entry))) ⌝ }
 {
     let no = replay_no(calls, answers.len());
     if no != 0 {

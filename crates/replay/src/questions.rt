@@ -1,17 +1,19 @@
 // The list's questions, asked of the opened index.
 ghost use mathlib.Core.Path.{_≡_};
+ghost use mathlib.Core.Bool.{false};
 ghost use mathlib.Core.List.{List};
 ghost use Prim.Native.Nat.{ℕ, _+_, _*_, _≤_, _<_};
 ghost use lib.ListN.{length, getD};
-ghost use Rattle.builder.specs.Plain.{Entry};
+ghost use Rattle.builder.specs.Index.{Settings};
+ghost use Rattle.machine.specs.Plain.{Entry};
 ghost use Rattle.index.specs.Answers.{loadNo, locatedNo, locatedId, locatedAddr};
-ghost use Rattle.index.specs.Opening.{openDef};
+ghost use Rattle.index.specs.Opening.{loadDef};
 ghost use Rattle.listing.specs.Listing.{listedNo, listedCount};
-ghost use Rattle.replay.specs.Format.{questionLen, questionAt, items, behind, questionCount};
+ghost use Rattle.replay.specs.Format.{questionLen, questionAt, items, behind, questionCount, headBad};
 ghost use Rattle.replay.specs.Made.{cells};
 ghost use Rattle.replay.specs.Steps.{cellsOf};
 ghost use Rattle.replay.specs.Replay.{IdAnswer, OrdAnswer, KeyAnswer, AddrAnswer, SeparatorAnswer, MarkAnswer, AnswerTo, AnswerIn};
-ghost use Rattle.replay.specs.Asked.{Indexed, Given, Asks, OpeningAsks};
+ghost use Rattle.replay.specs.Asked.{Indexed, OpenedAs, QuestionsAnswered, OpeningAnswered};
 use crate::cells::Cells;
 use crate::cells::WIDTH;
 use crate::format;
@@ -25,7 +27,7 @@ use listing::Listed;
 
 // The block of an id.
 fn by_id(opened: SSTableIndexV3, data: &[u8], id: u64) -> Cells
-    ensures { λ r. ⌜ ((es : List Entry) → Indexed es (now («data» .entry)) opened → IdAnswer es id (cellsOf r)) ⌝ }
+    ensures { λ r. ⌜ ((S : Settings) (es : List Entry) → Indexed S es (now («data» .entry)) opened → IdAnswer es id (cellsOf r)) ⌝ }
 {
     match opened.get_block(data, id) {
         BlockById::Block(block) => Cells {
@@ -41,7 +43,8 @@ fn by_id(opened: SSTableIndexV3, data: &[u8], id: u64) -> Cells
 
 // An id with its address.
 fn located(found: Located) -> Cells
-    ensures { λ r. ⌜ cellsOf r ≡ cells (locatedNo found) (locatedId found) (locatedAddr found .start) (locatedAddr found .end) (locatedAddr found .«first_ordinal») ⌝ }
+    ensures { λ r. ⌜ cellsOf r ≡ cells (locatedNo found) (locatedId found) (locatedAddr found .start) (locatedAddr found .end)
+        (locatedAddr found .«first_ordinal») ⌝ }
 {
     match found {
         Located::At(id, block) => Cells {
@@ -57,14 +60,15 @@ fn located(found: Located) -> Cells
 
 // The block of an ordinal.
 fn by_ordinal(opened: SSTableIndexV3, data: &[u8], ord: u64) -> Cells
-    ensures { λ r. ⌜ ((es : List Entry) → Indexed es (now («data» .entry)) opened → OrdAnswer es ord (cellsOf r)) ⌝ }
+    ensures { λ r. ⌜ ((S : Settings) (es : List Entry) → Indexed S es (now («data» .entry)) opened → OrdAnswer es ord (cellsOf r)) ⌝ }
 {
     located(opened.locate_with_ord(data, ord))
 }
 
 // The block for a key.
 fn by_key(opened: SSTableIndexV3, data: &[u8], key: &[u8]) -> Cells
-    ensures { λ r. ⌜ ((es : List Entry) → Indexed es (now («data» .entry)) opened → KeyAnswer es (now (key .entry)) (cellsOf r)) ⌝ }
+    ensures { λ r. ⌜ ((S : Settings) (es : List Entry) → Indexed S es (now («data» .entry)) opened
+        → KeyAnswer es (now (key .entry)) (cellsOf r)) ⌝ }
 {
     match opened.locate_with_key(data, key) {
         LocatedId::Id(id) => Cells {
@@ -80,14 +84,16 @@ fn by_key(opened: SSTableIndexV3, data: &[u8], key: &[u8]) -> Cells
 
 // The block for a key, with its address.
 fn address_by_key(opened: SSTableIndexV3, data: &[u8], key: &[u8]) -> Cells
-    ensures { λ r. ⌜ ((es : List Entry) → Indexed es (now («data» .entry)) opened → AddrAnswer es (now (key .entry)) (cellsOf r)) ⌝ }
+    ensures { λ r. ⌜ ((S : Settings) (es : List Entry) → Indexed S es (now («data» .entry)) opened
+        → AddrAnswer es (now (key .entry)) (cellsOf r)) ⌝ }
 {
     located(opened.get_block_with_key(data, key))
 }
 
 // Where the separator of an id stands.
 fn separator(opened: SSTableIndexV3, data: &[u8], id: u64) -> Cells
-    ensures { λ r. ⌜ ((es : List Entry) → Indexed es (now («data» .entry)) opened → SeparatorAnswer es id (cellsOf r)) ⌝ }
+    ensures { λ r. ⌜ ((S : Settings) (es : List Entry) → Indexed S es (now («data» .entry)) opened
+        → SeparatorAnswer S es id (cellsOf r)) ⌝ }
 {
     match opened.separator_place(data, id) {
         Place::Part(offset, len) => Cells {
@@ -131,7 +137,8 @@ fn listed(answer: Listed) -> Cells
 // Lists the table's blocks in marks that are all 0: how many, and mark i.
 fn mark_in(opened: SSTableIndexV3, data: &[u8], i: u64, table: &[u8], marks: &mut [u8]) -> Cells
     requires { ⌜ (65536 ≤ length (now marks)) × ((j : ℕ) → getD (now marks) j 0 ≡ 0) ⌝ }
-    ensures { λ r. ⌜ ((es : List Entry) → Indexed es (now («data» .entry)) opened → MarkAnswer es i (now (table .entry)) (cellsOf r)) ⌝ }
+    ensures { λ r. ⌜ ((S : Settings) (es : List Entry) → Indexed S es (now («data» .entry)) opened
+        → MarkAnswer es i (now (table .entry)) (cellsOf r)) ⌝ }
 {
     let count = listed(listing::get_block_for_automaton(opened, data, table, marks));
     if count.no != 0 {
@@ -148,7 +155,8 @@ fn mark_in(opened: SSTableIndexV3, data: &[u8], i: u64, table: &[u8], marks: &mu
 
 // A listing of the table's blocks: how many, and mark i.
 fn mark(opened: SSTableIndexV3, data: &[u8], i: u64, table: &[u8]) -> Cells
-    ensures { λ r. ⌜ ((es : List Entry) → Indexed es (now («data» .entry)) opened → MarkAnswer es i (now (table .entry)) (cellsOf r)) ⌝ }
+    ensures { λ r. ⌜ ((S : Settings) (es : List Entry) → Indexed S es (now («data» .entry)) opened
+        → MarkAnswer es i (now (table .entry)) (cellsOf r)) ⌝ }
 {
     let mut marks = [0u8; 65536];
     mark_in(opened, data, i, table, &mut marks)
@@ -157,7 +165,8 @@ fn mark(opened: SSTableIndexV3, data: &[u8], i: u64, table: &[u8]) -> Cells
 // The answer to the question at `at`.
 fn answer(list: &[u8], at: usize, opened: SSTableIndexV3, data: &[u8]) -> Cells
     requires { ⌜ 0 < questionLen (now list) at ⌝ }
-    ensures { λ r. ⌜ ((es : List Entry) → Indexed es (now («data» .entry)) opened → AnswerTo es (questionAt (now (list .entry)) at) (cellsOf r)) ⌝ }
+    ensures { λ r. ⌜ ((S : Settings) (es : List Entry) → Indexed S es (now («data» .entry)) opened
+        → AnswerTo S es (questionAt (now (list .entry)) at) (cellsOf r)) ⌝ }
 {
     let tag = list[at];
     if tag == format::BY_ID {
@@ -186,7 +195,8 @@ fn answer(list: &[u8], at: usize, opened: SSTableIndexV3, data: &[u8]) -> Cells
 // The answer to the question at `at`; where the opening was refused, its number.
 fn answer_in(list: &[u8], at: usize, loaded: Loaded, data: &[u8]) -> Cells
     requires { ⌜ 0 < questionLen (now list) at ⌝ }
-    ensures { λ r. ⌜ ((k : ℕ) (es : List Entry) → Given k es (now («data» .entry)) loaded → AnswerIn k es (questionAt (now (list .entry)) at) (cellsOf r)) ⌝ }
+    ensures { λ r. ⌜ ((k : ℕ) (S : Settings) (es : List Entry) → OpenedAs k S es (now («data» .entry)) loaded
+        → AnswerIn k S es (questionAt (now (list .entry)) at) (cellsOf r)) ⌝ }
 {
     match loaded {
         Loaded::Opened(opened) => answer(list, at, opened, data),
@@ -205,7 +215,9 @@ fn ask_questions(
     first: usize,
 )
     requires { ⌜ (behind (questionLen (now list)) from count ≡ 0 → ⊥) × (5 * (first + count) ≤ length (now answers)) ⌝ }
-    ensures { λ _. ⌜ ((k : ℕ) (es : List Entry) → Given k es (now («data» .entry)) loaded → Asks k es (items (questionLen (now (list .entry))) (questionAt (now (list .entry))) from count) first (now (answers .entry)) (now (answers .exit))) ⌝ }
+    ensures { λ _. ⌜ ((k : ℕ) (S : Settings) (es : List Entry) → OpenedAs k S es (now («data» .entry)) loaded
+        → QuestionsAnswered k S es (items (questionLen (now (list .entry))) (questionAt (now (list .entry))) from count) first
+        (now (answers .entry)) (now (answers .exit))) ⌝ }
 {
     let mut at = from;
     let mut i: usize = 0;
@@ -228,8 +240,11 @@ fn load_no(loaded: Loaded) -> u32
 
 // Opens the bytes and asks the list's questions of them. The opening is answer `first`.
 pub fn open_list(list: &[u8], from: usize, data: &[u8], answers: &mut [u64], first: usize)
-    requires { ⌜ (8 ≤ length (now list)) × (behind (questionLen (now list)) from (questionCount (now list)) ≡ 0 → ⊥) × (5 * (first + 1 + questionCount (now list)) ≤ length (now answers)) ⌝ }
-    ensures { λ _. ⌜ ((k : ℕ) (es : List Entry) → Given k es (now («data» .entry)) (openDef 128 (now («data» .entry))) → OpeningAsks k es (items (questionLen (now (list .entry))) (questionAt (now (list .entry))) from (questionCount (now (list .entry)))) first (now (answers .entry)) (now (answers .exit))) ⌝ }
+    requires { ⌜ (headBad (now list) ≡ false) × (behind (questionLen (now list)) from (questionCount (now list)) ≡ 0 → ⊥)
+        × (5 * (first + 1 + questionCount (now list)) ≤ length (now answers)) ⌝ }
+    ensures { λ _. ⌜ ((k : ℕ) (S : Settings) (es : List Entry) → OpenedAs k S es (now («data» .entry)) (loadDef (now («data» .entry)))
+        → OpeningAnswered k S es (items (questionLen (now (list .entry))) (questionAt (now (list .entry))) from
+        (questionCount (now (list .entry)))) first (now (answers .entry)) (now (answers .exit))) ⌝ }
 {
     let loaded = SSTableIndexV3::load(data);
     Cells::number(load_no(loaded)).write(answers, WIDTH * first);

@@ -72,7 +72,7 @@ fn print_index(out: &[u8], total: u64) {
 
 // The answers to a list, and its index.
 pub fn answers(list: &[u8], out: &[u8], answers: &[u64]) {
-    if list.len() < format::COUNTS_LEN {
+    if format::head_bad(list) {
         return bad_line();
     }
     let calls = format::call_count(list);

@@ -1,17 +1,15 @@
--- A question's answer as a number: a truth value's byte where it was taken, 0 where it was refused.
-use Prim.Native.Nat.{ℕ, zero, suc}
+-- A truth value as a byte: 1 for true and 0 for false, and back.
+use Prim.Native.Nat.{_≤_}
 use mathlib.Core.Path.{_≡_, refl}
 use mathlib.Core.Bool.{Bool, true, false}
-use mathlib.Core.Logic.{inl, inr}
 use native.Mathlib.Omega.{arith}
+use lib.Dec.{eqb}
 use package.mir.Val.{boolByte}
-use Rattle.automaton.specs.Bits.{Exactly}
-use Rattle.rosmarel.specs.Answers.{MarkAnswered}
 
-pub taken : {P : Type 0} (b : Bool) → Exactly b P → MarkAnswered 0 (boolByte b) P
-taken true p = inl (refl, inl (refl, p))
-taken false p = inl (refl, inr (refl, p))
+pub byte-back : (b : Bool) → eqb (boolByte b) 1 ≡ b
+byte-back true = refl
+byte-back false = refl
 
-pub refused : {P : Type 0} (k : ℕ) → (k ≡ 0 → Exactly false P) → MarkAnswered k 0 P
-refused zero p = inl (refl, inr (refl, p refl))
-refused (suc k) p = inr (omega arith, refl)
+pub byte-le : (b : Bool) → boolByte b ≤ 1
+byte-le true = omega arith
+byte-le false = omega arith

@@ -1,12 +1,21 @@
--- Numbers and values of answers that the crates below leave as an enum; a refusal has all else zero.
-use Prim.Native.Nat.{ℕ, _<_}
-use mathlib.Core.Path.{_≡_}
-use mathlib.Core.Logic.{_⊎_}
+-- What an exported function hands back as plain numbers, put together as the definitions of the crates below have it.
+use Prim.Native.Nat.{ℕ}
+use mathlib.Core.List.{List}
+use Rattle.group.specs.declared.BlockAddr.{BlockAddr}
+use Rattle.builder.specs.Calls.{builderOf}
+use Rattle.builder.specs.Finish.{Finish}
 use Rattle.builder.specs.declared.FinishLen.{FinishLen}
 use Rattle.builder.specs.declared.FinishLen.the-variants.{Total, Refused}
-use Rattle.listing.specs.Marks.{Mark}
 
--- the total that a finish would need: its number and the total
+-- a block from its three numbers
+abbrev pub blockWith : ℕ → ℕ → ℕ → BlockAddr
+blockWith start end first = record { start = start; end = end; «first_ordinal» = first }
+
+-- a finish: its number, the builder's count, the output, the total and the directory's length
+abbrev pub finishWith : ℕ → ℕ → List ℕ → ℕ → ℕ → Finish
+finishWith k n out total directory = record { no = k; builder = builderOf n; out = out; total = total; directory = directory }
+
+-- the total that a finish would need: its number and the total; a refusal has all else zero
 abbrev pub lenNo : FinishLen → ℕ
 lenNo (Total total) = 0
 lenNo (Refused k) = k
@@ -14,7 +23,3 @@ lenNo (Refused k) = k
 abbrev pub lenTotal : FinishLen → ℕ
 lenTotal (Total total) = total
 lenTotal (Refused k) = 0
-
--- a question with number k: where it is taken, the answer is 1 exactly when P, else 0
-abbrev pub MarkAnswered : ℕ → ℕ → Type 0 → Type 0
-MarkAnswered k answer P = ((k ≡ 0) × Mark answer P) ⊎ ((0 < k) × (answer ≡ 0))

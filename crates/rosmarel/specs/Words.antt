@@ -4,7 +4,7 @@ use mathlib.Core.List.{List, [], _∷_}
 use lib.ListN.{getD}
 use Rattle.index.specs.declared.SSTableIndexV3.{SSTableIndexV3}
 
--- n, then offset and length of the directory, the group records and the address bytes
+-- the record's seven numbers in their order (SPECIFICATION 20.4)
 abbrev pub openedWords : SSTableIndexV3 → List ℕ
 openedWords o = o .n ∷ o .directory ∷ o .«directory_len» ∷ o .metas ∷ o .«metas_len» ∷ o .addrs ∷ o .«addrs_len» ∷ []
 

@@ -1,9 +1,10 @@
 // Building an index.
 ghost use mathlib.Core.Path.{_≡_};
 ghost use Rattle.keys.specs.Order.{commonPrefixLen};
-ghost use Rattle.builder.specs.Calls.{addDef, shortenDef};
+ghost use Rattle.builder.specs.Calls.{builderOf, calledWith, addDef, shortenDef};
+ghost use Rattle.builder.specs.Index.{standard};
 ghost use Rattle.builder.specs.Finish.{finishDef, finishLenDef};
-ghost use Rattle.rosmarel.specs.Answers.{lenNo, lenTotal};
+ghost use Rattle.rosmarel.specs.Answers.{blockWith, finishWith, lenNo, lenTotal};
 use builder::Answer;
 use builder::FinishLen;
 use builder::Finished;
@@ -21,10 +22,9 @@ pub extern "C" fn rosmarel_add(
     end: u64,
     first_ordinal: u64,
 ) -> u32
-    ensures { λ r. ⌜ r ≡ addDef (record { n = now (n .entry) }) (now (blocks .entry)) (now (keys .entry)) (now (key .entry)) (record { start = start; end = end; «first_ordinal» = «first_ordinal» }) .no ⌝ }
-    ensures { λ _. ⌜ now (n .exit) ≡ addDef (record { n = now (n .entry) }) (now (blocks .entry)) (now (keys .entry)) (now (key .entry)) (record { start = start; end = end; «first_ordinal» = «first_ordinal» }) .builder .n ⌝ }
-    ensures { λ _. ⌜ now (blocks .exit) ≡ addDef (record { n = now (n .entry) }) (now (blocks .entry)) (now (keys .entry)) (now (key .entry)) (record { start = start; end = end; «first_ordinal» = «first_ordinal» }) .blocks ⌝ }
-    ensures { λ _. ⌜ now (keys .exit) ≡ addDef (record { n = now (n .entry) }) (now (blocks .entry)) (now (keys .entry)) (now (key .entry)) (record { start = start; end = end; «first_ordinal» = «first_ordinal» }) .keys ⌝ }
+    ensures { λ r. ⌜ calledWith r (builderOf (now (n .exit))) (now (blocks .exit)) (now (keys .exit))
+        ≡ addDef (builderOf (now (n .entry))) (now (blocks .entry)) (now (keys .entry)) (now (key .entry))
+        (blockWith start end «first_ordinal») ⌝ }
 {
     let builder = SSTableIndexBuilder { n: *n as usize };
     let block = BlockAddr {
@@ -52,7 +52,8 @@ pub extern "C" fn rosmarel_shorten(
     keys: &mut [u8],
     next_key: &[u8],
 ) -> u32
-    ensures { λ r. ⌜ (r ≡ shortenDef (record { n = n }) (now (blocks .entry)) (now (keys .entry)) (now («next_key» .entry)) .no) × (now (blocks .exit) ≡ shortenDef (record { n = n }) (now (blocks .entry)) (now (keys .entry)) (now («next_key» .entry)) .blocks) × (now (keys .exit) ≡ shortenDef (record { n = n }) (now (blocks .entry)) (now (keys .entry)) (now («next_key» .entry)) .keys) ⌝ }
+    ensures { λ r. ⌜ calledWith r (builderOf n) (now (blocks .exit)) (now (keys .exit))
+        ≡ shortenDef (builderOf n) (now (blocks .entry)) (now (keys .entry)) (now («next_key» .entry)) ⌝ }
 {
     let builder = SSTableIndexBuilder { n: n as usize };
     match builder.shorten_last_block_key_given_next_key(blocks, keys, next_key) {
@@ -71,7 +72,8 @@ pub extern "C" fn rosmarel_finish(
     total: &mut u64,
     directory_len: &mut u64,
 ) -> u32
-    ensures { λ r. ⌜ (r ≡ finishDef (record { n = n }) (now (blocks .entry)) (now (keys .entry)) (now (out .entry)) .no) × (now (out .exit) ≡ finishDef (record { n = n }) (now (blocks .entry)) (now (keys .entry)) (now (out .entry)) .out) × (now (total .exit) ≡ finishDef (record { n = n }) (now (blocks .entry)) (now (keys .entry)) (now (out .entry)) .total) × (now («directory_len» .exit) ≡ finishDef (record { n = n }) (now (blocks .entry)) (now (keys .entry)) (now (out .entry)) .directory) ⌝ }
+    ensures { λ r. ⌜ finishWith r n (now (out .exit)) (now (total .exit)) (now («directory_len» .exit))
+        ≡ finishDef standard (builderOf n) (now (blocks .entry)) (now (keys .entry)) (now (out .entry)) ⌝ }
 {
     let builder = SSTableIndexBuilder { n: n as usize };
     match builder.finish(blocks, keys, out) {
@@ -91,7 +93,8 @@ pub extern "C" fn rosmarel_finish(
 // The total that a finish would need.
 #[no_mangle]
 pub extern "C" fn rosmarel_finish_len(n: u64, blocks: &[u64], keys: &[u8], total: &mut u64) -> u32
-    ensures { λ r. ⌜ (r ≡ lenNo (finishLenDef (record { n = n }) (now (blocks .entry)) (now (keys .entry)))) × (now (total .exit) ≡ lenTotal (finishLenDef (record { n = n }) (now (blocks .entry)) (now (keys .entry)))) ⌝ }
+    ensures { λ r. ⌜ r ≡ lenNo (finishLenDef standard (builderOf n) (now (blocks .entry)) (now (keys .entry))) ⌝ }
+    ensures { λ _. ⌜ now (total .exit) ≡ lenTotal (finishLenDef standard (builderOf n) (now (blocks .entry)) (now (keys .entry))) ⌝ }
 {
     let builder = SSTableIndexBuilder { n: n as usize };
     match builder.finish_len(blocks, keys) {

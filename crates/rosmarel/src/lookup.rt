@@ -1,10 +1,10 @@
 // Opening an index, and its lookups.
 ghost use mathlib.Core.Path.{_≡_};
-ghost use Rattle.index.specs.Parts.{blockIn, separatorIn};
-ghost use Rattle.index.specs.Opening.{openDef, Opens};
+ghost use Rattle.index.specs.Opening.{loadDef};
 ghost use Rattle.index.specs.Answers.{loadNo, loadOpened, placeOffset, placeLen};
-ghost use Rattle.index.specs.Lookups.{ByIdAllowed, ByIdExact, LocatedAllowed, ByOrdExact, ByKeyAllowed, ByKeyExact, AddrByKeyExact, placeDef};
+ghost use Rattle.index.specs.Lookups.{GetBlock, LocateWithOrd, LocateWithKey, GetBlockWithKey, placeDef};
 ghost use Rattle.rosmarel.specs.Words.{openedWords, openedAt};
+ghost use Rattle.rosmarel.specs.Answers.{blockWith};
 use crate::words::opened_at;
 use crate::words::words;
 use index::BlockById;
@@ -17,7 +17,8 @@ use index::SSTableIndexV3;
 // Opens the bytes of an index that anyone may have written.
 #[no_mangle]
 pub extern "C" fn rosmarel_open(index: &[u8], opened: &mut [u64; 7]) -> u32
-    ensures { λ r. ⌜ (r ≡ loadNo (openDef 128 (now (index .entry)))) × (now (opened .exit) ≡ openedWords (loadOpened (openDef 128 (now (index .entry))))) ⌝ }
+    ensures { λ r. ⌜ r ≡ loadNo (loadDef (now (index .entry))) ⌝ }
+    ensures { λ _. ⌜ now (opened .exit) ≡ openedWords (loadOpened (loadDef (now (index .entry)))) ⌝ }
 {
     match SSTableIndexV3::load(index) {
         Loaded::Opened(record) => {
@@ -41,8 +42,8 @@ pub extern "C" fn rosmarel_get_block(
     end: &mut u64,
     first_ordinal: &mut u64,
 ) -> u32
-    ensures { λ r. ⌜ ByIdAllowed (openedAt (now (opened .entry)) .n) id r (record { start = now (start .exit); end = now (end .exit); «first_ordinal» = now («first_ordinal» .exit) }) ⌝ }
-    ensures { λ r. ⌜ (Opens 128 (now (index .entry)) (openedAt (now (opened .entry))) → ByIdExact (blockIn 128 (now (index .entry))) (openedAt (now (opened .entry)) .n) id r (record { start = now (start .exit); end = now (end .exit); «first_ordinal» = now («first_ordinal» .exit) })) ⌝ }
+    ensures { λ r. ⌜ GetBlock (now (index .entry)) (openedAt (now (opened .entry))) id r
+        (blockWith (now (start .exit)) (now (end .exit)) (now («first_ordinal» .exit))) ⌝ }
 {
     match opened_at(opened).get_block(index, id) {
         BlockById::Block(block) => {
@@ -71,8 +72,8 @@ pub extern "C" fn rosmarel_locate_with_ord(
     end: &mut u64,
     first_ordinal: &mut u64,
 ) -> u32
-    ensures { λ r. ⌜ LocatedAllowed 18 (openedAt (now (opened .entry)) .n) r (now (id .exit)) (record { start = now (start .exit); end = now (end .exit); «first_ordinal» = now («first_ordinal» .exit) }) ⌝ }
-    ensures { λ r. ⌜ (Opens 128 (now (index .entry)) (openedAt (now (opened .entry))) → ByOrdExact (blockIn 128 (now (index .entry))) (openedAt (now (opened .entry)) .n) ord r (now (id .exit)) (record { start = now (start .exit); end = now (end .exit); «first_ordinal» = now («first_ordinal» .exit) })) ⌝ }
+    ensures { λ r. ⌜ LocateWithOrd (now (index .entry)) (openedAt (now (opened .entry))) ord r (now (id .exit))
+        (blockWith (now (start .exit)) (now (end .exit)) (now («first_ordinal» .exit))) ⌝ }
 {
     match opened_at(opened).locate_with_ord(index, ord) {
         Located::At(found, block) => {
@@ -100,8 +101,7 @@ pub extern "C" fn rosmarel_locate_with_key(
     key: &[u8],
     id: &mut u64,
 ) -> u32
-    ensures { λ r. ⌜ ByKeyAllowed (openedAt (now (opened .entry)) .n) r (now (id .exit)) ⌝ }
-    ensures { λ r. ⌜ (Opens 128 (now (index .entry)) (openedAt (now (opened .entry))) → ByKeyExact (separatorIn (now (index .entry))) (openedAt (now (opened .entry)) .n) (now (key .entry)) r (now (id .exit))) ⌝ }
+    ensures { λ r. ⌜ LocateWithKey (now (index .entry)) (openedAt (now (opened .entry))) (now (key .entry)) r (now (id .exit)) ⌝ }
 {
     match opened_at(opened).locate_with_key(index, key) {
         LocatedId::Id(found) => {
@@ -126,8 +126,8 @@ pub extern "C" fn rosmarel_get_block_with_key(
     end: &mut u64,
     first_ordinal: &mut u64,
 ) -> u32
-    ensures { λ r. ⌜ LocatedAllowed 19 (openedAt (now (opened .entry)) .n) r (now (id .exit)) (record { start = now (start .exit); end = now (end .exit); «first_ordinal» = now («first_ordinal» .exit) }) ⌝ }
-    ensures { λ r. ⌜ (Opens 128 (now (index .entry)) (openedAt (now (opened .entry))) → AddrByKeyExact (separatorIn (now (index .entry))) (blockIn 128 (now (index .entry))) (openedAt (now (opened .entry)) .n) (now (key .entry)) r (now (id .exit)) (record { start = now (start .exit); end = now (end .exit); «first_ordinal» = now («first_ordinal» .exit) })) ⌝ }
+    ensures { λ r. ⌜ GetBlockWithKey (now (index .entry)) (openedAt (now (opened .entry))) (now (key .entry)) r (now (id .exit))
+        (blockWith (now (start .exit)) (now (end .exit)) (now («first_ordinal» .exit))) ⌝ }
 {
     match opened_at(opened).get_block_with_key(index, key) {
         Located::At(found, block) => {
@@ -156,7 +156,8 @@ pub extern "C" fn rosmarel_separator(
     offset: &mut u64,
     len: &mut u64,
 )
-    ensures { λ _. ⌜ (now (offset .exit) ≡ placeOffset (placeDef 128 (openedAt (now (opened .entry))) (now (index .entry)) id)) × (now (len .exit) ≡ placeLen (placeDef 128 (openedAt (now (opened .entry))) (now (index .entry)) id)) ⌝ }
+    ensures { λ _. ⌜ now (offset .exit) ≡ placeOffset (placeDef (openedAt (now (opened .entry))) (now (index .entry)) id) ⌝ }
+    ensures { λ _. ⌜ now (len .exit) ≡ placeLen (placeDef (openedAt (now (opened .entry))) (now (index .entry)) id) ⌝ }
 {
     match opened_at(opened).separator_place(index, id) {
         Place::Part(from, long) => {

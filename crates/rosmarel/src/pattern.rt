@@ -1,12 +1,12 @@
 // Patterns: the blocks that can hold a key of one, and an example of such a key.
 ghost use mathlib.Core.Path.{_≡_};
-ghost use lib.ListN.{length};
-ghost use Rattle.automaton.specs.Table.{tableNo};
-ghost use Rattle.pruning.specs.Interval.{startOf, Marked};
-ghost use Rattle.example.specs.Example.{ExampleNo, ExampleLeaves};
-ghost use Rattle.listing.specs.Listing.{listingNo, separatorAt, ListingLeaves};
+ghost use Prim.Native.Nat.{_≤_};
+ghost use lib.Dec.{eqb};
+ghost use Rattle.pruning.specs.Interval.{startOf};
+ghost use Rattle.pruning.specs.Answers.{CanBlockMatch};
+ghost use Rattle.example.specs.Example.{ExampleFor};
+ghost use Rattle.listing.specs.Listing.{GetBlockForAutomaton};
 ghost use Rattle.rosmarel.specs.Words.{openedAt};
-ghost use Rattle.rosmarel.specs.Answers.{MarkAnswered};
 use crate::words::opened_at;
 use example::ExampleAnswer;
 use listing::Listed;
@@ -21,8 +21,8 @@ pub extern "C" fn rosmarel_list(
     marks: &mut [u8],
     count: &mut u64,
 ) -> u32
-    ensures { λ r. ⌜ r ≡ listingNo 128 (openedAt (now (opened .entry))) (now (index .entry)) (now (automaton .entry)) (length (now (marks .entry))) ⌝ }
-    ensures { λ r. ⌜ ListingLeaves (now (automaton .entry)) (separatorAt (openedAt (now (opened .entry))) (now (index .entry))) (openedAt (now (opened .entry)) .n) (now (marks .entry)) (now (marks .exit)) r (now (count .exit)) ⌝ }
+    ensures { λ r. ⌜ GetBlockForAutomaton (now (index .entry)) (openedAt (now (opened .entry))) (now (automaton .entry))
+        (now (marks .entry)) (now (marks .exit)) r (now (count .exit)) ⌝ }
 {
     match listing::get_block_for_automaton(opened_at(opened), index, automaton, marks) {
         Listed::Count(ones) => {
@@ -45,8 +45,9 @@ pub extern "C" fn rosmarel_can_block_match(
     automaton: &[u8],
     matches: &mut u64,
 ) -> u32
-    ensures { λ r. ⌜ r ≡ tableNo (now (automaton .entry)) ⌝ }
-    ensures { λ r. ⌜ MarkAnswered r (now (matches .exit)) (Marked (now (automaton .entry)) (startOf «has_start» (now (start .entry))) (now (end .entry))) ⌝ }
+    ensures { λ r. ⌜ CanBlockMatch (now (automaton .entry)) (startOf «has_start» (now (start .entry))) (now (end .entry)) r
+        (eqb (now (matches .exit)) 1) ⌝ }
+    ensures { λ _. ⌜ now (matches .exit) ≤ 1 ⌝ }
 {
     match pruning::can_block_match_automaton(has_start, start, end, automaton) {
         Matched::Matches(can) => {
@@ -70,8 +71,8 @@ pub extern "C" fn rosmarel_example(
     out: &mut [u8],
     len: &mut u64,
 ) -> u32
-    ensures { λ r. ⌜ ExampleNo (now (automaton .entry)) (startOf «has_start» (now (start .entry))) (now (end .entry)) (length (now (out .entry))) r ⌝ }
-    ensures { λ r. ⌜ ExampleLeaves (now (automaton .entry)) (startOf «has_start» (now (start .entry))) (now (end .entry)) (now (out .entry)) (now (out .exit)) r (now (len .exit)) ⌝ }
+    ensures { λ r. ⌜ ExampleFor (now (automaton .entry)) (startOf «has_start» (now (start .entry))) (now (end .entry))
+        (now (out .entry)) (now (out .exit)) r (now (len .exit)) ⌝ }
 {
     match example::example(has_start, start, end, automaton, out) {
         ExampleAnswer::Written(long) => {

@@ -1,7 +1,7 @@
 // The store of one lent slice of blocks.
 ghost use mathlib.Core.Path.{_≡_};
 ghost use Rattle.store_slice.specs.Slice.{sliceStored, sliceOut};
-ghost use Rattle.store_slice.specs.Numbers.{recordsOf};
+ghost use Rattle.store_slice.specs.Numbers.{blocksOfNumbers};
 use store_slice::Stored;
 
 // Hands out the length of an answer, and returns its number.
@@ -15,7 +15,9 @@ fn answer(stored: Stored, len: &mut u64) -> u32
 // Writes the store of the blocks from the front of `out` on. A block is three numbers: start, end, first ordinal.
 #[no_mangle]
 pub extern "C" fn rosmarel_store(blocks: &[[u64; 3]], out: &mut [u8], len: &mut u64) -> u32
-    ensures { λ r. ⌜ (r ≡ sliceStored (recordsOf (now (blocks .entry))) (now (out .entry)) .no) × (now (out .exit) ≡ sliceOut (recordsOf (now (blocks .entry))) (now (out .entry))) × (now (len .exit) ≡ sliceStored (recordsOf (now (blocks .entry))) (now (out .entry)) .len) ⌝ }
+    ensures { λ r. ⌜ (r ≡ sliceStored (blocksOfNumbers (now (blocks .entry))) (now (out .entry)) .no)
+        × (now (out .exit) ≡ sliceOut (blocksOfNumbers (now (blocks .entry))) (now (out .entry)))
+        × (now (len .exit) ≡ sliceStored (blocksOfNumbers (now (blocks .entry))) (now (out .entry)) .len) ⌝ }
 {
     answer(store_slice::groups::serialize_numbers(blocks, out), len)
 }

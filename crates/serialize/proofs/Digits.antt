@@ -9,7 +9,7 @@ use lib.Arith.{digits-div, digits-mod, mod-mul}
 use lib.ListN.{length, take, drop, getD, set}
 use lib.Seq.{getD-drop, sets, take-length}
 use lib.Pow.{pow-add, pow-pos, field, mod-mod-pow}
-use Rattle.serialize.specs.Digits.{ofDigits, digits, leVal, leBytes, Below}
+use Rattle.serialize.specs.Digits.{ofDigits, digitsOf, leVal, leBytes, DigitsBelow}
 
 pub pow-mul-suc : (k n : ℕ) → 2 ^ (k * suc n) ≡ 2 ^ (k * n) * 2 ^ k
 pow-mul-suc k n = ap (λ (m : ℕ). 2 ^ m) (mul-suc k n) ∙ pow-add 2 (k * n) k
@@ -25,7 +25,7 @@ ofDigits-suc k (x ∷ xs) zero = rw (mul-zero k, zero-mul) (omega arith)
 ofDigits-suc k (x ∷ xs) (suc n) = rw (ofDigits-suc k xs n, pow-mul-suc, add-mul, mul-assoc, add-assoc) refl
 
 -- the digits from n on are the number without its k * n low bits
-pub ofDigits-drop : (k n : ℕ) (l : List ℕ) → Below k l → ofDigits k (drop n l) ≡ ofDigits k l / 2 ^ (k * n)
+pub ofDigits-drop : (k n : ℕ) (l : List ℕ) → DigitsBelow k l → ofDigits k (drop n l) ≡ ofDigits k l / 2 ^ (k * n)
 unfolding ofDigits
 ofDigits-drop k zero l h = rw (mul-zero k) (sym (div-one (ofDigits k l)))
 ofDigits-drop k (suc n) [] h = sym (zero-div (2 ^ (k * suc n)))
@@ -36,7 +36,7 @@ ofDigits-drop k (suc n) (x ∷ xs) h =
     ∙ ap (λ (m : ℕ). (ofDigits k xs * 2 ^ k + x) / m) (mul-comm (2 ^ k) (2 ^ (k * n)) ∙ sym (pow-mul-suc k n))
 
 -- the n first digits are the number's k * n low bits
-pub ofDigits-take : (k n : ℕ) (l : List ℕ) → Below k l → ofDigits k (take n l) ≡ ofDigits k l % 2 ^ (k * n)
+pub ofDigits-take : (k n : ℕ) (l : List ℕ) → DigitsBelow k l → ofDigits k (take n l) ≡ ofDigits k l % 2 ^ (k * n)
 unfolding ofDigits
 ofDigits-take k zero l h = rw (mul-zero k) (sym (mod-one (ofDigits k l)))
 ofDigits-take k (suc n) [] h = sym (zero-mod (2 ^ (k * suc n)))
@@ -47,10 +47,10 @@ ofDigits-take k (suc n) (x ∷ xs) h =
     ∙ sym (mod-mul (ofDigits k xs * 2 ^ k + x) (pow-pos (k * n)) (pow-pos k))
     ∙ ap (λ (m : ℕ). (ofDigits k xs * 2 ^ k + x) % m) (sym (pow-mul-suc k n))
 
-pub ofDigits-take-lt : (k n : ℕ) (l : List ℕ) → Below k l → ofDigits k (take n l) < 2 ^ (k * n)
+pub ofDigits-take-lt : (k n : ℕ) (l : List ℕ) → DigitsBelow k l → ofDigits k (take n l) < 2 ^ (k * n)
 ofDigits-take-lt k n l h = rw (ofDigits-take k n l h) (mod-lt (ofDigits k l) (pow-pos (k * n)))
 
-pub ofDigits-lt : (k : ℕ) (l : List ℕ) → Below k l → ofDigits k l < 2 ^ (k * length l)
+pub ofDigits-lt : (k : ℕ) (l : List ℕ) → DigitsBelow k l → ofDigits k l < 2 ^ (k * length l)
 ofDigits-lt k l h = rw (take-length l) at (ofDigits-take-lt k (length l) l h)
 
 pub ofDigits-append : (k : ℕ) (a b : List ℕ) → ofDigits k (a ++ b) ≡ ofDigits k b * 2 ^ (k * length a) + ofDigits k a
@@ -58,11 +58,11 @@ unfolding ofDigits
 ofDigits-append k [] b = rw (mul-zero k) (omega arith)
 ofDigits-append k (x ∷ xs) b = rw (ofDigits-append k xs b, pow-mul-suc, add-mul, mul-assoc, add-assoc) refl
 
-pub below-drop : (k n : ℕ) (l : List ℕ) → Below k l → Below k (drop n l)
+pub below-drop : (k n : ℕ) (l : List ℕ) → DigitsBelow k l → DigitsBelow k (drop n l)
 below-drop k n l h i = rw getD-drop (h (n + i))
 
 -- digit i of the number is element i of the list, also past the end
-pub ofDigits-digit : (k : ℕ) (l : List ℕ) (i : ℕ) → Below k l → ofDigits k l / 2 ^ (k * i) % 2 ^ k ≡ getD l i 0
+pub ofDigits-digit : (k : ℕ) (l : List ℕ) (i : ℕ) → DigitsBelow k l → ofDigits k l / 2 ^ (k * i) % 2 ^ k ≡ getD l i 0
 ofDigits-digit k l i h =
     let e : ofDigits k (take 1 (drop i l)) ≡ getD l i 0 = ofDigits-suc k (drop i l) 0 ∙ unfold ofDigits in rw (getD-drop, add-zero i, mul-zero k) (omega arith) in
     ap (λ (m : ℕ). m % 2 ^ k) (sym (ofDigits-drop k i l h))
@@ -71,56 +71,56 @@ ofDigits-digit k l i h =
 
 -- ---- the digits of a number
 
-pub length-digits : (k w v : ℕ) → length (digits k w v) ≡ w
-unfolding digits
-length-digits k zero v = refl
-length-digits k (suc w) v = ap suc (length-digits k w (v / 2 ^ k))
+pub length-digitsOf : (k w v : ℕ) → length (digitsOf k w v) ≡ w
+unfolding digitsOf
+length-digitsOf k zero v = refl
+length-digitsOf k (suc w) v = ap suc (length-digitsOf k w (v / 2 ^ k))
 
-pub ofDigits-digits : (k w v : ℕ) → ofDigits k (digits k w v) ≡ v % 2 ^ (k * w)
-unfolding ofDigits digits
-ofDigits-digits k zero v = rw (mul-zero k) (sym (mod-one v))
-ofDigits-digits k (suc w) v =
-    ap (λ (n : ℕ). n * 2 ^ k + v % 2 ^ k) (ofDigits-digits k w (v / 2 ^ k))
+pub ofDigits-digitsOf : (k w v : ℕ) → ofDigits k (digitsOf k w v) ≡ v % 2 ^ (k * w)
+unfolding ofDigits digitsOf
+ofDigits-digitsOf k zero v = rw (mul-zero k) (sym (mod-one v))
+ofDigits-digitsOf k (suc w) v =
+    ap (λ (n : ℕ). n * 2 ^ k + v % 2 ^ k) (ofDigits-digitsOf k w (v / 2 ^ k))
     ∙ sym (mod-mul v (pow-pos (k * w)) (pow-pos k))
     ∙ ap (λ (n : ℕ). v % n) (sym (pow-mul-suc k w))
 
 -- a number of w digits is that of its w digits
-pub ofDigits-digits-lt : (k w v : ℕ) → v < 2 ^ (k * w) → ofDigits k (digits k w v) ≡ v
-ofDigits-digits-lt k w v h = ofDigits-digits k w v ∙ mod-eq-of-lt h
+pub ofDigits-digitsOf-lt : (k w v : ℕ) → v < 2 ^ (k * w) → ofDigits k (digitsOf k w v) ≡ v
+ofDigits-digitsOf-lt k w v h = ofDigits-digitsOf k w v ∙ mod-eq-of-lt h
 
 -- digits are those of their number
-pub digits-ofDigits : (k : ℕ) (l : List ℕ) → Below k l → digits k (length l) (ofDigits k l) ≡ l
-unfolding ofDigits digits
-digits-ofDigits k [] h = refl
-digits-ofDigits k (x ∷ xs) h =
+pub digitsOf-ofDigits : (k : ℕ) (l : List ℕ) → DigitsBelow k l → digitsOf k (length l) (ofDigits k l) ≡ l
+unfolding ofDigits digitsOf
+digitsOf-ofDigits k [] h = refl
+digitsOf-ofDigits k (x ∷ xs) h =
     ap₂ (λ (d : ℕ) (ds : List ℕ). d ∷ ds) (digits-mod (ofDigits k xs) (h 0))
-    (ap (digits k (length xs)) (digits-div (ofDigits k xs) (h 0)) ∙ digits-ofDigits k xs (λ i. h (suc i)))
+    (ap (digitsOf k (length xs)) (digits-div (ofDigits k xs) (h 0)) ∙ digitsOf-ofDigits k xs (λ i. h (suc i)))
 
 -- equal digits mean equal numbers
-pub digits-inj : (k w u v : ℕ) → u < 2 ^ (k * w) → v < 2 ^ (k * w) → digits k w u ≡ digits k w v → u ≡ v
-digits-inj k w u v hu hv e = sym (ofDigits-digits-lt k w u hu) ∙ ap (ofDigits k) e ∙ ofDigits-digits-lt k w v hv
+pub digitsOf-inj : (k w u v : ℕ) → u < 2 ^ (k * w) → v < 2 ^ (k * w) → digitsOf k w u ≡ digitsOf k w v → u ≡ v
+digitsOf-inj k w u v hu hv e = sym (ofDigits-digitsOf-lt k w u hu) ∙ ap (ofDigits k) e ∙ ofDigits-digitsOf-lt k w v hv
 
-pub take-digits : (k j w v : ℕ) → j ≤ w → take j (digits k w v) ≡ digits k j v
-unfolding digits
-take-digits k zero w v h = refl
-take-digits k (suc j) zero v h = absurd (not-suc-le-zero h)
-take-digits k (suc j) (suc w) v h = ap (λ (r : List ℕ). v % 2 ^ k ∷ r) (take-digits k j w (v / 2 ^ k) (le-of-suc-le-suc h))
+pub take-digitsOf : (k j w v : ℕ) → j ≤ w → take j (digitsOf k w v) ≡ digitsOf k j v
+unfolding digitsOf
+take-digitsOf k zero w v h = refl
+take-digitsOf k (suc j) zero v h = absurd (not-suc-le-zero h)
+take-digitsOf k (suc j) (suc w) v h = ap (λ (r : List ℕ). v % 2 ^ k ∷ r) (take-digitsOf k j w (v / 2 ^ k) (le-of-suc-le-suc h))
 
-pub digits-below : (k w v : ℕ) → Below k (digits k w v)
-unfolding digits
-digits-below k zero v i = pow-pos k
-digits-below k (suc w) v zero = mod-lt v (pow-pos k)
-digits-below k (suc w) v (suc i) = digits-below k w (v / 2 ^ k) i
+pub digitsOf-below : (k w v : ℕ) → DigitsBelow k (digitsOf k w v)
+unfolding digitsOf
+digitsOf-below k zero v i = pow-pos k
+digitsOf-below k (suc w) v zero = mod-lt v (pow-pos k)
+digitsOf-below k (suc w) v (suc i) = digitsOf-below k w (v / 2 ^ k) i
 
 -- the digits of a number in two runs
-pub digits-add : (k a b v : ℕ) → digits k (a + b) v ≡ digits k a v ++ digits k b (v / 2 ^ (k * a))
-unfolding digits
-digits-add k zero b v = rw (mul-zero k, div-one v, zero-add b)
-digits-add k (suc a) b v =
+pub digitsOf-add : (k a b v : ℕ) → digitsOf k (a + b) v ≡ digitsOf k a v ++ digitsOf k b (v / 2 ^ (k * a))
+unfolding digitsOf
+digitsOf-add k zero b v = rw (mul-zero k, div-one v, zero-add b)
+digitsOf-add k (suc a) b v =
     rw (suc-add a b)
     (ap (λ (r : List ℕ). v % 2 ^ k ∷ r)
-    (digits-add k a b (v / 2 ^ k)
-    ∙ ap (λ (m : ℕ). digits k a (v / 2 ^ k) ++ digits k b m)
+    (digitsOf-add k a b (v / 2 ^ k)
+    ∙ ap (λ (m : ℕ). digitsOf k a (v / 2 ^ k) ++ digitsOf k b m)
     (div-div-eq-div-mul v (2 ^ k) (2 ^ (k * a)) ∙ ap (λ (m : ℕ). v / m) (mul-comm (2 ^ k) (2 ^ (k * a)) ∙ sym (pow-mul-suc k a)))))
 
 -- ---- bits of a number

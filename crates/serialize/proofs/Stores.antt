@@ -8,8 +8,8 @@ use native.Mathlib.Numerals.{add-one, sub-one}
 use lib.ListN.{length, take, drop, getD, set, length-take, length-drop, length-append, length-set, take-append-drop, drop-of-length-le}
 use lib.Seq.{sets, sets-eq, length-sets, take-length, take-at, drop-at, length-take-le, take-append-le, drop-append-add, drop-drop, take-all, drop-set-add, set-append-left, take-set-le, drop-set-lt}
 use borrow.Rule.Slice.PartMut.{putMid}
-use Rattle.serialize.specs.Digits.{digits, leVal, leBytes}
-use Rattle.serialize.proofs.Digits.{length-digits, ofDigits-digits-lt}
+use Rattle.serialize.specs.Digits.{digitsOf, leVal, leBytes}
+use Rattle.serialize.proofs.Digits.{length-digitsOf, ofDigits-digitsOf-lt}
 
 -- stores one after the other are one run
 pub sets-append : (d a b : List ℕ) (i : ℕ) → sets (sets d i a) (i + length a) b ≡ sets d i (a ++ b)
@@ -52,5 +52,5 @@ copied d w h = sym (sets-eq w d 0 (omega arith) ∙ rw (zero-add (length w), tak
 -- a number written and read back
 pub written-read : (d : List ℕ) (at w v : ℕ) → at + w ≤ length d → v < 2 ^ (8 * w) → leVal (take w (drop at (sets d at (leBytes w v)))) ≡ v
 written-read d at w v h k =
-    let e : take (length (leBytes w v)) (drop at (sets d at (leBytes w v))) ≡ leBytes w v = sets-part d (leBytes w v) at (rw (length-digits 8 w v) h) in
-    ap leVal (rw (length-digits 8 w v) at e) ∙ ofDigits-digits-lt 8 w v k
+    let e : take (length (leBytes w v)) (drop at (sets d at (leBytes w v))) ≡ leBytes w v = sets-part d (leBytes w v) at (rw (length-digitsOf 8 w v) h) in
+    ap leVal (rw (length-digitsOf 8 w v) at e) ∙ ofDigits-digitsOf-lt 8 w v k

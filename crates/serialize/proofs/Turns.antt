@@ -8,10 +8,10 @@ use lib.ListN.{take, drop, getD, set}
 use lib.Seq.{getD-drop, sets}
 use lib.Bits.{bitOr, or-shifted-r}
 use lib.Pow.{shl-exact}
-use Rattle.serialize.specs.Digits.{digits, leVal, leBytes, Below}
+use Rattle.serialize.specs.Digits.{digitsOf, leVal, leBytes, DigitsBelow}
 use Rattle.serialize.proofs.Digits.{ofDigits-suc, ofDigits-take-lt, below-drop}
 
-pub or-next-byte : (s : List ℕ) (at i r : ℕ) → Below 8 s → i < 8 → r ≡ leVal (take i (drop at s))
+pub or-next-byte : (s : List ℕ) (at i r : ℕ) → DigitsBelow 8 s → i < 8 → r ≡ leVal (take i (drop at s))
     → bitOr r (getD s (at + i) 0 * 2 ^ (8 * i) % 2 ^ 64) ≡ leVal (take (i + 1) (drop at s))
 or-next-byte s at i r h l q =
     ap (bitOr r) (shl-exact 8 (8 * i) 64 (h (at + i)) (omega arith))
@@ -19,5 +19,5 @@ or-next-byte s at i r h l q =
     ∙ rw (add-one i, ofDigits-suc, getD-drop, q) refl
 
 pub store-next-byte : (out : List ℕ) (p left x : ℕ) → 0 < left → sets out p (leBytes left x) ≡ sets (set out p (x % 256)) (p + 1) (leBytes (left - 1) (x / 256))
-unfolding digits
+unfolding digitsOf
 store-next-byte out p (suc k) x h = rw (add-one p, sub-one (suc k)) refl

@@ -1,4 +1,4 @@
--- Numbers and their digits of k bits, the lowest digit first. Bytes are digits of 8 bits: document 01's "numbers in files are little-endian".
+-- Numbers and their digits of k bits, the lowest digit first. Bytes are digits of 8 bits (SPECIFICATION 1.4).
 use Prim.Native.Nat.{ℕ, zero, suc, _+_, _*_, _/_, _%_, _^_, _<_}
 use mathlib.Core.List.{List, [], _∷_}
 use lib.ListN.{getD, take, drop}
@@ -9,13 +9,13 @@ ofDigits k [] = 0
 ofDigits k (d ∷ ds) = ofDigits k ds * 2 ^ k + d
 
 -- the w lowest digits of k bits of v
-unfoldable pub digits : ℕ → ℕ → ℕ → List ℕ
-digits k zero v = []
-digits k (suc w) v = v % 2 ^ k ∷ digits k w (v / 2 ^ k)
+unfoldable pub digitsOf : ℕ → ℕ → ℕ → List ℕ
+digitsOf k zero v = []
+digitsOf k (suc w) v = v % 2 ^ k ∷ digitsOf k w (v / 2 ^ k)
 
 -- every element is a digit of k bits
-abbrev pub Below : ℕ → List ℕ → Type 0
-Below k ds = (i : ℕ) → getD ds i 0 < 2 ^ k
+abbrev pub DigitsBelow : ℕ → List ℕ → Type 0
+DigitsBelow k ds = (i : ℕ) → getD ds i 0 < 2 ^ k
 
 -- the number that bytes spell
 abbrev pub leVal : List ℕ → ℕ
@@ -27,4 +27,4 @@ numberAt bytes at w = leVal (take w (drop at bytes))
 
 -- the w bytes of v
 abbrev pub leBytes : ℕ → ℕ → List ℕ
-leBytes w v = digits 8 w v
+leBytes w v = digitsOf 8 w v

@@ -10,10 +10,10 @@ use lib.Dec.{leb}
 use lib.ListN.{getD}
 use Rattle.slope.specs.Column.{column, ColumnOk, ValueOk}
 use Rattle.slope.specs.Step.{LowerOf, HigherOf, Picked}
-use Rattle.slope.specs.Slope.{Point, pointsFrom, slopeAt, lower, higher, lowest, highest, between, bestSlope}
+use Rattle.slope.specs.Slope.{Point, pointsFrom, slopeAt, lowerPoint, higherPoint, lowest, highest, slopeBetween, bestSlope}
 use Rattle.slope.specs.declared.Point as code
 use Rattle.slope.proofs.Column.{column-step}
-use Rattle.slope.proofs.Step.{higher-stays, lower-stays}
+use Rattle.slope.proofs.Step.{higherPoint-stays, lowerPoint-stays}
 
 abbrev pub point : code.Point → Point
 point p = record { i = p .i; v = p .v }
@@ -47,18 +47,18 @@ module _ (n : ℕ) (p r : code.Point) (i v : ℕ) (g : Good n p) where
   picked-point true e = rw (e .0, e .1)
   picked-point false e = rw (e .0, e .1)
 
-  lower-point : LowerOf (p .i) (p .v) (p .slope) i v (r .i) (r .v) (r .slope) → point r ≡ lower (point p) (record { i = i; v = v })
-  unfolding lower
-  lower-point e = rw (← g .sloped) (picked-point (leb (v / i % 2 ^ 32) (p .slope)) e)
+  lowerPoint-point : LowerOf (p .i) (p .v) (p .slope) i v (r .i) (r .v) (r .slope) → point r ≡ lowerPoint (point p) (record { i = i; v = v })
+  unfolding lowerPoint
+  lowerPoint-point e = rw (← g .sloped) (picked-point (leb (v / i % 2 ^ 32) (p .slope)) e)
 
-  higher-point : HigherOf (p .i) (p .v) (p .slope) i v (r .i) (r .v) (r .slope) → point r ≡ higher (point p) (record { i = i; v = v })
-  unfolding higher
-  higher-point e = rw (← g .sloped) (picked-point (leb (p .slope) (v / i % 2 ^ 32)) e)
+  higherPoint-point : HigherOf (p .i) (p .v) (p .slope) i v (r .i) (r .v) (r .slope) → point r ≡ higherPoint (point p) (record { i = i; v = v })
+  unfolding higherPoint
+  higherPoint-point e = rw (← g .sloped) (picked-point (leb (p .slope) (v / i % 2 ^ 32)) e)
 
 -- the slope between the lowest and the highest of lo, hi and the points from place j on
 abbrev pub left : List ℕ → ℕ → ℕ → ℕ → ℕ → Point → Point → ℕ → ℕ
 left area at stride base count lo hi j =
-    between (lowest lo (pointsFrom (j + 1) (column area (at + stride * j) stride base (count - j))))
+    slopeBetween (lowest lo (pointsFrom (j + 1) (column area (at + stride * j) stride base (count - j))))
     (highest hi (pointsFrom (j + 1) (column area (at + stride * j) stride base (count - j))))
 
 module _ (area : List ℕ) (at stride base count : ℕ) where
@@ -69,11 +69,11 @@ module _ (area : List ℕ) (at stride base count : ℕ) where
   unfolding bestSlope
   left-start h = rw (rw (mul-zero, add-zero, sub-zero) at (column-step area at stride base count 0 h))
 
-  left-step : (lo hi : Point) (j : ℕ) → j < count → left area at stride base count (lower lo (record { i = j + 1; v = getD area (at + stride * j) 0 - base })) (higher hi (record { i = j + 1; v = getD area (at + stride * j) 0 - base })) (j + 1) ≡ left area at stride base count lo hi j
+  left-step : (lo hi : Point) (j : ℕ) → j < count → left area at stride base count (lowerPoint lo (record { i = j + 1; v = getD area (at + stride * j) 0 - base })) (higherPoint hi (record { i = j + 1; v = getD area (at + stride * j) 0 - base })) (j + 1) ≡ left area at stride base count lo hi j
   unfolding lowest highest pointsFrom
   left-step lo hi j h = rw (column-step area at stride base count j h, add-one (j + 1))
 
-  left-stop : (lo hi : Point) (j : ℕ) → count ≤ j → left area at stride base count lo hi j ≡ between lo hi
+  left-stop : (lo hi : Point) (j : ℕ) → count ≤ j → left area at stride base count lo hi j ≡ slopeBetween lo hi
   unfolding lowest highest pointsFrom column
   left-stop lo hi j h =
       let e : count - j ≡ 0 = omega arith in
@@ -104,16 +104,16 @@ module _ (area : List ℕ) (at stride base count : ℕ) where
         lows = picked-good count low low′ (j + 1) v (k .lows) (leb (v / (j + 1) % 2 ^ 32) (low .slope)) (omega arith) (omega arith) (omega arith) l;
         highs = picked-good count high high′ (j + 1) v (k .highs) (leb (high .slope) (v / (j + 1) % 2 ^ 32)) (omega arith) (omega arith) (omega arith) g;
         same =
-            rw (lower-point count low low′ (j + 1) v (k .lows) l, higher-point count high high′ (j + 1) v (k .highs) g, e)
+            rw (lowerPoint-point count low low′ (j + 1) v (k .lows) l, higherPoint-point count high high′ (j + 1) v (k .highs) g, e)
             (left-step area at stride base count (point low) (point high) j h ∙ k .same);
       }
 
   -- a point whose slope lies between both
   pub kept-stays : (low high : code.Point) (j v : ℕ) → j < count → Kept area at stride base count low high j → ValueOk area base (at + stride * j) → v ≡ getD area (at + stride * j) 0 - base → low .slope < v / (j + 1) % 2 ^ 32 → v / (j + 1) % 2 ^ 32 < high .slope → Kept area at stride base count low high (j + 1)
   kept-stays low high j v h k ok e l g =
-      kept-step low high low high j v h k ok e (lower-stays (low .slope) (j + 1) v (low .i) (low .v) l) (higher-stays (high .slope) (j + 1) v (high .i) (high .v) g)
+      kept-step low high low high j v h k ok e (lowerPoint-stays (low .slope) (j + 1) v (low .i) (low .v) l) (higherPoint-stays (high .slope) (j + 1) v (high .i) (high .v) g)
 
   -- the slope as the code works it out
   pub kept-stop : (low high : code.Point) (j : ℕ) → count ≤ j → Kept area at stride base count low high j → (low .v + high .v + (low .i + high .i) / 2) / (low .i + high .i) % 2 ^ 32 ≡ bestSlope (column area at stride base count)
-  unfolding between
+  unfolding slopeBetween
   kept-stop low high j h k = sym (left-stop area at stride base count (point low) (point high) j h) ∙ k .same

@@ -20,18 +20,18 @@ module _ (p q r : code.Point) (i v : ℕ) (h : (q .i ≡ i) × (q .v ≡ v) × (
   picked true e = rw e (h .0, h .1, refl)
   picked false e = rw e (refl, refl, refl)
 
-  pub lower-new : r ≡ cond (leb (q .slope) (p .slope)) q p → LowerOf (p .i) (p .v) (p .slope) i v (r .i) (r .v) (r .slope)
-  lower-new e = rw (← h .2) (picked (leb (q .slope) (p .slope)) e)
+  pub lowerPoint-new : r ≡ cond (leb (q .slope) (p .slope)) q p → LowerOf (p .i) (p .v) (p .slope) i v (r .i) (r .v) (r .slope)
+  lowerPoint-new e = rw (← h .2) (picked (leb (q .slope) (p .slope)) e)
 
-  pub higher-new : r ≡ cond (leb (p .slope) (q .slope)) q p → HigherOf (p .i) (p .v) (p .slope) i v (r .i) (r .v) (r .slope)
-  higher-new e = rw (← h .2) (picked (leb (p .slope) (q .slope)) e)
+  pub higherPoint-new : r ≡ cond (leb (p .slope) (q .slope)) q p → HigherOf (p .i) (p .v) (p .slope) i v (r .i) (r .v) (r .slope)
+  higherPoint-new e = rw (← h .2) (picked (leb (p .slope) (q .slope)) e)
 
 module _ (s i v pi pv : ℕ) where
-  pub lower-stays : s < v / i % 2 ^ 32 → LowerOf pi pv s i v pi pv s
-  lower-stays h = simp (lt-leb (v / i % 2 ^ 32) s h) (refl, refl, refl)
+  pub lowerPoint-stays : s < v / i % 2 ^ 32 → LowerOf pi pv s i v pi pv s
+  lowerPoint-stays h = simp (lt-leb (v / i % 2 ^ 32) s h) (refl, refl, refl)
 
-  pub higher-stays : v / i % 2 ^ 32 < s → HigherOf pi pv s i v pi pv s
-  higher-stays h = simp (lt-leb s (v / i % 2 ^ 32) h) (refl, refl, refl)
+  pub higherPoint-stays : v / i % 2 ^ 32 < s → HigherOf pi pv s i v pi pv s
+  higherPoint-stays h = simp (lt-leb s (v / i % 2 ^ 32) h) (refl, refl, refl)
 
 module _ (s i v : ℕ) (pos : 0 < i) where
   pub below-div : v < s * i → v / i < s
@@ -58,12 +58,12 @@ module _ (s i v : ℕ) (pos : 0 < i) where
   fits h = div-lt-iff-lt-mul {k = i} {x = v} {y = 2 ^ 32} pos .1 (omega arith)
 
   module _ (pi pv : ℕ) where
-    pub lower-ties : s < 2 ^ 32 → s * i ≤ v → v < s * i + i → LowerOf pi pv s i v i v s
-    lower-ties few h k =
+    pub lowerPoint-ties : s < 2 ^ 32 → s * i ≤ v → v < s * i + i → LowerOf pi pv s i v i v s
+    lowerPoint-ties few h k =
         let e = level few h k in
         simp (le-leb (v / i % 2 ^ 32) s (omega arith)) (refl, refl, omega arith)
 
-    pub higher-ties : s < 2 ^ 32 → s * i ≤ v → v < s * i + i → HigherOf pi pv s i v i v s
-    higher-ties few h k =
+    pub higherPoint-ties : s < 2 ^ 32 → s * i ≤ v → v < s * i + i → HigherOf pi pv s i v i v s
+    higherPoint-ties few h k =
         let e = level few h k in
         simp (le-leb s (v / i % 2 ^ 32) (omega arith)) (refl, refl, omega arith)

@@ -8,7 +8,7 @@ use native.Mathlib.Numerals.{add-one}
 use lib.ListN.{length, getD}
 use lib.Pow.{pow-mono}
 use Rattle.bitpacker.specs.Bits.{numBits}
-use Rattle.slope.specs.Slope.{bestSlope, between, derivation, maxDerivation, storedOf, widthOf}
+use Rattle.slope.specs.Slope.{bestSlope, slopeBetween, derivation, maxDerivation, storedOf, widthOf}
 use Rattle.bitpacker.proofs.NumBits.{numBits-lt, numBits-le}
 
 one-add : (j : ℕ) → 1 + j ≡ suc j
@@ -86,6 +86,6 @@ module _ (s k : ℕ) (vs : List ℕ) (slope : s < 2 ^ 32) (few : length vs ≤ 2
   width-le high = omega (arith, numBits-le k (maxDerivation s 1 vs) (omega arith) maxDerivation-below)
 
 pub bestSlope-lt : (vs : List ℕ) → bestSlope vs < 2 ^ 32
-unfolding bestSlope between
+unfolding bestSlope slopeBetween
 bestSlope-lt [] = omega arith
 bestSlope-lt (v ∷ vs) = omega arith

@@ -186,7 +186,9 @@ pub struct Slope {
 // The slope of the values and the width that they need with it.
 pub fn find_best_slope(area: &[u64], at: usize, stride: usize, base: u64, count: usize) -> Slope
     requires { ⌜ ColumnOk (now area) at stride base count ⌝ }
-    ensures { λ r. ⌜ (r .slope ≡ bestSlope (column (now (area .entry)) at stride base count)) × (r .nbits ≡ widthOf (bestSlope (column (now (area .entry)) at stride base count)) (column (now (area .entry)) at stride base count)) ⌝ }
+    ensures { λ r. ⌜ (r .slope ≡ bestSlope (column (now (area .entry)) at stride base count))
+        × (r .nbits ≡ widthOf (bestSlope (column (now (area .entry)) at stride base count))
+        (column (now (area .entry)) at stride base count)) ⌝ }
 {
     let slope = best_slope(area, at, stride, base, count);
     let nbits = width_of(area, at, stride, base, count, slope);

@@ -10,14 +10,14 @@ use Rattle.serialize.specs.Digits.{leBytes}
 use Rattle.slope.specs.Slope.{bestSlope}
 use Rattle.group.specs.Blocks.{blocksAt}
 use Rattle.group.proofs.Blocks.{length-blocksAt}
-use Rattle.store.specs.Store.{groupCount, groupRecord, groupAddrs, records, addrs, storeBytes}
+use Rattle.store.specs.Store.{groupCount, groupRecord, groupAddrs, groupRecords, addrs, storeBytes}
 use Rattle.store.specs.Facts.{GroupLenOk, StoreArea}
 use Rattle.store.proofs.Groups.{group-count-turn}
 use Rattle.store.proofs.Stored.{sets-turn, addrs-turn, length-addrs-turn, records-turn, addrs-none, records-none, length-record, length-records-area, length-store-area, sets-store-area}
 
 -- the groups from block `first` on
 abbrev pub rest : List ℕ → ℕ → ℕ → ℕ → ℕ → ℕ → List ℕ
-rest area stride n L first offset = records bestSlope L (groupCount L (n - first)) offset (blocksAt area stride first (n - first))
+rest area stride n L first offset = groupRecords bestSlope L (groupCount L (n - first)) offset (blocksAt area stride first (n - first))
 
 abbrev pub bits : List ℕ → ℕ → ℕ → ℕ → ℕ → List ℕ
 bits area stride n L first = addrs bestSlope L (groupCount L (n - first)) (blocksAt area stride first (n - first))
@@ -34,7 +34,7 @@ pub record Left (area : List ℕ) (stride n L : ℕ) (out₀ : List ℕ) (base :
   pub bits-end : offset + length (bits area stride n L first) ≡ length (addrs bestSlope L (groupCount L n) (blocksAt area stride 0 n))
   pub long : length out ≡ length out₀
   pub same : both area stride n L out meta-at (base + offset) offset first
-      ≡ sets (sets out₀ 8 (records bestSlope L (groupCount L n) 0 (blocksAt area stride 0 n))) base (addrs bestSlope L (groupCount L n) (blocksAt area stride 0 n))
+      ≡ sets (sets out₀ 8 (groupRecords bestSlope L (groupCount L n) 0 (blocksAt area stride 0 n))) base (addrs bestSlope L (groupCount L n) (blocksAt area stride 0 n))
 
 pub left-all : (area : List ℕ) (stride n L : ℕ) (out : List ℕ) (base : ℕ) → base ≡ 8 + 36 * groupCount L n → Left area stride n L out base out 8 0 0
 left-all area stride n L out base e = record {
@@ -50,7 +50,7 @@ module _ {area : List ℕ} {stride n L : ℕ} {out₀ : List ℕ} {base : ℕ} {
     (left : Left area stride n L out₀ base out meta-at offset first) (group : GroupLenOk L) where
   -- behind the last group
   pub left-none : n ≤ first → (base + offset ≡ length (storeBytes bestSlope L (blocksAt area stride 0 n)))
-      × (out ≡ sets (sets out₀ 8 (records bestSlope L (groupCount L n) 0 (blocksAt area stride 0 n))) base (addrs bestSlope L (groupCount L n) (blocksAt area stride 0 n)))
+      × (out ≡ sets (sets out₀ 8 (groupRecords bestSlope L (groupCount L n) 0 (blocksAt area stride 0 n))) base (addrs bestSlope L (groupCount L n) (blocksAt area stride 0 n)))
   left-none none =
       let no-bits = addrs-none bestSlope (group .some) n first none (blocksAt area stride first (n - first)) in
       let no-records = records-none bestSlope (group .some) n first none (blocksAt area stride first (n - first)) offset in (
@@ -99,6 +99,6 @@ module _ {area : List ℕ} {stride n L : ℕ} {out₀ : List ℕ} {base : ℕ} {
 
 -- the length, then records and bits
 pub whole : {area : List ℕ} {stride n L : ℕ} → StoreArea area stride n → GroupLenOk L → (out out₀ l : List ℕ) (g : ℕ) → g ≡ groupCount L n → out₀ ≡ sets out 0 (leBytes 8 (36 * g))
-    → l ≡ sets (sets out₀ 8 (records bestSlope L (groupCount L n) 0 (blocksAt area stride 0 n))) (8 + 36 * g) (addrs bestSlope L (groupCount L n) (blocksAt area stride 0 n))
+    → l ≡ sets (sets out₀ 8 (groupRecords bestSlope L (groupCount L n) 0 (blocksAt area stride 0 n))) (8 + 36 * g) (addrs bestSlope L (groupCount L n) (blocksAt area stride 0 n))
     → l ≡ sets out 0 (storeBytes bestSlope L (blocksAt area stride 0 n))
 whole {area} {stride} {n} store group out out₀ l g e e₀ e′ = e′ ∙ rw (e₀, e) (sets-store-area bestSlope (group .some) area stride 0 n out)

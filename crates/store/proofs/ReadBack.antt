@@ -9,8 +9,8 @@ use native.Mathlib.Omega.{arith}
 use borrow.Author.Tests.{lt-leb}
 use lib.ListN.{length, take, drop, length-append, length-take, length-drop}
 use lib.Seq.{ext-getD, getD-take, getD-drop, take-at, drop-at}
-use Rattle.serialize.specs.Digits.{leVal, leBytes, Below}
-use Rattle.serialize.proofs.Digits.{length-digits, digits-inj, below-drop}
+use Rattle.serialize.specs.Digits.{leVal, leBytes, DigitsBelow}
+use Rattle.serialize.proofs.Digits.{length-digitsOf, digitsOf-inj, below-drop}
 use Rattle.slope.specs.Slope.{bestSlope}
 use Rattle.slope.proofs.Widths.{bestSlope-lt}
 use Rattle.group.specs.Blocks.{blockOf, blocksAt}
@@ -27,7 +27,7 @@ use Rattle.group.proofs.Metadata.{MetaFits, meta-back}
 use Rattle.group.proofs.Written.{fits, length-addrBytes}
 use Rattle.group.proofs.Reading.{GroupOk, group-not-bad}
 use Rattle.group.proofs.Back.{block-back}
-use Rattle.store.specs.Store.{groupCount, groupAddrs, records, addrs, storeBytes}
+use Rattle.store.specs.Store.{groupCount, groupAddrs, groupRecords, addrs, storeBytes}
 use Rattle.store.specs.Read.{groupMeta, groupLen, storeBlock, metaBad, storeGet, StoreOk}
 use Rattle.store.specs.Facts.{GroupLenOk, StoreArea}
 use Rattle.store.specs.declared.Got.the-variants.{Block}
@@ -115,9 +115,9 @@ module _ {choose : List ℕ → ℕ} {L : ℕ} {bs : List BlockAddr} (given : St
         }
 
     -- its record
-    group-meta : groupMeta (records choose L count 0 bs) g ≡ meta
+    group-meta : groupMeta (groupRecords choose L count 0 bs) g ≡ meta
     group-meta =
-        meta-back meta (records choose L count 0 bs) (36 * g) meta-fits
+        meta-back meta (groupRecords choose L count 0 bs) (36 * g) meta-fits
         (record-at choose (given .group .some) bs count g inside there 0 ∙ rw (zero-add (length (addrs choose L g bs))))
 
     -- its bits
@@ -129,8 +129,8 @@ module _ {choose : List ℕ → ℕ} {L : ℕ} {bs : List BlockAddr} (given : St
     unfolding metaOf
     offset-is = refl
 
-    module _ (rest : List ℕ) (bytes : Below 8 rest) where
-      group-good : metaBad L (records choose L count 0 bs) (addrs choose L count bs ++ rest) (length bs) g ≡ false
+    module _ (rest : List ℕ) (bytes : DigitsBelow 8 rest) where
+      group-good : metaBad L (groupRecords choose L count 0 bs) (addrs choose L count bs ++ rest) (length bs) g ≡ false
       unfolding metaBad
       group-good =
           let n = given .legal .numbers (L * g) there in
@@ -155,7 +155,7 @@ module _ {choose : List ℕ → ℕ} {L : ℕ} {bs : List BlockAddr} (given : St
 
       -- its block j
       block-at : (j : ℕ) → j < groupLen L (length bs) g
-          → blockRead (groupMeta (records choose L count 0 bs) g) (leVal (drop (groupMeta (records choose L count 0 bs) g .offset) (addrs choose L count bs ++ rest))) j
+          → blockRead (groupMeta (groupRecords choose L count 0 bs) g) (leVal (drop (groupMeta (groupRecords choose L count 0 bs) g .offset) (addrs choose L count bs ++ rest))) j
           ≡ blockOf bs (L * g + j)
       block-at j h =
           let addr = addrs choose L count bs ++ rest in
@@ -176,11 +176,11 @@ module _ {choose : List ℕ → ℕ} {L : ℕ} {bs : List BlockAddr} (given : St
       (omega arith, omega arith)
 
   -- with any bytes behind the address bytes
-  pub read-back-rest : (rest : List ℕ) → Below 8 rest
-      → ReadsBack L (records choose L (groupCount L (length bs)) 0 bs) (addrs choose L (groupCount L (length bs)) bs ++ rest) bs
+  pub read-back-rest : (rest : List ℕ) → DigitsBelow 8 rest
+      → ReadsBack L (groupRecords choose L (groupCount L (length bs)) 0 bs) (addrs choose L (groupCount L (length bs)) bs ++ rest) bs
   unfolding storeGet storeBlock
   read-back-rest rest bytes =
-      let recs = records choose L (groupCount L (length bs)) 0 bs in
+      let recs = groupRecords choose L (groupCount L (length bs)) 0 bs in
       let addr = addrs choose L (groupCount L (length bs)) bs ++ rest in
       let groups : (g : ℕ) → L * g < length bs → metaBad L recs addr (length bs) g ≡ false = λ g h. group-good given g h rest bytes in
       let blocks : (i : ℕ) → i < length bs → storeBlock L recs addr i ≡ blockOf bs i =
@@ -195,12 +195,12 @@ module _ {choose : List ℕ → ℕ} {L : ℕ} {bs : List BlockAddr} (given : St
         };
       }
 
-  pub read-back : ReadsBack L (records choose L (groupCount L (length bs)) 0 bs) (addrs choose L (groupCount L (length bs)) bs) bs
+  pub read-back : ReadsBack L (groupRecords choose L (groupCount L (length bs)) 0 bs) (addrs choose L (groupCount L (length bs)) bs) bs
   read-back = rw (append-nil (addrs choose L (groupCount L (length bs)) bs)) at (read-back-rest [] (λ i. omega arith))
 
   -- how many blocks there are, from the last group's record
   count-back : (k : ℕ) → groupCount L (length bs) ≡ suc k
-      → length bs ≡ L * k + suc (groupMeta (records choose L (groupCount L (length bs)) 0 bs) k .«block_len»)
+      → length bs ≡ L * k + suc (groupMeta (groupRecords choose L (groupCount L (length bs)) 0 bs) k .«block_len»)
   count-back k e =
       let first = group-first-lt (given .group .some) (length bs) k (omega arith) in
       let above : length bs ≤ L * suc k = rw e at (group-count-above (given .group .some) (length bs)) in
@@ -219,34 +219,34 @@ module _ {choose choose′ : List ℕ → ℕ} {L : ℕ} {bs bs′ : List BlockA
   unfolding storeBytes
   same-count =
       let first : leBytes 8 (36 * size) ≡ leBytes 8 (36 * size′) =
-      sym (take-at (leBytes 8 (36 * size)) (records choose L size 0 bs ++ addrs choose L size bs) 8 (length-digits 8 8 (36 * size)))
-      ∙ ap (take 8) e ∙ take-at (leBytes 8 (36 * size′)) (records choose′ L size′ 0 bs′ ++ addrs choose′ L size′ bs′) 8 (length-digits 8 8 (36 * size′)) in
+      sym (take-at (leBytes 8 (36 * size)) (groupRecords choose L size 0 bs ++ addrs choose L size bs) 8 (length-digitsOf 8 8 (36 * size)))
+      ∙ ap (take 8) e ∙ take-at (leBytes 8 (36 * size′)) (groupRecords choose′ L size′ 0 bs′ ++ addrs choose′ L size′ bs′) 8 (length-digitsOf 8 8 (36 * size′)) in
       let few = group-count-le (given .group .some) (length bs) in
       let few′ = group-count-le (given .group .some) (length bs′) in
-      let same = digits-inj 8 8 (36 * size) (36 * size′) (omega (arith, given .few)) (omega (arith, given′ .few)) first in
+      let same = digitsOf-inj 8 8 (36 * size) (36 * size′) (omega (arith, given .few)) (omega (arith, given′ .few)) first in
       omega arith
 
-  behind : records choose L size 0 bs ++ addrs choose L size bs ≡ records choose′ L size′ 0 bs′ ++ addrs choose′ L size′ bs′
+  behind : groupRecords choose L size 0 bs ++ addrs choose L size bs ≡ groupRecords choose′ L size′ 0 bs′ ++ addrs choose′ L size′ bs′
   unfolding storeBytes
   behind =
-      sym (drop-at (leBytes 8 (36 * size)) (records choose L size 0 bs ++ addrs choose L size bs) 8 (length-digits 8 8 (36 * size)))
-      ∙ ap (drop 8) e ∙ drop-at (leBytes 8 (36 * size′)) (records choose′ L size′ 0 bs′ ++ addrs choose′ L size′ bs′) 8 (length-digits 8 8 (36 * size′))
+      sym (drop-at (leBytes 8 (36 * size)) (groupRecords choose L size 0 bs ++ addrs choose L size bs) 8 (length-digitsOf 8 8 (36 * size)))
+      ∙ ap (drop 8) e ∙ drop-at (leBytes 8 (36 * size′)) (groupRecords choose′ L size′ 0 bs′ ++ addrs choose′ L size′ bs′) 8 (length-digitsOf 8 8 (36 * size′))
 
-  records-long : length (records choose L size 0 bs) ≡ 36 * size
+  records-long : length (groupRecords choose L size 0 bs) ≡ 36 * size
   records-long = length-records choose L size 0 bs (given .group .some) (group-count-below (given .group .some) (length bs))
 
-  records-long′ : length (records choose′ L size′ 0 bs′) ≡ 36 * size
+  records-long′ : length (groupRecords choose′ L size′ 0 bs′) ≡ 36 * size
   records-long′ = length-records choose′ L size′ 0 bs′ (given .group .some) (group-count-below (given .group .some) (length bs′)) ∙ ap (λ (x : ℕ). 36 * x) (sym same-count)
 
-  same-records : records choose L size 0 bs ≡ records choose′ L size′ 0 bs′
+  same-records : groupRecords choose L size 0 bs ≡ groupRecords choose′ L size′ 0 bs′
   same-records =
-      sym (take-at (records choose L size 0 bs) (addrs choose L size bs) (36 * size) records-long)
-      ∙ ap (take (36 * size)) behind ∙ take-at (records choose′ L size′ 0 bs′) (addrs choose′ L size′ bs′) (36 * size) records-long′
+      sym (take-at (groupRecords choose L size 0 bs) (addrs choose L size bs) (36 * size) records-long)
+      ∙ ap (take (36 * size)) behind ∙ take-at (groupRecords choose′ L size′ 0 bs′) (addrs choose′ L size′ bs′) (36 * size) records-long′
 
   same-addrs : addrs choose L size bs ≡ addrs choose′ L size′ bs′
   same-addrs =
-      sym (drop-at (records choose L size 0 bs) (addrs choose L size bs) (36 * size) records-long)
-      ∙ ap (drop (36 * size)) behind ∙ drop-at (records choose′ L size′ 0 bs′) (addrs choose′ L size′ bs′) (36 * size) records-long′
+      sym (drop-at (groupRecords choose L size 0 bs) (addrs choose L size bs) (36 * size) records-long)
+      ∙ ap (drop (36 * size)) behind ∙ drop-at (groupRecords choose′ L size′ 0 bs′) (addrs choose′ L size′ bs′) (36 * size) records-long′
 
   same-length : length bs ≡ length bs′
   same-length =

@@ -6,8 +6,8 @@ use native.Mathlib.Nat.{add-zero, zero-add, suc-add, add-assoc, mul-zero, mul-su
 use native.Mathlib.Omega.{arith}
 use lib.ListN.{length, take, drop, set, length-append, length-take, length-drop}
 use lib.Seq.{sets, set-comm, take-at, drop-at, drop-drop, drop-cons}
-use Rattle.serialize.specs.Digits.{leBytes, Below}
-use Rattle.serialize.proofs.Digits.{length-digits, digits-below}
+use Rattle.serialize.specs.Digits.{leBytes, DigitsBelow}
+use Rattle.serialize.proofs.Digits.{length-digitsOf, digitsOf-below}
 use Rattle.serialize.proofs.Stores.{sets-append}
 use Rattle.group.specs.Blocks.{blockOf, blockAt, blocksAt}
 use Rattle.group.specs.Legal.{Legal}
@@ -19,7 +19,7 @@ use Rattle.group.specs.declared.BlockAddrBlockMetadata.{BlockAddrBlockMetadata}
 use Rattle.group.proofs.Blocks.{length-blocksAt, group-legal, length-group}
 use Rattle.group.proofs.Metadata.{length-metaBytes}
 use Rattle.group.proofs.Written.{fits, length-addrBytes}
-use Rattle.store.specs.Store.{groupCount, groupRecord, groupAddrs, records, addrs, storeBytes}
+use Rattle.store.specs.Store.{groupCount, groupRecord, groupAddrs, groupRecords, addrs, storeBytes}
 use Rattle.store.specs.Facts.{GroupLenOk, StoreArea}
 use Rattle.store.proofs.Groups.{group-count-zero, group-count-turn, group-count-below, group-count-le, blocksAt-cons, take-blocksAt, blocks-left, legal-take, legal-drop, store-legal}
 
@@ -44,7 +44,7 @@ sets-turn d a a′ b b′ i j h =
     ∙ sets-append (sets (sets d i a) (i + length a) a′) b b′ j
     ∙ ap (λ (l : List ℕ). sets l j (b ++ b′)) (sets-append d a a′ i)
 
-pub below-append : (k : ℕ) (a b : List ℕ) → Below k a → Below k b → Below k (a ++ b)
+pub below-append : (k : ℕ) (a b : List ℕ) → DigitsBelow k a → DigitsBelow k b → DigitsBelow k (a ++ b)
 below-append k [] b ha hb i = hb i
 below-append k (x ∷ a) b ha hb zero = ha 0
 below-append k (x ∷ a) b ha hb (suc i) = below-append k a b (λ j. ha (suc j)) hb i
@@ -71,11 +71,11 @@ module _ (choose : List ℕ → ℕ) where
         ∙ length-append (groupAddrs choose (blocksAt area stride first count))
         (addrs choose L (groupCount L (n - (first + count))) (blocksAt area stride (first + count) (n - (first + count))))
 
-    pub records-turn : (offset : ℕ) → records choose L (groupCount L (n - first)) offset (blocksAt area stride first (n - first))
+    pub records-turn : (offset : ℕ) → groupRecords choose L (groupCount L (n - first)) offset (blocksAt area stride first (n - first))
         ≡ groupRecord choose offset (blocksAt area stride first count)
-        ++ records choose L (groupCount L (n - (first + count))) (offset + length (groupAddrs choose (blocksAt area stride first count)))
+        ++ groupRecords choose L (groupCount L (n - (first + count))) (offset + length (groupAddrs choose (blocksAt area stride first count)))
         (blocksAt area stride (first + count) (n - (first + count)))
-    unfolding records
+    unfolding groupRecords
     records-turn offset = rw (group-count-turn some n first count is more, next-group, blocks-left area stride L n first count is)
 
   -- no group is left behind the last block
@@ -87,8 +87,8 @@ module _ (choose : List ℕ → ℕ) where
     unfolding addrs
     addrs-none = rw none-left
 
-    pub records-none : (offset : ℕ) → records choose L (groupCount L (n - first)) offset bs ≡ []
-    unfolding records
+    pub records-none : (offset : ℕ) → groupRecords choose L (groupCount L (n - first)) offset bs ≡ []
+    unfolding groupRecords
     records-none offset = rw none-left
 
   -- its record as it is planned
@@ -122,44 +122,44 @@ module _ (choose : List ℕ → ℕ) where
   length-record offset (b ∷ bs) h = length-metaBytes (metaOf choose offset b bs)
 
   -- k groups of which none is empty
-  pub length-records : (L k offset : ℕ) (bs : List BlockAddr) → 1 ≤ L → L * k < length bs + L → length (records choose L k offset bs) ≡ 36 * k
-  unfolding records
+  pub length-records : (L k offset : ℕ) (bs : List BlockAddr) → 1 ≤ L → L * k < length bs + L → length (groupRecords choose L k offset bs) ≡ 36 * k
+  unfolding groupRecords
   length-records L zero offset bs some h = refl
   length-records L (suc k) offset bs some h =
       let more : L * k < length bs = omega (arith, mul-suc L k) in
       let rest = offset + length (groupAddrs choose (take L bs)) in
       let one = length-record offset (take L bs) (rw (length-take L bs) (omega arith)) in
       let others = length-records L k rest (drop L bs) some (rw (length-drop L bs) (omega arith)) in
-      length-append (groupRecord choose offset (take L bs)) (records choose L k rest (drop L bs)) ∙ omega arith
+      length-append (groupRecord choose offset (take L bs)) (groupRecords choose L k rest (drop L bs)) ∙ omega arith
 
   pub length-storeBytes : (L : ℕ) (bs : List BlockAddr) → 1 ≤ L
       → length (storeBytes choose L bs) ≡ 8 + 36 * groupCount L (length bs) + length (addrs choose L (groupCount L (length bs)) bs)
   unfolding storeBytes
   length-storeBytes L bs some =
       let G = groupCount L (length bs) in
-      let n = length-digits 8 8 (36 * G) in
+      let n = length-digitsOf 8 8 (36 * G) in
       let r = length-records L G 0 bs some (group-count-below some (length bs)) in
-      let m = length-append (records choose L G 0 bs) (addrs choose L G bs) in
-      length-append (leBytes 8 (36 * G)) (records choose L G 0 bs ++ addrs choose L G bs) ∙ omega arith
+      let m = length-append (groupRecords choose L G 0 bs) (addrs choose L G bs) in
+      length-append (leBytes 8 (36 * G)) (groupRecords choose L G 0 bs ++ addrs choose L G bs) ∙ omega arith
 
   -- the store in its three parts
   pub sets-store : (d : List ℕ) (L : ℕ) (bs : List BlockAddr) → 1 ≤ L
-      → sets (sets (sets d 0 (leBytes 8 (36 * groupCount L (length bs)))) 8 (records choose L (groupCount L (length bs)) 0 bs))
+      → sets (sets (sets d 0 (leBytes 8 (36 * groupCount L (length bs)))) 8 (groupRecords choose L (groupCount L (length bs)) 0 bs))
       (8 + 36 * groupCount L (length bs)) (addrs choose L (groupCount L (length bs)) bs)
       ≡ sets d 0 (storeBytes choose L bs)
   unfolding storeBytes
   sets-store d L bs some =
       let G = groupCount L (length bs) in
       let head = leBytes 8 (36 * G) in
-      let recs = records choose L G 0 bs in
+      let recs = groupRecords choose L G 0 bs in
       let bits = addrs choose L G bs in
-      let n : 0 + length head ≡ 8 = omega (arith, length-digits 8 8 (36 * G)) in
+      let n : 0 + length head ≡ 8 = omega (arith, length-digitsOf 8 8 (36 * G)) in
       let r = length-records L G 0 bs some (group-count-below some (length bs)) in
       (rw r at (sets-append (sets d 0 head) recs bits 8)) ∙ (rw n at (sets-append d head (recs ++ bits) 0))
 
   -- the same of the blocks of an area
   module _ {L : ℕ} (some : 1 ≤ L) (area : List ℕ) (stride i n : ℕ) where
-    pub length-records-area : (offset : ℕ) → length (records choose L (groupCount L n) offset (blocksAt area stride i n)) ≡ 36 * groupCount L n
+    pub length-records-area : (offset : ℕ) → length (groupRecords choose L (groupCount L n) offset (blocksAt area stride i n)) ≡ 36 * groupCount L n
     length-records-area offset =
         length-records L (groupCount L n) offset (blocksAt area stride i n) some (rw (length-blocksAt area stride i n) (group-count-below some n))
 
@@ -168,7 +168,7 @@ module _ (choose : List ℕ → ℕ) where
     length-store-area = rw (length-blocksAt area stride i n) at (length-storeBytes L (blocksAt area stride i n) some)
 
     pub sets-store-area : (d : List ℕ)
-        → sets (sets (sets d 0 (leBytes 8 (36 * groupCount L n))) 8 (records choose L (groupCount L n) 0 (blocksAt area stride i n)))
+        → sets (sets (sets d 0 (leBytes 8 (36 * groupCount L n))) 8 (groupRecords choose L (groupCount L n) 0 (blocksAt area stride i n)))
         (8 + 36 * groupCount L n) (addrs choose L (groupCount L n) (blocksAt area stride i n))
         ≡ sets d 0 (storeBytes choose L (blocksAt area stride i n))
     sets-store-area d = rw (length-blocksAt area stride i n) at (sets-store d L (blocksAt area stride i n) some)
@@ -213,9 +213,9 @@ module _ (choose : List ℕ → ℕ) where
       rw (suc-add g k, e, ← (drop-drop (L * g) L bs), append-assoc, addrs-add L g k (drop L bs))
 
   pub records-add : (L g k offset : ℕ) (bs : List BlockAddr)
-      → records choose L (g + k) offset bs
-      ≡ records choose L g offset bs ++ records choose L k (offset + length (addrs choose L g bs)) (drop (L * g) bs)
-  unfolding records addrs
+      → groupRecords choose L (g + k) offset bs
+      ≡ groupRecords choose L g offset bs ++ groupRecords choose L k (offset + length (addrs choose L g bs)) (drop (L * g) bs)
+  unfolding groupRecords addrs
   records-add L zero k offset bs = rw (zero-add k, mul-zero L, add-zero offset)
   records-add L (suc g) k offset bs =
       let e : L * suc g ≡ L + L * g = omega (arith, mul-suc L g) in
@@ -231,17 +231,17 @@ module _ (choose : List ℕ → ℕ) where
         ∙ ap (λ (n : ℕ). take n (blockOf bs (L * g) ∷ drop (suc (L * g)) bs)) e
 
     -- its record
-    pub record-at : (offset : ℕ) → take 36 (drop (36 * g) (records choose L G offset bs))
+    pub record-at : (offset : ℕ) → take 36 (drop (36 * g) (groupRecords choose L G offset bs))
         ≡ metaBytes (metaOf choose (offset + length (addrs choose L g bs)) (blockOf bs (L * g)) (take (L - 1) (drop (suc (L * g)) bs)))
-    unfolding records groupRecord
+    unfolding groupRecords groupRecord
     record-at offset =
         let e : G ≡ g + suc (G - suc g) = omega arith in
         let at = offset + length (addrs choose L g bs) in
         let one = metaOf choose at (blockOf bs (L * g)) (take (L - 1) (drop (suc (L * g)) bs)) in
-        ap (λ (n : ℕ). take 36 (drop (36 * g) (records choose L n offset bs))) e
+        ap (λ (n : ℕ). take 36 (drop (36 * g) (groupRecords choose L n offset bs))) e
         ∙ rw (
           records-add L g (suc (G - suc g)) offset bs,
-          drop-at (records choose L g offset bs) (records choose L (suc (G - suc g)) at (drop (L * g) bs)) (36 * g) (length-records L g offset bs some (omega arith)),
+          drop-at (groupRecords choose L g offset bs) (groupRecords choose L (suc (G - suc g)) at (drop (L * g) bs)) (36 * g) (length-records L g offset bs some (omega arith)),
           group-cons,
         )
         (take-at (metaBytes one) _ 36 (length-metaBytes one))
@@ -274,14 +274,14 @@ module _ (choose : List ℕ → ℕ) where
 
   -- ---- all are bytes
 
-  group-below : (bs : List BlockAddr) → Below 8 (groupAddrs choose bs)
+  group-below : (bs : List BlockAddr) → DigitsBelow 8 (groupAddrs choose bs)
   unfolding groupAddrs addrBytes
   group-below [] i = omega arith
   group-below (b ∷ bs) i =
       let m = metaOf choose 0 b bs in
-      digits-below 8 (((m .«range_start_nbits» + m .«first_ordinal_nbits») * length bs + m .«range_start_nbits» + 7) / 8) (groupNumber m b bs) i
+      digitsOf-below 8 (((m .«range_start_nbits» + m .«first_ordinal_nbits») * length bs + m .«range_start_nbits» + 7) / 8) (groupNumber m b bs) i
 
-  pub addrs-below : (L k : ℕ) (bs : List BlockAddr) → Below 8 (addrs choose L k bs)
+  pub addrs-below : (L k : ℕ) (bs : List BlockAddr) → DigitsBelow 8 (addrs choose L k bs)
   unfolding addrs
   addrs-below L zero bs i = omega arith
   addrs-below L (suc k) bs i = below-append 8 (groupAddrs choose (take L bs)) (addrs choose L k (drop L bs)) (group-below (take L bs)) (addrs-below L k (drop L bs)) i

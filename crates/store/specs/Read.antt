@@ -4,6 +4,7 @@ use mathlib.Core.Path.{_≡_}
 use mathlib.Core.List.{List}
 use mathlib.Core.Bool.{Bool, false, _||_, cond}
 use lib.ListN.{length, drop}
+use Rattle.layout.specs.Layout.{metaLen}
 use Rattle.serialize.specs.Digits.{leVal}
 use Rattle.group.specs.declared.BlockAddr.{BlockAddr}
 use Rattle.group.specs.declared.BlockAddrBlockMetadata.{BlockAddrBlockMetadata}
@@ -14,12 +15,12 @@ use Rattle.group.specs.Read.{groupBad, firstValuesBad, blockRead}
 use Rattle.store.specs.Store.{groupCount}
 use Rattle.store.specs.declared.Got.{Got}
 use Rattle.store.specs.declared.Got.the-variants.{Block, Broken}
-use Rattle.store.specs.declared.Located.{Located}
-use Rattle.store.specs.declared.Located.the-variants.{At, Below, Unsound}
+use Rattle.store.specs.declared.OrdFound.{OrdFound}
+use Rattle.store.specs.declared.OrdFound.the-variants.{At, Below, Broken}
 
 -- the record of group g
 abbrev pub groupMeta : List ℕ → ℕ → BlockAddrBlockMetadata
-groupMeta recs g = metaAt recs (36 * g)
+groupMeta recs g = metaAt recs (metaLen * g)
 
 -- how many of n blocks group g has
 abbrev pub groupLen : ℕ → ℕ → ℕ → ℕ
@@ -36,12 +37,18 @@ metaBad L recs addr n g = groupBad (groupMeta recs g) (groupLen L n g) (length a
 
 -- block i as it is read; numbers that break row 3 stand for a group that can't be read
 unfoldable pub blockOr : ℕ → List ℕ → List ℕ → ℕ → ℕ → BlockAddr
-blockOr L recs addr n i = cond (metaBad L recs addr n (i / L)) (record { start = 1; end = 0; «first_ordinal» = 0 }) (storeBlock L recs addr i)
+blockOr L recs addr n i =
+    cond (metaBad L recs addr n (i / L)) (record { start = 1; end = 0; «first_ordinal» = 0 }) (storeBlock L recs addr i)
 
 -- what a lookup of block i finds: it, or that its group is broken or its numbers break row 3 (row 20)
 unfoldable pub storeGet : ℕ → List ℕ → List ℕ → ℕ → ℕ → Got
 storeGet L recs addr n i =
     cond (metaBad L recs addr n (i / L)) Broken (cond (numbersBad (storeBlock L recs addr i)) Broken (Block (storeBlock L recs addr i)))
+
+-- document 01's number for it
+abbrev pub gotNo : Got → ℕ
+gotNo (Block b) = 0
+gotNo Broken = 20
 
 -- a store of n blocks that keeps rows 15 and 16
 pub record StoreOk (L : ℕ) (recs addr : List ℕ) (n : ℕ) : Type 0 where
@@ -54,14 +61,20 @@ pub record Last (f : ℕ → ℕ) (n x i : ℕ) : Type 0 where
   pub at-most : f i ≤ x
   pub later : (j : ℕ) → i < j → j < n → x < f j
 
--- what an ordinal's lookup may answer in every case, and what it answers in a store that keeps the rules:
--- the last block whose first ordinal is at or below it, or that there is none
-unfoldable pub LocatedIn : ℕ → Located → Type 0
-LocatedIn n (At i b) = (i < n) × NumbersOk b
-LocatedIn n Below = Unit {0}
-LocatedIn n Unsound = Unit {0}
+-- document 01's number for what an ordinal's lookup finds
+abbrev pub ordFoundNo : OrdFound → ℕ
+ordFoundNo (At i b) = 0
+ordFoundNo Below = 18
+ordFoundNo Broken = 20
 
-unfoldable pub LocatedAs : (ℕ → BlockAddr) → ℕ → ℕ → Located → Type 0
-LocatedAs block n ord (At i b) = Last (λ j. block j .«first_ordinal») n ord i × (b ≡ block i)
-LocatedAs block n ord Below = ord < block 0 .«first_ordinal»
-LocatedAs block n ord Unsound = ⊥
+-- what an ordinal's lookup may answer in every case, and what it answers in a store that keeps the rules:
+-- the block that SPECIFICATION 9.2 names, or that the ordinal is below the first
+unfoldable pub OrdFoundIn : ℕ → OrdFound → Type 0
+OrdFoundIn n (At i b) = (i < n) × NumbersOk b
+OrdFoundIn n Below = Unit {0}
+OrdFoundIn n Broken = Unit {0}
+
+unfoldable pub OrdFoundAs : (ℕ → BlockAddr) → ℕ → ℕ → OrdFound → Type 0
+OrdFoundAs block n ord (At i b) = Last (λ j. block j .«first_ordinal») n ord i × (b ≡ block i)
+OrdFoundAs block n ord Below = ord < block 0 .«first_ordinal»
+OrdFoundAs block n ord Broken = ⊥

@@ -11,17 +11,17 @@ ghost use Rattle.group.specs.Facts.{Readable};
 ghost use Rattle.store.specs.Store.{groupCount};
 ghost use Rattle.store.specs.Read.{storeBlock};
 ghost use Rattle.store.specs.Check.{groupsBad, firstsBad, blocksBad, storeNo};
-ghost use Rattle.store.specs.Facts.{GroupLenOk, RecordsOk};
+ghost use Rattle.store.specs.Facts.{GroupLenOk, GroupRecordsOk};
 ghost use Rattle.store.specs.declared.Got.the-variants.{Block, Broken};
 use crate::Got;
-use crate::read::META_LEN;
 use group::BlockAddr;
 use group::BlockAddrBlockMetadata;
 use group::rows::LIMIT;
+use layout::META_LEN;
 
 // Row 15: whether one of the groups breaks its rule.
 fn groups_bad(metas: &[u8], addrs: &[u8], n: usize, group_len: usize, groups: usize) -> bool
-    requires { ⌜ GroupLenOk «group_len» × RecordsOk «group_len» (now metas) n × (groups ≡ groupCount «group_len» n) ⌝ }
+    requires { ⌜ GroupLenOk «group_len» × GroupRecordsOk «group_len» (now metas) n × (groups ≡ groupCount «group_len» n) ⌝ }
     ensures { λ r. ⌜ r ≡ groupsBad «group_len» (now (metas .entry)) (now (addrs .entry)) n groups ⌝ }
 {
     let mut g: usize = 0;
@@ -38,7 +38,8 @@ fn groups_bad(metas: &[u8], addrs: &[u8], n: usize, group_len: usize, groups: us
 
 // Whether a group's first values are outside row 16's range or, behind another group, break 4 or 5 after its last block.
 fn first_bad(meta: BlockAddrBlockMetadata, g: usize, before: BlockAddr) -> bool
-    ensures { λ r. ⌜ r ≡ ((leb limit (meta .«range_start») || leb limit (meta .«first_ordinal»)) || (ltb 0 g && (not (eqb (meta .«range_start») (before .end)) || leb (meta .«first_ordinal») (before .«first_ordinal»)))) ⌝ }
+    ensures { λ r. ⌜ r ≡ ((leb limit (meta .«range_start») || leb limit (meta .«first_ordinal»)) ||
+        (ltb 0 g && (not (eqb (meta .«range_start») (before .end)) || leb (meta .«first_ordinal») (before .«first_ordinal»)))) ⌝ }
 {
     if meta.range_start >= LIMIT {
         return true;
@@ -59,7 +60,8 @@ fn first_bad(meta: BlockAddrBlockMetadata, g: usize, before: BlockAddr) -> bool
 // next, and as starts and ordinals don't fall, only the last are held to the limit.
 fn last_block(meta: BlockAddrBlockMetadata, data: &[u8]) -> Got
     requires { ⌜ Readable meta (length (now «data»)) ⌝ }
-    ensures { λ r. ⌜ r ≡ cond (blocksBad (blockRead meta (leVal (now («data» .entry)))) (meta .«block_len» + 1)) Broken (Block (blockRead meta (leVal (now («data» .entry))) (meta .«block_len»))) ⌝ }
+    ensures { λ r. ⌜ r ≡ cond (blocksBad (blockRead meta (leVal (now («data» .entry)))) (meta .«block_len» + 1)) Broken
+        (Block (blockRead meta (leVal (now («data» .entry))) (meta .«block_len»))) ⌝ }
 {
     let last = meta.block_len as usize;
     let mut start = meta.range_start;
@@ -92,8 +94,10 @@ fn last_block(meta: BlockAddrBlockMetadata, data: &[u8]) -> Got
 
 // Row 16: whether a first value is outside the range, or a block breaks 3, 4 or 5.
 fn blocks_bad(metas: &[u8], addrs: &[u8], n: usize, group_len: usize, groups: usize) -> bool
-    requires { ⌜ GroupLenOk «group_len» × RecordsOk «group_len» (now metas) n × (groups ≡ groupCount «group_len» n) × (groupsBad «group_len» (now metas) (now addrs) n groups ≡ false) ⌝ }
-    ensures { λ r. ⌜ r ≡ (firstsBad (now (metas .entry)) groups || blocksBad (storeBlock «group_len» (now (metas .entry)) (now (addrs .entry))) n) ⌝ }
+    requires { ⌜ GroupLenOk «group_len» × GroupRecordsOk «group_len» (now metas) n × (groups ≡ groupCount «group_len» n)
+        × (groupsBad «group_len» (now metas) (now addrs) n groups ≡ false) ⌝ }
+    ensures { λ r. ⌜ r ≡ (firstsBad (now (metas .entry)) groups || blocksBad
+        (storeBlock «group_len» (now (metas .entry)) (now (addrs .entry))) n) ⌝ }
 {
     let mut before = BlockAddr {
         start: 0,
@@ -118,7 +122,7 @@ fn blocks_bad(metas: &[u8], addrs: &[u8], n: usize, group_len: usize, groups: us
 
 // Rows 15 and 16 over all groups, then over all blocks; 0 where neither is hit.
 pub fn store_no(metas: &[u8], addrs: &[u8], n: usize, group_len: usize) -> u32
-    requires { ⌜ GroupLenOk «group_len» × RecordsOk «group_len» (now metas) n ⌝ }
+    requires { ⌜ GroupLenOk «group_len» × GroupRecordsOk «group_len» (now metas) n ⌝ }
     ensures { λ r. ⌜ r ≡ storeNo «group_len» (now (metas .entry)) (now (addrs .entry)) n ⌝ }
 {
     let groups = crate::write::group_count(n, group_len);

@@ -18,8 +18,8 @@ pub enum Got {
 }
 
 // The block for an ordinal, an ordinal below the first, or a group that breaks its rules.
-pub enum Located {
+pub enum OrdFound {
     At(usize, BlockAddr),
     Below,
-    Unsound,
+    Broken,
 }

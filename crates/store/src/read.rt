@@ -6,14 +6,14 @@ ghost use lib.Dec.{leb};
 ghost use lib.ListN.{length};
 ghost use Rattle.group.specs.Legal.{limit};
 ghost use Rattle.group.specs.Read.{groupBad};
-ghost use Rattle.store.specs.Read.{groupMeta, groupLen, blockOr, storeGet, storeBlock, StoreOk, LocatedIn, LocatedAs};
-ghost use Rattle.store.specs.Facts.{GroupLenOk, RecordsOk};
+ghost use Rattle.store.specs.Read.{groupMeta, groupLen, blockOr, storeGet, storeBlock, StoreOk, OrdFoundIn, OrdFoundAs};
+ghost use Rattle.store.specs.Facts.{GroupLenOk, GroupRecordsOk};
 use crate::Got;
-use crate::Located;
+use crate::OrdFound;
 use group::BlockAddr;
 use group::BlockAddrBlockMetadata;
+use layout::META_LEN;
 
-pub const META_LEN: usize = 36;
 // The place of the first ordinal in a group record.
 const FIRST_ORDINAL: usize = 16;
 
@@ -42,7 +42,7 @@ fn meta_bad(meta: BlockAddrBlockMetadata, count: usize, addr_len: usize) -> bool
 // Block `block_id` of n; where its group can't be read, one whose numbers break row 3. A plain block comes back in less time
 // than an enum around it.
 pub fn block(metas: &[u8], addrs: &[u8], n: usize, group_len: usize, block_id: usize) -> BlockAddr
-    requires { ⌜ GroupLenOk «group_len» × RecordsOk «group_len» (now metas) n × («block_id» < n) ⌝ }
+    requires { ⌜ GroupLenOk «group_len» × GroupRecordsOk «group_len» (now metas) n × («block_id» < n) ⌝ }
     ensures { λ r. ⌜ r ≡ blockOr «group_len» (now (metas .entry)) (now (addrs .entry)) n «block_id» ⌝ }
 {
     let g = block_id / group_len;
@@ -60,7 +60,7 @@ pub fn block(metas: &[u8], addrs: &[u8], n: usize, group_len: usize, block_id: u
 
 // Block `block_id` of n, or that it can't be read.
 pub fn get(metas: &[u8], addrs: &[u8], n: usize, group_len: usize, block_id: usize) -> Got
-    requires { ⌜ GroupLenOk «group_len» × RecordsOk «group_len» (now metas) n × («block_id» < n) ⌝ }
+    requires { ⌜ GroupLenOk «group_len» × GroupRecordsOk «group_len» (now metas) n × («block_id» < n) ⌝ }
     ensures { λ r. ⌜ r ≡ storeGet «group_len» (now (metas .entry)) (now (addrs .entry)) n «block_id» ⌝ }
 {
     let block = block(metas, addrs, n, group_len, block_id);
@@ -73,7 +73,8 @@ pub fn get(metas: &[u8], addrs: &[u8], n: usize, group_len: usize, block_id: usi
 // The last group whose first ordinal is at or below `ord`, if ordinals rise and the first group's is.
 fn bisect_groups(metas: &[u8], groups: usize, ord: u64) -> usize
     requires { ⌜ (1 ≤ groups) × (groups ≤ 65536) × (36 * groups ≤ length (now metas)) ⌝ }
-    ensures { λ r. ⌜ (r < groups) × (0 < r → groupMeta (now (metas .entry)) r .«first_ordinal» ≤ ord) × (r + 1 < groups → ord < groupMeta (now (metas .entry)) (r + 1) .«first_ordinal») ⌝ }
+    ensures { λ r. ⌜ (r < groups) × (0 < r → groupMeta (now (metas .entry)) r .«first_ordinal» ≤ ord)
+        × (r + 1 < groups → ord < groupMeta (now (metas .entry)) (r + 1) .«first_ordinal») ⌝ }
 {
     let mut left: usize = 0;
     let mut right = groups;
@@ -95,24 +96,25 @@ pub fn binary_search_ord(
     n: usize,
     group_len: usize,
     ord: u64,
-) -> Located
-    requires { ⌜ GroupLenOk «group_len» × RecordsOk «group_len» (now metas) n ⌝ }
-    ensures { λ r. ⌜ LocatedIn n r ⌝ }
-    ensures { λ r. ⌜ (StoreOk «group_len» (now (metas .entry)) (now (addrs .entry)) n → LocatedAs (storeBlock «group_len» (now (metas .entry)) (now (addrs .entry))) n ord r) ⌝ }
+) -> OrdFound
+    requires { ⌜ GroupLenOk «group_len» × GroupRecordsOk «group_len» (now metas) n ⌝ }
+    ensures { λ r. ⌜ OrdFoundIn n r ⌝ }
+    ensures { λ r. ⌜ (StoreOk «group_len» (now (metas .entry)) (now (addrs .entry)) n
+        → OrdFoundAs (storeBlock «group_len» (now (metas .entry)) (now (addrs .entry))) n ord r) ⌝ }
 {
     let g = bisect_groups(metas, crate::write::group_count(n, group_len), ord);
     let meta = group::meta::deserialize(metas, META_LEN * g);
     if meta_bad(meta, blocks_in(n, group_len, g), addrs.len()) {
-        return Located::Unsound;
+        return OrdFound::Broken;
     }
     if meta.first_ordinal > ord {
-        return Located::Below;
+        return OrdFound::Below;
     }
     let offset = meta.offset as usize;
     let inner = group::read::bisect_for_ord(meta, &addrs[offset..], ord);
     let block = group::read::deserialize_block_addr(meta, &addrs[offset..], inner);
     if group::rows::numbers_bad(block) {
-        return Located::Unsound;
+        return OrdFound::Broken;
     }
-    Located::At(group_len * g + inner, block)
+    OrdFound::At(group_len * g + inner, block)
 }

@@ -10,9 +10,7 @@ ghost use Rattle.store.specs.Store.{groupCount, groupRecord, groupAddrs,
 ghost use Rattle.store.specs.Answers.{storeAnswer, storeOut};
 ghost use Rattle.store.specs.Facts.{GroupLenOk, StoreArea};
 use crate::Serialized;
-
-// The bytes of a group record.
-const META_LEN: usize = 36;
+use layout::META_LEN;
 
 // How many groups n blocks make.
 pub fn group_count(n: usize, group_len: usize) -> usize
@@ -66,8 +64,12 @@ pub fn write_group(
     offset: usize,
     out: &mut [u8],
 ) -> usize
-    requires { ⌜ GroupArea (now area) stride first count × («meta_at» + 36 ≤ at) × (at + length (groupAddrs bestSlope (blocksAt (now area) stride first count)) ≤ length (now out)) ⌝ }
-    ensures { λ r. ⌜ (r ≡ length (groupAddrs bestSlope (blocksAt (now (area .entry)) stride first count))) × (now (out .exit) ≡ sets (sets (now (out .entry)) «meta_at» (groupRecord bestSlope offset (blocksAt (now (area .entry)) stride first count))) at (groupAddrs bestSlope (blocksAt (now (area .entry)) stride first count))) ⌝ }
+    requires { ⌜ GroupArea (now area) stride first count × («meta_at» + 36 ≤ at)
+        × (at + length (groupAddrs bestSlope (blocksAt (now area) stride first count)) ≤ length (now out)) ⌝ }
+    ensures { λ r. ⌜ (r ≡ length (groupAddrs bestSlope (blocksAt (now (area .entry)) stride first count)))
+        × (now (out .exit) ≡ sets (sets (now (out .entry)) «meta_at»
+        (groupRecord bestSlope offset (blocksAt (now (area .entry)) stride first count))) at
+        (groupAddrs bestSlope (blocksAt (now (area .entry)) stride first count))) ⌝ }
 {
     let meta = group::write::plan_block(area, stride, first, count, offset as u64);
     group::meta::serialize(meta, out, meta_at);
@@ -76,9 +78,11 @@ pub fn write_group(
 
 // Writes the store from the front of `out` on. Returns its length.
 pub fn serialize(area: &[u64], stride: usize, n: usize, group_len: usize, out: &mut [u8]) -> usize
-    requires { ⌜ StoreArea (now area) stride n × GroupLenOk «group_len» × (length (storeBytes bestSlope «group_len» (blocksAt (now area) stride 0 n)) ≤ length (now out)) ⌝ }
+    requires { ⌜ StoreArea (now area) stride n × GroupLenOk «group_len»
+        × (length (storeBytes bestSlope «group_len» (blocksAt (now area) stride 0 n)) ≤ length (now out)) ⌝ }
     ensures { λ r. ⌜ r ≡ length (storeBytes bestSlope «group_len» (blocksAt (now (area .entry)) stride 0 n)) ⌝ }
-    ensures { λ _. ⌜ now (out .exit) ≡ sets (now (out .entry)) 0 (storeBytes bestSlope «group_len» (blocksAt (now (area .entry)) stride 0 n)) ⌝ }
+    ensures { λ _. ⌜ now (out .exit)
+        ≡ sets (now (out .entry)) 0 (storeBytes bestSlope «group_len» (blocksAt (now (area .entry)) stride 0 n)) ⌝ }
 {
     let metas = META_LEN * group_count(n, group_len);
     serialize::serialize_u64(out, 0, metas as u64);
@@ -114,7 +118,8 @@ pub fn write_store(
     out: &mut [u8],
 ) -> Serialized
     requires { ⌜ StoreArea (now area) stride n × GroupLenOk «group_len» ⌝ }
-    ensures { λ r. ⌜ (r ≡ storeAnswer (now (out .entry)) (storeBytes bestSlope «group_len» (blocksAt (now (area .entry)) stride 0 n))) × (now (out .exit) ≡ storeOut (now (out .entry)) (storeBytes bestSlope «group_len» (blocksAt (now (area .entry)) stride 0 n))) ⌝ }
+    ensures { λ r. ⌜ (r ≡ storeAnswer (now (out .entry)) (storeBytes bestSlope «group_len» (blocksAt (now (area .entry)) stride 0 n)))
+        × (now (out .exit) ≡ storeOut (now (out .entry)) (storeBytes bestSlope «group_len» (blocksAt (now (area .entry)) stride 0 n))) ⌝ }
 {
     let len = store_len(area, stride, n, group_len);
     if out.len() < len {

@@ -13,9 +13,9 @@ use Rattle.group.specs.declared.BlockAddr.{BlockAddr}
 use Rattle.store.specs.declared.Serialized.the-variants.{Len, Short}
 use Rattle.store.specs.Store.{storeBytes}
 use Rattle.store.specs.Answers.{storeAnswer, storeOut}
-use Rattle.store_slice.specs.Slice.{recordsNo, sliceNo, storedStep, outStep, sliceStored, sliceOut}
+use Rattle.store_slice.specs.Slice.{blockListNo, sliceNo, storedStep, outStep, sliceStored, sliceOut}
 
-module _ (bs : List BlockAddr) (out : List ℕ) (none : recordsNo bs ≡ 0) where
+module _ (bs : List BlockAddr) (out : List ℕ) (none : blockListNo bs ≡ 0) where
   abbrev bytes : List ℕ
   bytes = storeBytes bestSlope 128 bs
 
@@ -64,11 +64,11 @@ module _ (bs : List BlockAddr) (out : List ℕ) (none : recordsNo bs ≡ 0) wher
       (rw none-hit refl, rw none-hit refl)
 
 -- records that hit a row
-hit-no : (bs : List BlockAddr) (room k : ℕ) → recordsNo bs ≡ suc k → sliceNo bs room ≡ suc k
+hit-no : (bs : List BlockAddr) (room k : ℕ) → blockListNo bs ≡ suc k → sliceNo bs room ≡ suc k
 unfolding sliceNo
 hit-no bs room k e = rw e refl
 
-pub stored-refused : (bs : List BlockAddr) (out : List ℕ) (no : ℕ) → recordsNo bs ≡ no → (no ≡ 0 → ⊥) → (record { no = no; len = 0 } ≡ sliceStored bs out) × (out ≡ sliceOut bs out)
+pub stored-refused : (bs : List BlockAddr) (out : List ℕ) (no : ℕ) → blockListNo bs ≡ no → (no ≡ 0 → ⊥) → (record { no = no; len = 0 } ≡ sliceStored bs out) × (out ≡ sliceOut bs out)
 unfolding storedStep outStep
 stored-refused bs out zero e hit = absurd (hit refl)
 stored-refused bs out (suc k) e hit = (rw (hit-no bs (length out) k e) refl, rw (hit-no bs (length out) k e) refl)

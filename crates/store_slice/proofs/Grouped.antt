@@ -19,47 +19,47 @@ use Rattle.store.proofs.Left.{bits, Left, record-room, bits-room, left-turn}
 use Rattle.store.proofs.Stored.{length-addrs-turn, length-storeBytes, store-addrs-le}
 use Rattle.store_slice.specs.declared.rows.Seen.{Seen}
 use Rattle.store_slice.specs.Records.{numbersOf, seenWith, seenNone, seenNo}
-use Rattle.store_slice.specs.Numbers.{recordOf, recordsOf}
-use Rattle.store_slice.specs.Slice.{recordsNo}
+use Rattle.store_slice.specs.Numbers.{blockOfNumbers, blocksOfNumbers}
+use Rattle.store_slice.specs.Slice.{blockListNo}
 use Rattle.store_slice.proofs.Copied.{put, put-next, put-none, copied, length-numbersOf, numbers-blocks}
 use Rattle.store_slice.proofs.Kept.{area-kept}
 use Rattle.store_slice.proofs.Scan.{seenAll, seen-next, seen-last, seen-no}
 
-record-at : (xs : List (List ℕ)) (i : ℕ) → blockOf (recordsOf xs) i ≡ recordOf (getD xs i [])
-record-at xs i = List·getD-map recordOf xs i []
+record-at : (xs : List (List ℕ)) (i : ℕ) → blockOf (blocksOfNumbers xs) i ≡ blockOfNumbers (getD xs i [])
+record-at xs i = List·getD-map blockOfNumbers xs i []
 
 -- ---- rows
 
-module _ (xs : List (List ℕ)) (s : Seen) (i : ℕ) (left : seenAll seenNone (recordsOf xs) ≡ seenAll s (drop i (recordsOf xs))) where
-  pub rows-next : (s′ : Seen) (b : BlockAddr) → i < length xs → s′ ≡ seenWith s b → b ≡ recordOf (getD xs i [])
-      → seenAll seenNone (recordsOf xs) ≡ seenAll s′ (drop (i + 1) (recordsOf xs))
+module _ (xs : List (List ℕ)) (s : Seen) (i : ℕ) (left : seenAll seenNone (blocksOfNumbers xs) ≡ seenAll s (drop i (blocksOfNumbers xs))) where
+  pub rows-next : (s′ : Seen) (b : BlockAddr) → i < length xs → s′ ≡ seenWith s b → b ≡ blockOfNumbers (getD xs i [])
+      → seenAll seenNone (blocksOfNumbers xs) ≡ seenAll s′ (drop (i + 1) (blocksOfNumbers xs))
   rows-next s′ b h is is-b =
-      left ∙ seen-next s (recordsOf xs) i (omega (arith, length-map xs recordOf))
-      ∙ ap (λ (a : Seen). seenAll a (drop (i + 1) (recordsOf xs))) (ap (seenWith s) (record-at xs i ∙ sym is-b) ∙ sym is)
+      left ∙ seen-next s (blocksOfNumbers xs) i (omega (arith, length-map xs blockOfNumbers))
+      ∙ ap (λ (a : Seen). seenAll a (drop (i + 1) (blocksOfNumbers xs))) (ap (seenWith s) (record-at xs i ∙ sym is-b) ∙ sym is)
 
-  pub rows-all : (r : ℕ) → length xs ≤ i → r ≡ seenNo s (length xs) → r ≡ recordsNo (recordsOf xs)
+  pub rows-all : (r : ℕ) → length xs ≤ i → r ≡ seenNo s (length xs) → r ≡ blockListNo (blocksOfNumbers xs)
   rows-all r h is =
-      let all : seenAll seenNone (recordsOf xs) ≡ s = left ∙ seen-last s (recordsOf xs) i (omega (arith, length-map xs recordOf)) in
-      is ∙ ap (λ (a : Seen). seenNo a (length xs)) (sym all) ∙ (rw (length-map xs recordOf) at (seen-no (recordsOf xs)))
+      let all : seenAll seenNone (blocksOfNumbers xs) ≡ s = left ∙ seen-last s (blocksOfNumbers xs) i (omega (arith, length-map xs blockOfNumbers)) in
+      is ∙ ap (λ (a : Seen). seenNo a (length xs)) (sym all) ∙ (rw (length-map xs blockOfNumbers) at (seen-no (blocksOfNumbers xs)))
 
 -- ---- a group
 
 -- the records of a group
 abbrev pub groupOf : List (List ℕ) → ℕ → ℕ → List BlockAddr
-groupOf xs first count = take count (drop first (recordsOf xs))
+groupOf xs first count = take count (drop first (blocksOfNumbers xs))
 
 module _ (xs : List (List ℕ)) (first count : ℕ) (inside : first + count ≤ length xs) where
   length-groupOf : length (groupOf xs first count) ≡ count
   length-groupOf =
-      omega (arith, length-take count (drop first (recordsOf xs)), length-drop first (recordsOf xs), length-map xs recordOf)
+      omega (arith, length-take count (drop first (blocksOfNumbers xs)), length-drop first (blocksOfNumbers xs), length-map xs blockOfNumbers)
 
   -- one record of it is stored
   pub group-next : (i k : ℕ) (area : List ℕ) → i < count
-      → sets area k (numbersOf (drop i (groupOf xs first count))) ≡ sets (put (recordOf (getD xs (first + i) [])) k area) (k + 3) (numbersOf (drop (i + 1) (groupOf xs first count)))
+      → sets area k (numbersOf (drop i (groupOf xs first count))) ≡ sets (put (blockOfNumbers (getD xs (first + i) [])) k area) (k + 3) (numbersOf (drop (i + 1) (groupOf xs first count)))
   group-next i k area h =
       let d : BlockAddr = record { start = 0; end = 0; «first_ordinal» = 0 } in
-      let same : blockOf (groupOf xs first count) i ≡ recordOf (getD xs (first + i) []) =
-      getD-take count (drop first (recordsOf xs)) i d h ∙ getD-drop first (recordsOf xs) i d ∙ record-at xs (first + i) in
+      let same : blockOf (groupOf xs first count) i ≡ blockOfNumbers (getD xs (first + i) []) =
+      getD-take count (drop first (blocksOfNumbers xs)) i d h ∙ getD-drop first (blocksOfNumbers xs) i d ∙ record-at xs (first + i) in
       put-next (groupOf xs first count) i k area (omega (arith, length-groupOf))
       ∙ ap (λ (b : BlockAddr). sets (put b k area) (k + 3) (numbersOf (drop (i + 1) (groupOf xs first count)))) same
 
@@ -76,10 +76,10 @@ module _ (xs : List (List ℕ)) (first count : ℕ) (inside : first + count ≤ 
 
 -- the records as one area
 abbrev pub areaOf : List (List ℕ) → List ℕ
-areaOf xs = numbersOf (recordsOf xs)
+areaOf xs = numbersOf (blocksOfNumbers xs)
 
-pub area-blocks : (xs : List (List ℕ)) → blocksAt (areaOf xs) 3 0 (length xs) ≡ recordsOf xs
-area-blocks xs = rw (length-map xs recordOf) at (numbers-blocks (recordsOf xs))
+pub area-blocks : (xs : List (List ℕ)) → blocksAt (areaOf xs) 3 0 (length xs) ≡ blocksOfNumbers xs
+area-blocks xs = rw (length-map xs blockOfNumbers) at (numbers-blocks (blocksOfNumbers xs))
 
 pub area-group : (xs : List (List ℕ)) (first count : ℕ) → first + count ≤ length xs → groupOf xs first count ≡ blocksAt (areaOf xs) 3 first count
 area-group xs first count inside =
@@ -93,19 +93,19 @@ pub groups-of-128 : GroupLenOk 128
 groups-of-128 = record { some = omega arith; few = omega arith }
 
 pub length-all : (xs : List (List ℕ))
-    → length (storeBytes bestSlope 128 (recordsOf xs)) ≡ 8 + 36 * groupCount 128 (length xs) + length (addrs bestSlope 128 (groupCount 128 (length xs)) (recordsOf xs))
-length-all xs = rw (length-map xs recordOf) at (length-storeBytes bestSlope 128 (recordsOf xs) (groups-of-128 .some))
+    → length (storeBytes bestSlope 128 (blocksOfNumbers xs)) ≡ 8 + 36 * groupCount 128 (length xs) + length (addrs bestSlope 128 (groupCount 128 (length xs)) (blocksOfNumbers xs))
+length-all xs = rw (length-map xs blockOfNumbers) at (length-storeBytes bestSlope 128 (blocksOfNumbers xs) (groups-of-128 .some))
 
-module _ (xs : List (List ℕ)) (none : recordsNo (recordsOf xs) ≡ 0) where
+module _ (xs : List (List ℕ)) (none : blockListNo (blocksOfNumbers xs) ≡ 0) where
   pub area-store : StoreArea (areaOf xs) 3 (length xs)
   area-store =
-      area-kept (areaOf xs) (length xs) (omega (arith, length-numbersOf (recordsOf xs), length-map xs recordOf))
-      (ap recordsNo (area-blocks xs) ∙ none)
+      area-kept (areaOf xs) (length xs) (omega (arith, length-numbersOf (blocksOfNumbers xs), length-map xs blockOfNumbers))
+      (ap blockListNo (area-blocks xs) ∙ none)
 
   pub few-addrs : length (addrs bestSlope 128 (groupCount 128 (length xs)) (blocksAt (areaOf xs) 3 0 (length xs))) ≤ 3577 * 65536
   few-addrs = store-addrs-le bestSlope bestSlope-lt area-store groups-of-128
 
-  pub few-bytes : length (addrs bestSlope 128 (groupCount 128 (length xs)) (recordsOf xs)) ≤ 3577 * 65536
+  pub few-bytes : length (addrs bestSlope 128 (groupCount 128 (length xs)) (blocksOfNumbers xs)) ≤ 3577 * 65536
   few-bytes = rw (area-blocks xs) at few-addrs
 
   -- a group that was copied out
@@ -133,7 +133,7 @@ module _ (xs : List (List ℕ)) (none : recordsNo (recordsOf xs) ≡ 0) where
 
     -- it is written
     module _ {out₀ out : List ℕ} {base meta-at offset : ℕ} (left : Left (areaOf xs) 3 (length xs) 128 out₀ base out meta-at offset first) where
-      pub room : length (storeBytes bestSlope 128 (recordsOf xs)) ≤ length out₀
+      pub room : length (storeBytes bestSlope 128 (blocksOfNumbers xs)) ≤ length out₀
           → (meta-at + 36 ≤ base + offset) × (base + offset + length (groupAddrs bestSlope (blocksAt area 3 0 count)) ≤ length out)
       room h =
           let fits = bits-room left groups-of-128 count is more (rw (area-blocks xs) h) in

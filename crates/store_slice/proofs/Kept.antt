@@ -16,7 +16,7 @@ use Rattle.group.specs.Rows.{numbersBad, joinBad, ordinalBad}
 use Rattle.group.proofs.Legal.{numbers-ok, follows}
 use Rattle.group.proofs.Blocks.{length-blocksAt, blocksAt-at, legal-same}
 use Rattle.store.specs.Facts.{StoreArea}
-use Rattle.store_slice.specs.Slice.{anyBad, pairBad, recordsNo}
+use Rattle.store_slice.specs.Slice.{anyBad, pairBad, blockListNo}
 
 any-kept : (bad : BlockAddr → Bool) (bs : List BlockAddr) (i : ℕ) → i < length bs → anyBad bad bs ≡ false → bad (blockOf bs i) ≡ false
 unfolding anyBad
@@ -39,9 +39,9 @@ no-number false false true d e = absurd (let z : ⊥ = omega arith in z)
 no-number false false false true e = absurd (let z : ⊥ = omega arith in z)
 no-number false false false false e = (refl, refl, refl, refl)
 
-module _ (bs : List BlockAddr) (none : recordsNo bs ≡ 0) where
+module _ (bs : List BlockAddr) (none : blockListNo bs ≡ 0) where
   rows : (anyBad numbersBad bs ≡ false) × (pairBad joinBad bs ≡ false) × (pairBad ordinalBad bs ≡ false) × (ltb 65536 (length bs) ≡ false)
-  unfolding recordsNo
+  unfolding blockListNo
   rows = no-number (anyBad numbersBad bs) (pairBad joinBad bs) (pairBad ordinalBad bs) (ltb 65536 (length bs)) none
 
   pub records-few : length bs ≤ 65536
@@ -54,7 +54,7 @@ module _ (bs : List BlockAddr) (none : recordsNo bs ≡ 0) where
   }
 
 -- such records in an area
-pub area-kept : (area : List ℕ) (n : ℕ) → 3 * n ≤ length area → recordsNo (blocksAt area 3 0 n) ≡ 0 → StoreArea area 3 n
+pub area-kept : (area : List ℕ) (n : ℕ) → 3 * n ≤ length area → blockListNo (blocksAt area 3 0 n) ≡ 0 → StoreArea area 3 n
 area-kept area n inside none = record {
   few = omega (arith, records-few (blocksAt area 3 0 n) none, length-blocksAt area 3 0 n);
   wide = omega arith;

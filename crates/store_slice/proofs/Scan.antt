@@ -10,7 +10,7 @@ use Rattle.group.specs.declared.BlockAddr.{BlockAddr}
 use Rattle.group.specs.Blocks.{blockOf}
 use Rattle.group.specs.Rows.{numbersBad, joinBad, ordinalBad}
 use Rattle.store_slice.specs.declared.rows.Seen.{Seen}
-use Rattle.store_slice.specs.Slice.{anyBad, pairBad, recordsNo}
+use Rattle.store_slice.specs.Slice.{anyBad, pairBad, blockListNo}
 use Rattle.store_slice.specs.Records.{seenWith, seenNone, seenNo}
 
 -- all of them, one after the other
@@ -50,8 +50,8 @@ seen-last s bs i h = rw (drop-of-length-le bs {i = i} h) refl
 
 -- ---- all of them
 
-pub seen-no : (bs : List BlockAddr) → seenNo (seenAll seenNone bs) (length bs) ≡ recordsNo bs
-unfolding seenNo recordsNo seenWith
+pub seen-no : (bs : List BlockAddr) → seenNo (seenAll seenNone bs) (length bs) ≡ blockListNo bs
+unfolding seenNo blockListNo seenWith
 seen-no bs =
     rw (
       seen-numbers seenNone bs,

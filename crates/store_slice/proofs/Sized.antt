@@ -49,7 +49,7 @@ use Rattle.group.specs.declared.BlockAddr.{BlockAddr}
 use Rattle.group.specs.Blocks.{blocksAt}
 use Rattle.group.proofs.BlockAddr as B
 use Rattle.store_slice.specs.declared.Stored.{Stored}
-use Rattle.store_slice.specs.Slice.{recordsNo, sliceStored, sliceOut}
+use Rattle.store_slice.specs.Slice.{blockListNo, sliceStored, sliceOut}
 use Rattle.store_slice.specs.Records.{numbersOf}
 use Rattle.store_slice.proofs.Copied.{copied}
 use Rattle.store_slice.proofs.Stored as S
@@ -186,7 +186,7 @@ module _ {M : Type 1} (𝓤 : URA M) (H : Heap 𝓤) (A : Atoms 𝓤) (W : Given
       suffices ! _ (ends-at 𝓤 H A f.ended stayed (f.clauses 𝓤 H A mem run) W bound w r (tt, (zs, tt)) (tt, (l, tt))) $ says ! e $
       move ! (1 ∷ 0 ∷ []) $ join ! $ frame ! $ nothing ! $ move ! (1 ∷ 0 ∷ []) $ fjoin ! $ move ! (1 ∷ 0 ∷ []) $ fjoin ! $ done !
 
-  module _ (N : ℕ) (room : Room u64 N) (few : 3 * n ≤ N) (none : recordsNo ys ≡ 0) where
+  module _ (N : ℕ) (room : Room u64 N) (few : 3 * n ≤ N) (none : blockListNo ys ≡ 0) where
     abbrev zeros : List ℕ
     zeros = replicate N 0
 
@@ -234,7 +234,7 @@ module _ {M : Type 1} (𝓤 : URA M) (H : Heap 𝓤) (A : Atoms 𝓤) (W : Given
     goes-write : (l β : ℕ) (ε : GName) → n < 2 ^ 64
         → ent 𝓤 (⋆ 𝓤 H A (write-tokens β ∷ ‵ (ShrSlice (named 0) (β ∷ []) u64 .own (area l ε filled) (sliceVal (l, 0) N ∷ [])) ∷ ‵ ownO ∷ [])) (WriteArea 𝓤 H A mem run .pre (to-write l β ε))
     goes-write l β ε fits =
-        qed W (write-tokens β ∷ ‵ (ShrSlice (named 0) (β ∷ []) u64 .own (area l ε filled) (sliceVal (l, 0) N ∷ [])) ∷ ‵ ownO ∷ []) ∵ says ! (omega (arith, few, len-filled), ap recordsNo blocks-filled ∙ none) $ frame ! $
+        qed W (write-tokens β ∷ ‵ (ShrSlice (named 0) (β ∷ []) u64 .own (area l ε filled) (sliceVal (l, 0) N ∷ [])) ∷ ‵ ownO ∷ []) ∵ says ! (omega (arith, few, len-filled), ap blockListNo blocks-filled ∙ none) $ frame ! $
         nothing ! $ move ! (2 ∷ 0 ∷ []) $ fjoin ! $ owned ! usize (Is usize) (uint-makes 𝓤 H A W w64) n _ (refl, fits) $ fjoin ! $ move ! (1 ∷ 0 ∷ []) $ fjoin ! $ done !
 
     abbrev Written : Stored → List ℕ → Type 0
@@ -302,7 +302,7 @@ module _ {M : Type 1} (𝓤 : URA M) (H : Heap 𝓤) (A : Atoms 𝓤) (W : Given
           ) same))))))))))))))))))))))))))))
 
 module _ {M : Type 1} (𝓤 : URA M) (H : Heap 𝓤) (A : Atoms 𝓤) (W : Given 𝓤 H A) (mem : Memory → SProp 𝓤) (run : Routine → Fun 𝓤) (𝓣 : Tables 𝓤 H) (known-copy : Triple 𝓤 (𝓣 .C #copy-out) (CopyOut 𝓤 H A mem run)) (known-write : Triple 𝓤 (𝓣 .C #write-area) (WriteArea 𝓤 H A mem run)) where
-  module _ (N : ℕ) (room : Room u64 N) (φ : List BlockAddr → Type 0) (fit : (ys : List BlockAddr) → φ ys → (3 * length ys ≤ N) × (recordsNo ys ≡ 0)) where
+  module _ (N : ℕ) (room : Room u64 N) (φ : List BlockAddr → Type 0) (fit : (ys : List BlockAddr) → φ ys → (3 * length ys ≤ N) × (blockListNo ys ≡ 0)) where
     walks : Walks 𝓤 H A f.ended stayed (WpFn 𝓤 H (𝓣 .C) (𝓣 .Λ) (sized N)) (asking 𝓤 H A mem run φ)
     walks = walked 𝓤 H A f.ended stayed (asking 𝓤 H A mem run φ) (WpFn 𝓤 H (𝓣 .C) (𝓣 .Λ) (sized N)) (λ κs. (slice-vals, (slice-vals, tt)))
         (λ κs. (shr-slice-tells (named 0) (κs .0) B.the-row, (mut-slice-tells (named 1) (κs .1 .0) u8, tt)))

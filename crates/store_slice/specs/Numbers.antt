@@ -4,8 +4,8 @@ use mathlib.Core.List.{List, map}
 use lib.ListN.{getD}
 use Rattle.group.specs.declared.BlockAddr.{BlockAddr}
 
-abbrev pub recordOf : List ℕ → BlockAddr
-recordOf numbers = record { start = getD numbers 0 0; end = getD numbers 1 0; «first_ordinal» = getD numbers 2 0 }
+abbrev pub blockOfNumbers : List ℕ → BlockAddr
+blockOfNumbers numbers = record { start = getD numbers 0 0; end = getD numbers 1 0; «first_ordinal» = getD numbers 2 0 }
 
-abbrev pub recordsOf : List (List ℕ) → List BlockAddr
-recordsOf blocks = map recordOf blocks
+abbrev pub blocksOfNumbers : List (List ℕ) → List BlockAddr
+blocksOfNumbers blocks = map blockOfNumbers blocks

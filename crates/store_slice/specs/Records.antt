@@ -3,6 +3,7 @@ use Prim.Native.Nat.{ℕ}
 use mathlib.Core.List.{List, [], _∷_}
 use mathlib.Core.Bool.{true, false, _||_, _&&_, cond}
 use lib.Dec.{ltb}
+use Rattle.layout.specs.Layout.{maxBlocks}
 use Rattle.group.specs.declared.BlockAddr.{BlockAddr}
 use Rattle.group.specs.Blocks.{noBlock}
 use Rattle.group.specs.Rows.{numbersBad, joinBad, ordinalBad}
@@ -30,7 +31,7 @@ seenNone = record {
 
 -- the first row that was hit by n records
 unfoldable pub seenNo : Seen → ℕ → ℕ
-seenNo s n = cond (s .«numbers_bad») 3 (cond (s .«join_bad») 4 (cond (s .«ordinal_bad») 5 (cond (ltb 65536 n) 7 0)))
+seenNo s n = cond (s .«numbers_bad») 3 (cond (s .«join_bad») 4 (cond (s .«ordinal_bad») 5 (cond (ltb maxBlocks n) 7 0)))
 
 -- three numbers a record
 unfoldable pub numbersOf : List BlockAddr → List ℕ

@@ -1,13 +1,14 @@
--- The store of one lent slice of block records (document 01, "Slopes and bits", rows 3, 4, 5, 7 and 9).
+-- The store from a slice of block records (SPECIFICATION 7; rows 3, 4, 5, 7 and 9).
 use Prim.Native.Nat.{ℕ, zero, suc}
 use mathlib.Core.List.{List, [], _∷_}
 use mathlib.Core.Bool.{Bool, false, _||_, cond}
 use lib.Dec.{ltb}
 use lib.ListN.{length}
 use lib.Seq.{sets}
+use Rattle.layout.specs.Layout.{maxBlocks, storeBlockLen}
 use Rattle.slope.specs.Slope.{bestSlope}
 use Rattle.group.specs.declared.BlockAddr.{BlockAddr}
-use Rattle.group.specs.Rows.{numbersBad, joinBad, ordinalBad, orElse}
+use Rattle.group.specs.Rows.{numbersBad, joinBad, ordinalBad, orRow}
 use Rattle.store.specs.Store.{storeBytes}
 use Rattle.store_slice.specs.declared.Stored.{Stored}
 
@@ -23,21 +24,21 @@ pairBad bad (b ∷ []) = false
 pairBad bad (b ∷ c ∷ bs) = bad b c || pairBad bad (c ∷ bs)
 
 -- the rows in their order, each over all records before the next: 3, 4, 5, then 7: over 65,536 records
-unfoldable pub recordsNo : List BlockAddr → ℕ
-recordsNo bs =
-    cond (anyBad numbersBad bs) 3 (cond (pairBad joinBad bs) 4 (cond (pairBad ordinalBad bs) 5 (cond (ltb 65536 (length bs)) 7 0)))
+unfoldable pub blockListNo : List BlockAddr → ℕ
+blockListNo bs =
+    cond (anyBad numbersBad bs) 3 (cond (pairBad joinBad bs) 4 (cond (pairBad ordinalBad bs) 5 (cond (ltb maxBlocks (length bs)) 7 0)))
 
 -- then 9: the output is shorter than the store
 unfoldable pub sliceNo : List BlockAddr → ℕ → ℕ
-sliceNo bs room = orElse (recordsNo bs) (cond (ltb room (length (storeBytes bestSlope 128 bs))) 9 0)
+sliceNo bs room = orRow (blockListNo bs) (cond (ltb room (length (storeBytes bestSlope storeBlockLen bs))) 9 0)
 
 -- the number and the store's length; the store from byte 0 on with the rest as it was, or what was there
 unfoldable pub storedStep : ℕ → List BlockAddr → Stored
-storedStep zero bs = record { no = 0; len = length (storeBytes bestSlope 128 bs) }
+storedStep zero bs = record { no = 0; len = length (storeBytes bestSlope storeBlockLen bs) }
 storedStep (suc k) bs = record { no = suc k; len = 0 }
 
 unfoldable pub outStep : ℕ → List BlockAddr → List ℕ → List ℕ
-outStep zero bs out = sets out 0 (storeBytes bestSlope 128 bs)
+outStep zero bs out = sets out 0 (storeBytes bestSlope storeBlockLen bs)
 outStep (suc k) bs out = out
 
 abbrev pub sliceStored : List BlockAddr → List ℕ → Stored

@@ -4,17 +4,15 @@ ghost use Prim.Native.Nat.{_*_, _≤_};
 ghost use lib.ListN.{length};
 ghost use lib.Seq.{sets};
 ghost use Rattle.group.specs.Blocks.{blocksAt};
-ghost use Rattle.store_slice.specs.Slice.{recordsNo, sliceStored, sliceOut};
+ghost use Rattle.store_slice.specs.Slice.{blockListNo, sliceStored, sliceOut};
 ghost use Rattle.store_slice.specs.Records.{numbersOf};
 use crate::Stored;
 use group::BlockAddr;
+use layout::STORE_BLOCK_LEN;
 use store::Serialized;
 
 // The numbers of a record.
 const STRIDE: usize = 3;
-
-// The blocks of a group.
-const STORE_BLOCK_LEN: usize = 128;
 
 // Copies the records out to the front of the area.
 pub fn copy_out(blocks: &[BlockAddr], area: &mut [u64])
@@ -35,8 +33,9 @@ pub fn copy_out(blocks: &[BlockAddr], area: &mut [u64])
 
 // Writes the store of the n records in the area, which hit no row, from the front of `out` on.
 pub fn write_area(area: &[u64], n: usize, out: &mut [u8]) -> Stored
-    requires { ⌜ (3 * n ≤ length (now area)) × (recordsNo (blocksAt (now area) 3 0 n) ≡ 0) ⌝ }
-    ensures { λ r. ⌜ (r ≡ sliceStored (blocksAt (now (area .entry)) 3 0 n) (now (out .entry))) × (now (out .exit) ≡ sliceOut (blocksAt (now (area .entry)) 3 0 n) (now (out .entry))) ⌝ }
+    requires { ⌜ (3 * n ≤ length (now area)) × (blockListNo (blocksAt (now area) 3 0 n) ≡ 0) ⌝ }
+    ensures { λ r. ⌜ (r ≡ sliceStored (blocksAt (now (area .entry)) 3 0 n) (now (out .entry)))
+        × (now (out .exit) ≡ sliceOut (blocksAt (now (area .entry)) 3 0 n) (now (out .entry))) ⌝ }
 {
     match store::write::write_store(area, STRIDE, n, STORE_BLOCK_LEN, out) {
         Serialized::Len(len) => Stored { no: 0, len: len },

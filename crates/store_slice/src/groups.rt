@@ -7,23 +7,19 @@ ghost use Rattle.slope.specs.Slope.{bestSlope};
 ghost use Rattle.group.specs.Blocks.{blocksAt};
 ghost use Rattle.group.specs.Facts.{GroupArea};
 ghost use Rattle.store.specs.Store.{groupCount, groupAddrs, addrs, storeBytes};
-ghost use Rattle.store_slice.specs.Slice.{recordsNo, sliceStored, sliceOut};
-ghost use Rattle.store_slice.specs.Numbers.{recordOf, recordsOf};
+ghost use Rattle.store_slice.specs.Slice.{blockListNo, sliceStored, sliceOut};
+ghost use Rattle.store_slice.specs.Numbers.{blockOfNumbers, blocksOfNumbers};
 use crate::Stored;
 use crate::rows::Seen;
 use group::BlockAddr;
+use layout::META_LEN;
+use layout::STORE_BLOCK_LEN;
 
 // The numbers of a record.
 const STRIDE: usize = 3;
 
-// The blocks of a group.
-const STORE_BLOCK_LEN: usize = 128;
-
-// The bytes of a group record.
-const META_LEN: usize = 36;
-
 fn record_of(numbers: [u64; 3]) -> BlockAddr
-    ensures { λ r. ⌜ r ≡ recordOf numbers ⌝ }
+    ensures { λ r. ⌜ r ≡ blockOfNumbers numbers ⌝ }
 {
     BlockAddr {
         start: numbers[0],
@@ -34,7 +30,7 @@ fn record_of(numbers: [u64; 3]) -> BlockAddr
 
 // The first row that the records hit, or 0. All of them are looked at.
 pub fn rows_no(blocks: &[[u64; 3]]) -> u32
-    ensures { λ r. ⌜ r ≡ recordsNo (recordsOf (now (blocks .entry))) ⌝ }
+    ensures { λ r. ⌜ r ≡ blockListNo (blocksOfNumbers (now (blocks .entry))) ⌝ }
 {
     let mut seen = Seen::none();
     let mut i: usize = 0;
@@ -50,7 +46,7 @@ pub fn rows_no(blocks: &[[u64; 3]]) -> u32
 fn copy_group(blocks: &[[u64; 3]], first: usize, count: usize, area: &mut [u64; 384])
     requires { ⌜ (first + count ≤ length (now blocks)) × (count ≤ 128) × (length (now area) ≡ 384) ⌝ }
     ensures { λ _. ⌜ length (now (area .exit)) ≡ 384 ⌝ }
-    ensures { λ _. ⌜ blocksAt (now (area .exit)) 3 0 count ≡ take count (drop first (recordsOf (now (blocks .entry)))) ⌝ }
+    ensures { λ _. ⌜ blocksAt (now (area .exit)) 3 0 count ≡ take count (drop first (blocksOfNumbers (now (blocks .entry)))) ⌝ }
 {
     let mut i: usize = 0;
     let mut k: usize = 0;
@@ -74,8 +70,9 @@ fn bits_len(area: &[u64], count: usize) -> usize
 
 // How many address bytes the records take.
 fn addrs_len(blocks: &[[u64; 3]], area: &mut [u64; 384]) -> usize
-    requires { ⌜ (recordsNo (recordsOf (now blocks)) ≡ 0) × (length (now area) ≡ 384) ⌝ }
-    ensures { λ r. ⌜ (length (now (area .exit)) ≡ 384) × (r ≡ length (addrs bestSlope 128 (groupCount 128 (length (now (blocks .entry)))) (recordsOf (now (blocks .entry))))) ⌝ }
+    requires { ⌜ (blockListNo (blocksOfNumbers (now blocks)) ≡ 0) × (length (now area) ≡ 384) ⌝ }
+    ensures { λ r. ⌜ (length (now (area .exit)) ≡ 384)
+        × (r ≡ length (addrs bestSlope 128 (groupCount 128 (length (now (blocks .entry)))) (blocksOfNumbers (now (blocks .entry))))) ⌝ }
 {
     let mut len: usize = 0;
     let mut first: usize = 0;
@@ -90,8 +87,10 @@ fn addrs_len(blocks: &[[u64; 3]], area: &mut [u64; 384]) -> usize
 
 // Writes the store from the front of `out` on. Returns its length.
 fn write_groups(blocks: &[[u64; 3]], area: &mut [u64; 384], out: &mut [u8]) -> usize
-    requires { ⌜ (recordsNo (recordsOf (now blocks)) ≡ 0) × (length (now area) ≡ 384) × (length (storeBytes bestSlope 128 (recordsOf (now blocks))) ≤ length (now out)) ⌝ }
-    ensures { λ r. ⌜ (r ≡ length (storeBytes bestSlope 128 (recordsOf (now (blocks .entry))))) × (now (out .exit) ≡ sets (now (out .entry)) 0 (storeBytes bestSlope 128 (recordsOf (now (blocks .entry))))) ⌝ }
+    requires { ⌜ (blockListNo (blocksOfNumbers (now blocks)) ≡ 0) × (length (now area) ≡ 384)
+        × (length (storeBytes bestSlope 128 (blocksOfNumbers (now blocks))) ≤ length (now out)) ⌝ }
+    ensures { λ r. ⌜ (r ≡ length (storeBytes bestSlope 128 (blocksOfNumbers (now (blocks .entry)))))
+        × (now (out .exit) ≡ sets (now (out .entry)) 0 (storeBytes bestSlope 128 (blocksOfNumbers (now (blocks .entry))))) ⌝ }
 {
     let metas = META_LEN * store::write::group_count(blocks.len(), STORE_BLOCK_LEN);
     serialize::serialize_u64(out, 0, metas as u64);
@@ -121,7 +120,8 @@ fn write_groups(blocks: &[[u64; 3]], area: &mut [u64; 384], out: &mut [u8]) -> u
 
 // Writes the store of the records from the front of `out` on.
 pub fn serialize_numbers(blocks: &[[u64; 3]], out: &mut [u8]) -> Stored
-    ensures { λ r. ⌜ (r ≡ sliceStored (recordsOf (now (blocks .entry))) (now (out .entry))) × (now (out .exit) ≡ sliceOut (recordsOf (now (blocks .entry))) (now (out .entry))) ⌝ }
+    ensures { λ r. ⌜ (r ≡ sliceStored (blocksOfNumbers (now (blocks .entry))) (now (out .entry)))
+        × (now (out .exit) ≡ sliceOut (blocksOfNumbers (now (blocks .entry))) (now (out .entry))) ⌝ }
 {
     let no = rows_no(blocks);
     if no != 0 {

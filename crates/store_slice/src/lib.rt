@@ -2,7 +2,7 @@
 ghost use mathlib.Core.Path.{_≡_};
 ghost use Prim.Native.Nat.{_≤_};
 ghost use lib.ListN.{length};
-ghost use Rattle.store_slice.specs.Slice.{recordsNo, sliceStored, sliceOut};
+ghost use Rattle.store_slice.specs.Slice.{blockListNo, sliceStored, sliceOut};
 
 mod area;
 pub mod groups;
@@ -21,8 +21,9 @@ pub struct Stored {
 
 // Few records that hit no row, copied out to a small area.
 fn serialize_few(blocks: &[BlockAddr], out: &mut [u8]) -> Stored
-    requires { ⌜ (recordsNo (now blocks) ≡ 0) × (length (now blocks) ≤ 1024) ⌝ }
-    ensures { λ r. ⌜ (r ≡ sliceStored (now (blocks .entry)) (now (out .entry))) × (now (out .exit) ≡ sliceOut (now (blocks .entry)) (now (out .entry))) ⌝ }
+    requires { ⌜ (blockListNo (now blocks) ≡ 0) × (length (now blocks) ≤ 1024) ⌝ }
+    ensures { λ r. ⌜ (r ≡ sliceStored (now (blocks .entry)) (now (out .entry)))
+        × (now (out .exit) ≡ sliceOut (now (blocks .entry)) (now (out .entry))) ⌝ }
 {
     let mut area = [0u64; 3_072];
     area::copy_out(blocks, &mut area);
@@ -31,8 +32,9 @@ fn serialize_few(blocks: &[BlockAddr], out: &mut [u8]) -> Stored
 
 // Records that hit no row, copied out to an area for as many as a store has: 1.5 MB of stack.
 fn serialize_many(blocks: &[BlockAddr], out: &mut [u8]) -> Stored
-    requires { ⌜ recordsNo (now blocks) ≡ 0 ⌝ }
-    ensures { λ r. ⌜ (r ≡ sliceStored (now (blocks .entry)) (now (out .entry))) × (now (out .exit) ≡ sliceOut (now (blocks .entry)) (now (out .entry))) ⌝ }
+    requires { ⌜ blockListNo (now blocks) ≡ 0 ⌝ }
+    ensures { λ r. ⌜ (r ≡ sliceStored (now (blocks .entry)) (now (out .entry)))
+        × (now (out .exit) ≡ sliceOut (now (blocks .entry)) (now (out .entry))) ⌝ }
 {
     let mut area = [0u64; 196_608];
     area::copy_out(blocks, &mut area);
@@ -41,7 +43,8 @@ fn serialize_many(blocks: &[BlockAddr], out: &mut [u8]) -> Stored
 
 // Writes the store of the blocks from the front of `out` on.
 pub fn serialize(blocks: &[BlockAddr], out: &mut [u8]) -> Stored
-    ensures { λ r. ⌜ (r ≡ sliceStored (now (blocks .entry)) (now (out .entry))) × (now (out .exit) ≡ sliceOut (now (blocks .entry)) (now (out .entry))) ⌝ }
+    ensures { λ r. ⌜ (r ≡ sliceStored (now (blocks .entry)) (now (out .entry)))
+        × (now (out .exit) ≡ sliceOut (now (blocks .entry)) (now (out .entry))) ⌝ }
 {
     let no = rows::rows_no(blocks);
     if no != 0 {

@@ -1,11 +1,9 @@
 // Rows 3, 4, 5 and 7 over all records of a slice.
 ghost use mathlib.Core.Path.{_≡_};
-ghost use Rattle.store_slice.specs.Slice.{recordsNo};
+ghost use Rattle.store_slice.specs.Slice.{blockListNo};
 ghost use Rattle.store_slice.specs.Records.{seenNone, seenWith, seenNo};
 use group::BlockAddr;
-
-// The most records that a store has.
-const MAX_BLOCKS: usize = 65_536;
+use layout::MAX_BLOCKS;
 
 // Whether records seen so far break rows 3, 4 and 5, and the last of them, if there is some.
 pub struct Seen {
@@ -70,7 +68,7 @@ impl Seen {
 
 // The first row that the records hit, or 0. All of them are looked at.
 pub fn rows_no(blocks: &[BlockAddr]) -> u32
-    ensures { λ r. ⌜ r ≡ recordsNo (now (blocks .entry)) ⌝ }
+    ensures { λ r. ⌜ r ≡ blockListNo (now (blocks .entry)) ⌝ }
 {
     let mut seen = Seen::none();
     let mut i: usize = 0;

@@ -53,7 +53,8 @@ fn follows(area: &[u64], i: usize) -> bool
 // Whether each of n blocks follows the one before it.
 fn all_follow(area: &[u64], n: usize) -> bool
     requires { ⌜ (1 ≤ n) × (3 * n ≤ length (now area)) ⌝ }
-    ensures { λ r. ⌜ (r ≡ true → (i : ℕ) → suc i < n → Follows (blockAt (now (area .entry)) 3 i) (blockAt (now (area .entry)) 3 (suc i))) ⌝ }
+    ensures { λ r. ⌜ (r ≡ true → (i : ℕ) → suc i < n
+        → Follows (blockAt (now (area .entry)) 3 i) (blockAt (now (area .entry)) 3 (suc i))) ⌝ }
 {
     let last = n - 1;
     let mut i: usize = 0;

@@ -3,12 +3,12 @@ ghost use mathlib.Core.Path.{_≡_};
 ghost use mathlib.Core.Bool.{true};
 ghost use Prim.Native.Nat.{_+_, _-_, _*_, _≤_, _<_};
 ghost use lib.ListN.{length, take, drop};
-ghost use Rattle.store.specs.Facts.{StoreArea, RecordsOk};
+ghost use Rattle.store.specs.Facts.{StoreArea, GroupRecordsOk};
 use crate::blocks;
 use crate::hash;
 use group::BlockAddr;
 use store::Got;
-use store::Located;
+use store::OrdFound;
 
 pub const MARK: u8 = 0xa5;
 
@@ -68,7 +68,8 @@ fn write_store(area: &[u64], n: usize, len: usize, out: &mut [u8]) -> bool
 
 // Where the address bytes begin in a store that has records for n blocks; 0 where it has none.
 fn addrs_at(store: &[u8], n: usize) -> usize
-    ensures { λ r. ⌜ (0 < r → (8 ≤ r) × (r ≤ length (now (store .entry))) × RecordsOk 128 (take (r - 8) (drop 8 (now (store .entry)))) n) ⌝ }
+    ensures { λ r. ⌜ (0 < r → (8 ≤ r) × (r ≤ length (now (store .entry)))
+        × GroupRecordsOk 128 (take (r - 8) (drop 8 (now (store .entry)))) n) ⌝ }
 {
     if n < 1 {
         return 0;
@@ -194,14 +195,14 @@ fn locates(store: &[u8], n: usize, ord: u64, id: usize, block: BlockAddr) -> boo
         return false;
     }
     match store::read::binary_search_ord(&store[LENGTH..at], &store[at..], n, GROUP, ord) {
-        Located::At(i, found) => {
+        OrdFound::At(i, found) => {
             if i != id {
                 return false;
             }
             equal(found, block)
         }
-        Located::Below => false,
-        Located::Unsound => false,
+        OrdFound::Below => false,
+        OrdFound::Broken => false,
     }
 }
 

@@ -190,7 +190,8 @@ fn take_token(
     spans: &mut [usize],
     taken: Taken,
 ) -> Taken
-    requires { ⌜ (from ≤ end) × (end ≤ length (now text)) × (taken .numbers ≤ length (now numbers)) × (taken .bytes ≤ length (now bytes)) ⌝ }
+    requires { ⌜ (from ≤ end) × (end ≤ length (now text)) × (taken .numbers ≤ length (now numbers))
+        × (taken .bytes ≤ length (now bytes)) ⌝ }
     ensures { λ r. ⌜ (r .numbers ≤ length (now (numbers .entry))) × (r .bytes ≤ length (now (bytes .entry))) ⌝ }
 {
     if from < end {
@@ -259,7 +260,8 @@ pub fn parse(
     bytes: &mut [u8],
     spans: &mut [usize],
 ) -> Line
-    ensures { λ r. ⌜ (at < length (now (text .entry)) → at < r .next) × (r .next ≤ length (now (text .entry))) × (r .numbers ≤ length (now (numbers .entry))) ⌝ }
+    ensures { λ r. ⌜ (at < length (now (text .entry)) → at < r .next) × (r .next ≤ length (now (text .entry)))
+        × (r .numbers ≤ length (now (numbers .entry))) ⌝ }
 {
     if at >= text.len() {
         return Line::empty(0, text.len(), false);

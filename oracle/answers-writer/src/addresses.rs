@@ -2,9 +2,10 @@
 
 use std::collections::BTreeSet;
 
-use model::blocks::{self, LIMIT, WORKED};
+use model::blocks::{self, WORKED};
 use model::foreign::{self, Group, group, near};
 use model::numbers::Numbers;
+use model::settings::{GROUP_LEN, LIMIT};
 use tantivy_sstable::access::{Block, Store};
 
 use crate::stores;
@@ -78,7 +79,7 @@ pub fn list() -> String {
         let blocks = blocks::random(&mut rng, count, 3, 1, 20, 20);
         let mut groups = Vec::new();
         let mut offset = 0;
-        let parts: Vec<&[Block]> = blocks.chunks(128).collect();
+        let parts: Vec<&[Block]> = blocks.chunks(GROUP_LEN).collect();
         // in every second store the last group's fields stand first
         let order: Vec<usize> = if round % 2 == 0 {
             (0..parts.len()).collect()

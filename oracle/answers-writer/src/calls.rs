@@ -4,8 +4,9 @@ use std::collections::BTreeSet;
 use std::fmt::Write;
 
 use model::areas::{Areas, Entry, MARK, MOST, Machine, View, by_rule, first, hits, index};
-use model::blocks::{LIMIT, WORKED, block};
+use model::blocks::{WORKED, block};
 use model::numbers::Numbers;
+use model::settings::{LIMIT, STRIDE};
 use model::sums::remainder;
 use tantivy_sstable::access::{self, Block};
 
@@ -172,7 +173,7 @@ impl Calls {
     fn many(&mut self, count: u32, more: Block, key: &[u8]) {
         let view = |n: u32| View {
             n: n.into(),
-            room: 5 * (MOST + 1),
+            room: STRIDE as u128 * (MOST + 1),
             key_room: 4 * (MOST + 1),
             taken: 4 * u128::from(n),
             last: n.checked_sub(1).map(by_rule),
@@ -631,7 +632,7 @@ fn random(calls: &mut Calls) {
     for _ in 0..13 {
         let count = rng.within(1, 9);
         calls.fresh(
-            5 * count as usize + rng.below(3) as usize,
+            STRIDE * count as usize + rng.below(3) as usize,
             8 * count as usize,
         );
         let (mut at, mut ord) = (rng.bits(20), rng.bits(6));

@@ -6,6 +6,10 @@ use crate::list_bytes::{Call, Question, encode};
 use crate::replayed::{self, Rooms};
 use crate::replays::{Lists, add, shorten, worked_calls};
 
+/// Where the settings' length and the counts stand.
+const SETTINGS: usize = 0;
+const COUNTS: usize = 4;
+
 /// A short list, and where its items begin.
 struct Base {
     bytes: Vec<u8>,
@@ -26,9 +30,9 @@ fn base() -> Base {
     let fit = replayed::rooms(&calls, questions.len());
     Base {
         bytes: encode(&calls, &questions),
-        calls: vec![8, 38, 44],
-        questions: vec![74, 83, 89],
-        strings: vec![33, 39, 69, 84, 98],
+        calls: vec![12, 42, 48],
+        questions: vec![78, 87, 93],
+        strings: vec![37, 43, 73, 88, 102],
         rooms: Rooms {
             answers: fit.answers + 10,
             ..fit
@@ -53,8 +57,9 @@ pub fn lists(lists: &mut Lists) {
     for more in [&[0][..], &[2], &[255; 9], &base.bytes] {
         lists.bytes(&[&base.bytes[..], more].concat(), base.rooms);
     }
-    lists.bytes(&[0; 7], base.rooms);
-    lists.bytes(&[0; 9], base.rooms);
+    for length in [3, 4, 7, 11, 12, 13] {
+        lists.bytes(&vec![0; length], base.rooms);
+    }
     lists.bytes(&[0xff; 40], base.rooms);
     tags(lists, &base);
     numbers(lists, &base);
@@ -78,16 +83,19 @@ fn numbers(lists: &mut Lists, base: &Base) {
         let values = [0, 1, right - 1, right + 1, 2 * right + 8, 1 << 16, 1 << 31];
         values.into_iter().chain([u32::MAX, u32::MAX - 7])
     };
-    for &at in [0, 4].iter().chain(&base.strings) {
+    for length in [1u32, 4, 8, 1 << 16, u32::MAX] {
+        lists.bytes(&base.with(SETTINGS, &length.to_le_bytes()), base.rooms);
+    }
+    for &at in [COUNTS, COUNTS + 4].iter().chain(&base.strings) {
         let right = u32::from_le_bytes(base.bytes[at..at + 4].try_into().unwrap());
         for value in other(right).filter(|&value| value != right) {
             lists.bytes(&base.with(at, &value.to_le_bytes()), base.rooms);
         }
     }
     let both = [2u32, 4].map(u32::to_le_bytes).concat();
-    lists.bytes(&base.with(0, &both), base.rooms);
+    lists.bytes(&base.with(COUNTS, &both), base.rooms);
     let all = [u32::MAX; 2].map(u32::to_le_bytes).concat();
-    lists.bytes(&base.with(0, &all), base.rooms);
+    lists.bytes(&base.with(COUNTS, &all), base.rooms);
 }
 
 fn changed(lists: &mut Lists) {

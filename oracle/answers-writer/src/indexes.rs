@@ -4,12 +4,13 @@ use std::collections::BTreeSet;
 use std::fmt::Write;
 
 use model::around;
-use model::blocks::{self, LIMIT, touching};
+use model::blocks::{self, touching};
 use model::faults::others;
 use model::files::{self, Fault, File, rising, smallest, two_group_file, worked_file};
 use model::foreign::{self, Group};
 use model::numbers::Numbers;
 use model::opening::{self, Hit, Opened, Opening};
+use model::settings::LIMIT;
 use tantivy_sstable::access::{Block, Index};
 
 use crate::refused;

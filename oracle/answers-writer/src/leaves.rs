@@ -2,8 +2,8 @@
 
 use std::collections::BTreeSet;
 
-use model::blocks::LIMIT;
 use model::numbers::Numbers;
+use model::settings::LIMIT;
 use tantivy_bitpacker::{BitPacker, compute_num_bits};
 use tantivy_sstable::access;
 

@@ -1,7 +1,12 @@
-//! A list of calls and questions in bytes, as crate `replay` takes it: how many calls and how many questions, the calls, the
-//! questions. Each begins with its tag; a byte string has its length in front.
+//! A list of calls and questions in bytes, as crate `replay` takes it: the settings' length and the settings, of which there are
+//! none yet; how many calls and how many questions, the calls, the questions. Each begins with its tag; a byte string has its
+//! length in front.
 
 use tantivy_sstable::access::Block;
+
+/// `replay`'s own numbers: the bytes aren't a list; the answers have no room.
+pub const NO_LIST: u64 = 101;
+pub const NO_ROOM: u64 = 102;
 
 #[derive(Clone, Debug, PartialEq)]
 pub enum Call {
@@ -20,8 +25,9 @@ pub enum Question {
 }
 
 pub fn encode(calls: &[Call], questions: &[Question]) -> Vec<u8> {
-    let mut bytes = (calls.len() as u32).to_le_bytes().to_vec();
-    bytes.extend((questions.len() as u32).to_le_bytes());
+    let no_settings = 0u32;
+    let head = [no_settings, calls.len() as u32, questions.len() as u32];
+    let mut bytes = head.map(u32::to_le_bytes).concat();
     bytes.extend(calls.iter().flat_map(call_bytes));
     bytes.extend(questions.iter().flat_map(question_bytes));
     assert_eq!(
@@ -63,6 +69,9 @@ fn question_bytes(question: &Question) -> Vec<u8> {
 /// The calls and questions, if the bytes are a list and nothing else.
 pub fn decode(bytes: &[u8]) -> Option<(Vec<Call>, Vec<Question>)> {
     let mut rest = bytes;
+    if small(&mut rest)? != 0 {
+        return None;
+    }
     let counts = (small(&mut rest)?, small(&mut rest)?);
     // a count is beyond the bytes at the first item that isn't there, so nothing is set aside for it
     let mut calls = Vec::new();

@@ -1,12 +1,13 @@
 //! Listings: index files of the Rust's builder, and automata that tell their blocks apart.
 
 use model::automaton::Table;
-use model::blocks::{self, LIMIT};
+use model::blocks;
 use model::faults::others;
 use model::files::{Fault, File, rising, smallest, two_group_file, worked_file};
 use model::numbers::Numbers;
 use model::opening::{self, Opened};
 use model::patterns::{drawn, nearby, ring, small};
+use model::settings::LIMIT;
 use tantivy_sstable::access;
 
 use crate::patterns::Patterns;

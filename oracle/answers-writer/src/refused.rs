@@ -2,11 +2,12 @@
 
 use std::collections::BTreeSet;
 
-use model::blocks::{self, LIMIT, touching};
+use model::blocks::{self, touching};
 use model::faults::faults;
 use model::files::{Fault, File, keys_of_one_byte, smallest, two_group_file, worked_file};
 use model::foreign::{self, Group};
 use model::numbers::Numbers;
+use model::settings::{GROUP_LEN, LIMIT};
 
 use crate::indexes::Indexes;
 
@@ -238,7 +239,7 @@ fn one_part(indexes: &mut Indexes) {
         let blocks = touching(1000, &vec![2; count], 1000, &vec![2; count - 1]);
         let mut groups = Vec::new();
         let mut offset = 0;
-        for blocks in blocks.chunks(128) {
+        for blocks in blocks.chunks(GROUP_LEN) {
             // each field is the byte 128
             let group = Group {
                 blocks,

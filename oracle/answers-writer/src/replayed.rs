@@ -7,8 +7,9 @@ use tantivy_sstable::access::{self, Index};
 use model::areas::{Areas, Entry, MARK, Machine, first, index};
 use model::automaton::{Table, mark, number, table_hits};
 use model::opening::{self, Opening};
+use model::settings::{LONGEST_KEY, STRIDE};
 
-use crate::list_bytes::{Call, Question, decode};
+use crate::list_bytes::{Call, NO_LIST, NO_ROOM, Question, decode};
 use crate::text::hex;
 
 /// A prime.
@@ -123,8 +124,8 @@ impl Builder {
 /// The entries that calls leave where the areas are big enough, and how many key bytes they take at most on the way.
 pub fn entries(calls: &[Call]) -> (Vec<Entry>, usize) {
     let mut builder = Builder::fresh(Rooms {
-        blocks: 5 * calls.len(),
-        keys: 1024 * calls.len(),
+        blocks: STRIDE * calls.len(),
+        keys: LONGEST_KEY * calls.len(),
         out: 0,
         answers: 0,
     });
@@ -140,7 +141,7 @@ pub fn entries(calls: &[Call]) -> (Vec<Entry>, usize) {
 pub fn rooms(calls: &[Call], questions: usize) -> Rooms {
     let (entries, keys) = entries(calls);
     Rooms {
-        blocks: 5 * entries.len(),
+        blocks: STRIDE * entries.len(),
         keys,
         out: index(&entries).0.len(),
         answers: 5 * (calls.len() + 2 + questions),
@@ -234,10 +235,10 @@ impl Opened {
 pub fn replay(bytes: &[u8], rooms: Rooms) -> Replayed {
     let builder = Builder::fresh(rooms);
     let Some((calls, questions)) = decode(bytes) else {
-        return refused(26, builder, rooms);
+        return refused(NO_LIST, builder, rooms);
     };
     if rooms.answers < 5 * (calls.len() + 2 + questions.len()) {
-        return refused(27, builder, rooms);
+        return refused(NO_ROOM, builder, rooms);
     }
     run(builder, rooms, &calls, &questions)
 }

@@ -7,12 +7,13 @@ use tantivy_sstable::access::{self, Block};
 
 use model::areas::Entry;
 use model::automaton::Table;
-use model::blocks::{LIMIT, WORKED, block};
+use model::blocks::{WORKED, block};
 use model::numbers::Numbers;
 use model::patterns::ring;
+use model::settings::LIMIT;
 
 use crate::damaged_lists;
-use crate::list_bytes::{Call, Question, decode, encode};
+use crate::list_bytes::{Call, NO_LIST, NO_ROOM, Question, decode, encode};
 use crate::replayed::{self, Replayed, Rooms};
 use crate::text::hex;
 
@@ -246,7 +247,7 @@ pub fn lists() -> (String, String) {
 /// Every number that a list can get, of each call and question.
 fn check_seen(lists: &Lists) {
     let kinds = [
-        ("list", &[0, 26, 27][..]),
+        ("list", &[0, NO_LIST, NO_ROOM][..]),
         ("add", &[0, 2, 3, 4, 5, 6, 7]),
         ("shorten", &[0, 2, 6]),
         ("finish", &[0, 9]),

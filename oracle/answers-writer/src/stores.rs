@@ -1,7 +1,8 @@
 //! The list of stores.
 
-use model::blocks::{LIMIT, WORKED, by_rule, random, store, touching};
+use model::blocks::{WORKED, by_rule, random, store, touching};
 use model::numbers::Numbers;
+use model::settings::LIMIT;
 use model::sums::fnv;
 use tantivy_sstable::access::Block;
 

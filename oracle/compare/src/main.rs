@@ -1,33 +1,41 @@
 //! Compares the exported functions of librosmarel.a with the Rust and with plain models of document 01.
+//!
+//! compare ROOT [--begin] [--stop] [TOPIC..]: the repository's folder; lent parts begin at a protected page and don't end at one;
+//! the first failure ends the run; some topics alone.
 
-mod builder;
+mod asked;
+mod calls;
 mod cases;
 mod differences;
-mod keys;
-mod lent;
-mod library;
-mod opened;
-mod patterns;
+mod memory;
+mod print;
 mod stored;
-mod stores;
 mod tally;
 
 use std::env;
 use std::path::Path;
 use std::process::ExitCode;
 
+use memory::{lent, touched};
 use tally::Tally;
 
 fn main() -> ExitCode {
-    tally::keep_quiet();
-    let root = env::args_os().nth(1).expect("the repository's folder");
-    let mut tally = Tally::new();
-    let tally = &mut tally;
-    building(tally);
-    reading(tally);
-    patterns(tally);
-    stored::run(tally, Path::new(&root));
-    differences::run(tally, Path::new(&root));
+    asked::keep_quiet();
+    touched::watch();
+    let mut words: Vec<String> = env::args().skip(1).collect();
+    let root = words.remove(0);
+    let mut option = |name: &str| {
+        let before = words.len();
+        words.retain(|word| word != name);
+        words.len() < before
+    };
+    let (begin, stop) = (option("--begin"), option("--stop"));
+    if begin {
+        lent::begin_at_a_page();
+    }
+    let mut tally = Tally::new(stop);
+    println!("{}", about(begin));
+    run(&mut tally, Path::new(&root), &words);
     let (passed, failed) = tally.print();
     println!("{passed} passed, {failed} failed");
     if failed == 0 {
@@ -37,51 +45,35 @@ fn main() -> ExitCode {
     }
 }
 
-fn building(tally: &mut Tally) {
-    cases::keys::pairs(tally);
-    cases::keys::long(tally);
-    cases::keys::random(tally, 100_000);
-    cases::lists::short(tally);
-    cases::lists::random(tally, 50_000);
-    cases::areas::counts(tally);
-    cases::areas::changed(tally);
-    cases::areas::keys(tally);
-    cases::areas::random(tally, 100_000);
-    cases::stores::small(tally);
-    cases::stores::powers(tally);
-    cases::stores::random_ones(tally, 100_000);
-    cases::stores::sizes(tally);
-    cases::stores::most(tally);
-    cases::sizes::named(tally, 12);
-    cases::sizes::too_long(tally);
-    cases::sizes::most(tally);
+/// Which archive, which Rust, and where parts are lent.
+fn about(begin: bool) -> String {
+    let archive = env!("ROSMAREL_ARCHIVE");
+    let checks = if asked::overflow_checks() {
+        "with"
+    } else {
+        "without"
+    };
+    let place = if begin { "begin after" } else { "end before" };
+    format!(
+        "archive {archive}\nthe Rust {checks} overflow checks; lent parts {place} a page that can't be touched"
+    )
 }
 
-fn reading(tally: &mut Tally) {
-    cases::damage::every_byte(tally);
-    cases::damage::some_bytes(tally);
-    cases::damage::cut(tally);
-    cases::damage::numbers(tally);
-    cases::damage::pairs(tally);
-    cases::damage::by_row(tally);
-    cases::damage::random_ones(tally, 20_000);
-    cases::foreign::widths(tally);
-    cases::foreign::wide(tally);
-    cases::foreign::slopes(tally, 3_000);
-    cases::foreign::gaps(tally, 300);
-    cases::foreign::overlaps(tally);
-    cases::free::listed(tally);
-    cases::free::changed(tally);
-    cases::free::random_ones(tally, 1_000);
-}
-
-fn patterns(tally: &mut Tally) {
-    cases::automata::every_small_one(tally);
-    cases::automata::random(tally, 5_000);
-    cases::automata::long(tally);
-    cases::automata::refused(tally);
-    cases::listings::words(tally);
-    cases::listings::random_ones(tally, 500);
-    cases::listings::large(tally);
-    cases::listings::refused(tally);
+/// All topics, or those that are named.
+fn run(tally: &mut Tally, root: &Path, topics: &[String]) {
+    let named = |name: &str| topics.is_empty() || topics.iter().any(|topic| topic == name);
+    for (name, run) in cases::TOPICS {
+        if named(name) {
+            run(tally);
+        }
+    }
+    if named("stored") {
+        stored::run(tally, root);
+    }
+    if named("differences") {
+        differences::run(tally, root);
+    }
+    if topics.is_empty() {
+        tally.check_numbers();
+    }
 }

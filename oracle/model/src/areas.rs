@@ -4,9 +4,10 @@ use std::collections::BTreeSet;
 
 use tantivy_sstable::access::{self, Block};
 
-use crate::blocks::{LIMIT, block};
+use crate::blocks::block;
+use crate::settings::{LIMIT, LONGEST_KEY, MOST_BLOCKS, STRIDE};
 
-pub const MOST: u128 = 65_536;
+pub const MOST: u128 = MOST_BLOCKS as u128;
 /// What fills lent areas.
 pub const MARK: u8 = 0xa5;
 
@@ -31,9 +32,14 @@ pub struct View {
     pub last: Option<Entry>,
 }
 
+/// How many numbers these blocks take.
+fn numbers(blocks: u128) -> u128 {
+    STRIDE as u128 * blocks
+}
+
 impl View {
     pub fn row_1(&self) -> bool {
-        self.n > MOST || 5 * self.n > self.room || self.taken > self.key_room
+        self.n > MOST || numbers(self.n) > self.room || self.taken > self.key_room
     }
 
     pub fn row_6(&self, key: &[u8]) -> bool {
@@ -42,7 +48,7 @@ impl View {
 
     pub fn row_7(&self, key: &[u8]) -> bool {
         self.n == MOST
-            || 5 * self.n + 5 > self.room
+            || numbers(self.n + 1) > self.room
             || self.taken + key.len() as u128 > self.key_room
     }
 
@@ -51,7 +57,7 @@ impl View {
         let Block { start, end, ord } = block;
         let last = self.last.as_ref().map(|last| last.0);
         hits(&[
-            (2, key.len() > 1024),
+            (2, key.len() > LONGEST_KEY),
             (3, end < start || end >= LIMIT || ord >= LIMIT),
             (4, last.is_some_and(|last| start != last.end)),
             (5, last.is_some_and(|last| ord <= last.ord)),
@@ -71,7 +77,7 @@ impl View {
     pub fn shorten_rows(&self, next: &[u8]) -> Vec<u64> {
         hits(&[
             (1, self.row_1()),
-            (2, next.len() > 1024),
+            (2, next.len() > LONGEST_KEY),
             (6, self.row_6(next)),
         ])
     }
@@ -113,7 +119,7 @@ impl Machine {
     }
 }
 
-/// A count over two areas: five numbers a block, and the keys.
+/// A count over two areas: the blocks' numbers, and the keys.
 #[derive(Clone)]
 pub struct Areas {
     pub n: u64,
@@ -122,8 +128,8 @@ pub struct Areas {
 }
 
 impl Areas {
-    pub fn record(&self, i: u64) -> [u64; 5] {
-        let at = (i as usize).saturating_mul(5);
+    pub fn record(&self, i: u64) -> [u64; STRIDE] {
+        let at = (i as usize).saturating_mul(STRIDE);
         std::array::from_fn(|k| {
             let place = at.saturating_add(k);
             self.blocks.get(place).copied().unwrap_or(0)
@@ -175,8 +181,8 @@ impl Areas {
 
     pub fn add(&mut self, block: Block, key: &[u8]) {
         let offset = self.view(self.n).taken as usize;
-        let at = 5 * self.n as usize;
-        self.blocks[at..at + 5].copy_from_slice(&[
+        let at = STRIDE * self.n as usize;
+        self.blocks[at..at + STRIDE].copy_from_slice(&[
             block.start,
             block.end,
             block.ord,
@@ -188,7 +194,7 @@ impl Areas {
     }
 
     pub fn replace_last_key(&mut self, key: &[u8]) {
-        let last = 5 * (self.n as usize - 1);
+        let last = STRIDE * (self.n as usize - 1);
         let offset = self.blocks[last + 3] as usize;
         self.blocks[last + 4] = key.len() as u64;
         self.keys[offset..offset + key.len()].copy_from_slice(key);

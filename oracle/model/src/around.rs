@@ -5,14 +5,24 @@ use std::collections::BTreeSet;
 use tantivy_sstable::access::Block;
 
 use crate::numbers::Numbers;
+use crate::settings::GROUP_LEN;
 
 /// Ids of a file: all of a short one.
 pub fn ids(rng: &mut Numbers, n: u64, some: usize) -> BTreeSet<u64> {
     if n <= 8 {
         return (0..n).collect();
     }
-    let ends = [0, 1, 126, 127, 128, 129, 255, 256, n - 2, n - 1];
-    let mut ids: BTreeSet<u64> = ends.into_iter().filter(|&id| id < n).collect();
+    let group = GROUP_LEN as u64;
+    let around = [
+        group - 2,
+        group - 1,
+        group,
+        group + 1,
+        2 * group - 1,
+        2 * group,
+    ];
+    let ends = [0, 1, n - 2, n - 1].into_iter().chain(around);
+    let mut ids: BTreeSet<u64> = ends.filter(|&id| id < n).collect();
     ids.extend((0..some).map(|_| rng.below(n)));
     ids
 }

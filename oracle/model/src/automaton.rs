@@ -4,6 +4,7 @@ use tantivy_fst::Automaton;
 use tantivy_sstable::access;
 
 use crate::opening::Hit;
+use crate::settings::MOST_STATES;
 
 /// The table of document 01: a flag for each state, and 256 next states for each. State 0 starts.
 #[derive(Clone)]
@@ -17,7 +18,7 @@ pub struct Table {
 impl Table {
     pub fn new(flags: Vec<u8>, next: Vec<u8>) -> Table {
         let m = flags.len();
-        assert!((1..=64).contains(&m) && next.len() == 256 * m);
+        assert!((1..=MOST_STATES).contains(&m) && next.len() == 256 * m);
         assert!(flags.iter().all(|&flag| flag <= 1));
         assert!(next.iter().all(|&state| usize::from(state) < m));
         let mut live: Vec<bool> = flags.iter().map(|&flag| flag == 1).collect();
@@ -154,7 +155,7 @@ pub fn table_hits(bytes: &[u8]) -> Vec<Hit> {
     if m == 0 {
         hits.push((21, "no states"));
     }
-    if m > 64 {
+    if m > MOST_STATES {
         hits.push((21, "over 64 states"));
     }
     if bytes.len() != 1 + 257 * m {
@@ -177,7 +178,7 @@ pub fn number(hits: &[Hit]) -> u64 {
 
 /// The room that every example of the interval fits in.
 pub fn room((start, end): &Interval) -> usize {
-    start.as_ref().map_or(0, Vec::len).max(end.len()) + 64
+    start.as_ref().map_or(0, Vec::len).max(end.len()) + MOST_STATES
 }
 
 /// The Rust's answer, held against a plain search.

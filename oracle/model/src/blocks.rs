@@ -3,9 +3,7 @@
 use tantivy_sstable::access::{self, Block, Store};
 
 use crate::numbers::Numbers;
-
-/// Where ends and ordinals stop.
-pub const LIMIT: u64 = 1 << 48;
+use crate::settings::LIMIT;
 
 /// The three blocks of the worked case.
 pub const WORKED: [Block; 3] = [
@@ -30,7 +28,7 @@ pub fn block(start: u64, end: u64, ord: u64) -> Block {
     Block { start, end, ord }
 }
 
-/// Blocks of these lengths one behind the other, with these steps between their ordinals.
+/// Blocks of these lengths one after the other, with these steps between their ordinals.
 pub fn touching(start: u64, lengths: &[u64], ord: u64, steps: &[u64]) -> Vec<Block> {
     assert_eq!(lengths.len(), steps.len() + 1);
     let (mut start, mut ord) = (start, ord);

@@ -1,8 +1,8 @@
 //! Faults in files, and records that don't belong to a file.
 
-use crate::blocks::LIMIT;
 use crate::files::{Fault, smallest};
 use crate::opening::{self, Opened};
+use crate::settings::LIMIT;
 
 /// A fault's row, and the fault.
 pub fn faults() -> Vec<(u64, Fault)> {

@@ -7,6 +7,7 @@ use tantivy_sstable::access::{self, Block};
 use crate::blocks::{self, touching};
 use crate::foreign::{self, Group};
 use crate::numbers::Numbers;
+use crate::settings::{GROUP_LEN, GROUP_RECORD};
 
 /// The parts of a file.
 #[derive(Clone)]
@@ -78,7 +79,7 @@ impl File {
 
     /// Replaces bytes of a group's record.
     pub fn record(&mut self, group: usize, at: usize, bytes: &[u8]) {
-        let at = 36 * group + at;
+        let at = GROUP_RECORD * group + at;
         self.records[at..at + bytes.len()].copy_from_slice(bytes);
     }
 
@@ -133,7 +134,7 @@ pub fn keys_of_one_byte(count: usize) -> Vec<Vec<u8>> {
 
 /// A file of two groups, the second with `more` blocks, keys of one byte.
 pub fn two_group_file(more: usize) -> File {
-    let count = 128 + more;
+    let count = GROUP_LEN + more;
     let blocks = touching(3, &vec![2; count], 1, &vec![1; count - 1]);
     File::written(&blocks, &keys_of_one_byte(count))
 }
@@ -157,7 +158,7 @@ pub fn by_rule(count: u64) -> File {
     let blocks = touching(0, &lengths, 0, &lengths[1..]);
     let keys: Vec<Vec<u8>> = (0..count).map(|i| i.to_be_bytes()[5..].to_vec()).collect();
     let groups: Vec<Group> = blocks
-        .chunks(128)
+        .chunks(GROUP_LEN)
         .map(|blocks| Group {
             blocks,
             offset: 0,

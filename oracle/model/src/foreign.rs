@@ -3,8 +3,9 @@
 use tantivy_sstable::access::Block;
 
 use crate::numbers::Numbers;
+use crate::settings::WIDEST;
 
-/// A group of at most 128 blocks.
+/// A group of blocks.
 #[derive(Clone, Copy)]
 pub struct Group<'a> {
     pub blocks: &'a [Block],
@@ -88,9 +89,9 @@ pub fn least_width(points: &[(u64, u64)], slope: u32) -> u8 {
             .iter()
             .all(|&(i, value)| (-half..half).contains(&derivation(i, value, slope)))
     };
-    (1..=56)
+    (1..=WIDEST)
         .find(|&width| fits(width))
-        .expect("56 bits are enough")
+        .expect("the widest field is enough")
 }
 
 /// The store of the groups. The fields are set in the address bytes as given, whose other bits stay.
@@ -125,11 +126,11 @@ pub fn group<'a>(rng: &mut Numbers, blocks: &'a [Block], offset: usize, widest: 
         };
         let least = least_width(points, slope);
         let width = if widest {
-            56 - rng.below(3)
+            u64::from(WIDEST) - rng.below(3)
         } else {
             u64::from(least) + rng.pick(&[0, 0, 1, 2, 7])
         };
-        (slope, (width.min(56) as u8).max(least))
+        (slope, (width.min(WIDEST.into()) as u8).max(least))
     };
     let (range_slope, range_width) = slope_and_width(&range_points(blocks));
     let (ord_slope, ord_width) = slope_and_width(&ord_points(blocks));

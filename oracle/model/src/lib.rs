@@ -10,4 +10,5 @@ pub mod foreign;
 pub mod numbers;
 pub mod opening;
 pub mod patterns;
+pub mod settings;
 pub mod sums;

@@ -4,7 +4,15 @@ use std::collections::BTreeSet;
 
 use tantivy_sstable::access::Block;
 
-const LIMIT: i128 = 1 << 48;
+use crate::settings::{self, OPENED_LEN};
+
+/// The settings as whole numbers.
+const LIMIT: i128 = settings::LIMIT as i128;
+const GROUP: i128 = settings::GROUP_LEN as i128;
+const RECORD: i128 = settings::GROUP_RECORD as i128;
+const MOST: i128 = settings::MOST_BLOCKS as i128;
+const LONGEST: i128 = settings::LONGEST_KEY as i128;
+const WIDEST: i128 = settings::WIDEST as i128;
 
 /// The opened record: n, and offset and length of the directory, the group records and the address bytes.
 #[derive(Clone, Copy, Debug, Default, PartialEq, Eq)]
@@ -16,7 +24,7 @@ pub struct Opened {
 }
 
 impl Opened {
-    pub fn of(numbers: [u64; 7]) -> Opened {
+    pub fn of(numbers: [u64; OPENED_LEN]) -> Opened {
         let [n, d, dl, r, rl, a, al] = numbers;
         Opened {
             n,
@@ -26,7 +34,7 @@ impl Opened {
         }
     }
 
-    pub fn numbers(&self) -> [u64; 7] {
+    pub fn numbers(&self) -> [u64; OPENED_LEN] {
         let (d, r, a) = (self.directory, self.records, self.addresses);
         [self.n, d.0, d.1, r.0, r.1, a.0, a.1]
     }
@@ -141,7 +149,7 @@ fn open_directory(opening: &mut Opening, directory: &[u8]) {
     };
     opening.record.n = n as u64;
     let mut hits = Vec::new();
-    if !(2..=65_536).contains(&n) {
+    if !(2..=MOST).contains(&n) {
         hits.push((12, "count"));
     }
     let mut next = 0;
@@ -156,7 +164,7 @@ fn open_directory(opening: &mut Opening, directory: &[u8]) {
         if offset != next {
             hits.push((12, "offset"));
         }
-        if length > 1024 {
+        if length > LONGEST {
             hits.push((12, "long key"));
         }
         next = offset + length;
@@ -182,8 +190,8 @@ fn open_directory(opening: &mut Opening, directory: &[u8]) {
 /// Rows 14 to 16. The store has 8 bytes or more; the directory may have no count.
 fn open_store(opening: &mut Opening, store: &[u8], n: Option<i128>) {
     let records_len = number(store, 0, 8).unwrap();
-    let groups = n.map(|n| (n + 127) / 128);
-    if groups.is_some_and(|groups| records_len != 36 * groups) {
+    let groups = n.map(|n| (n + GROUP - 1) / GROUP);
+    if groups.is_some_and(|groups| records_len != RECORD * groups) {
         opening.hits.push((14, "records' length"));
     }
     let behind = 8 + records_len;
@@ -200,7 +208,7 @@ fn open_store(opening: &mut Opening, store: &[u8], n: Option<i128>) {
         return;
     };
     let groups: Vec<Group> = (0..groups)
-        .map_while(|g| Group::read(store, 8 + 36 * g, (n - 128 * g).min(128), addresses))
+        .map_while(|g| Group::read(store, 8 + RECORD * g, (n - GROUP * g).min(GROUP), addresses))
         .collect();
     let mut hits: Vec<Hit> = groups.iter().flat_map(Group::row_15).collect();
     let all: Vec<Option<Vec<Values>>> = groups.iter().map(Group::values).collect();
@@ -236,7 +244,7 @@ struct Group<'a> {
 
 impl Group<'_> {
     fn read<'a>(store: &[u8], at: i128, due: i128, addresses: &'a [u8]) -> Option<Group<'a>> {
-        let record = part(store, at, 36)?;
+        let record = part(store, at, RECORD)?;
         let number = |from, count| number(record, from, count).unwrap();
         Some(Group {
             offset: number(0, 8),
@@ -250,7 +258,7 @@ impl Group<'_> {
     }
 
     fn widths_fit(&self) -> bool {
-        self.widths.iter().all(|width| (1..=56).contains(width))
+        self.widths.iter().all(|width| (1..=WIDEST).contains(width))
     }
 
     /// Whether the fields of the blocks that it must have are inside.
@@ -263,7 +271,7 @@ impl Group<'_> {
     fn row_15(&self) -> Vec<Hit> {
         let mut hits = Vec::new();
         for (k, part) in ["range width", "ordinal width"].into_iter().enumerate() {
-            if !(1..=56).contains(&self.widths[k]) {
+            if !(1..=WIDEST).contains(&self.widths[k]) {
                 hits.push((15, part));
             }
         }

@@ -2,11 +2,12 @@
 
 use crate::automaton::{Interval, Table};
 use crate::numbers::Numbers;
+use crate::settings::MOST_STATES;
 
-/// A count of states, a third of them 64.
+/// A count of states, a third of them the most.
 pub fn many(rng: &mut Numbers, round: usize) -> usize {
     match round % 3 {
-        0 => 64,
+        0 => MOST_STATES,
         1 => rng.within(1, 4) as usize,
         _ => rng.within(5, 63) as usize,
     }
@@ -36,7 +37,7 @@ pub fn interval(rng: &mut Numbers, table: &Table, longest: u64) -> Interval {
     if rng.one_in(8) {
         return (None, one);
     }
-    // a common front; or the second key is the first with something behind it
+    // a common front; or the second key is the first with something after it
     let cut = rng.below(one.len() as u64 + 1) as usize;
     let other = match rng.below(4) {
         0 => key(rng, table, longest),

@@ -9,7 +9,7 @@ use lib.Bits.{bitAnd, and-mask}
 use lib.Dec.{lit<}
 use lib.ListN.{take, drop}
 use lib.Pow.{pow-pos, shl-exact, shr-shr}
-use Rattle.serialize.specs.Digits.{leVal, Below}
+use Rattle.serialize.specs.Digits.{leVal, DigitsBelow}
 use Rattle.serialize.proofs.Digits.{ofDigits-take, ofDigits-drop, below-drop, sub-field}
 use Rattle.bitpacker.proofs.extract_bits.Statement.{statement}
 use Rattle.bitpacker.proofs.extract_bits.Tie as tie
@@ -19,7 +19,7 @@ one-shl : (n : ℕ) → n < 64 → 1 * 2 ^ n % 2 ^ 64 ≡ 2 ^ n
 one-shl n h = shl-exact 1 n 64 (lit< tt) (omega arith) ∙ one-mul (2 ^ n)
 
 -- `(x >> (addr % 8)) & ((1 << n) - 1)`, where x is the eight bytes from byte addr / 8 on
-extracted : (s : List ℕ) (addr n : ℕ) → Below 8 s → n ≤ 56
+extracted : (s : List ℕ) (addr n : ℕ) → DigitsBelow 8 s → n ≤ 56
     → bitAnd (leVal (take 8 (drop (addr / 8) s)) / 2 ^ (addr % 8)) (1 * 2 ^ n % 2 ^ 64 - 1) ≡ leVal s / 2 ^ addr % 2 ^ n
 extracted s addr n h l =
     let x = leVal (take 8 (drop (addr / 8) s)) in

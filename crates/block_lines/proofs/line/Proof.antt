@@ -2,7 +2,7 @@
 use borrow.Author.Needs.{needs}
 use mathlib.Core.Path.{_≡_, _∙_}
 use Rattle.index.specs.Parts.{separatorIn}
-use Rattle.block_lines.proofs.Opened.{id-small, block-small, separator-small, separator-is}
+use Rattle.block_lines.proofs.Opened.{id-small, separator-small, separator-is}
 use Rattle.block_lines.proofs.line.Statement.{statement}
 use Rattle.block_lines.proofs.line.Tie as tie
 
@@ -28,7 +28,7 @@ put-line-requires c κs =
     let o = s .pre .0 in
     let h = s .pre .1 in (
       id-small f (s .args .opened) o id h,
-      rw (b .block .ensures) (block-small f (s .args .opened) o id h),
+      b .block .ensures .1,
       rw (found k) (separator-small f (s .args .opened) o id h),
       s .pre .2,
     )
@@ -40,7 +40,7 @@ returns : tie.Need-returns
 returns c =
     let p = c .before .before in
     let k = p .before .before in
-    rw (k .before .block .ensures, found k) at (p .put-line .ensures)
+    rw (k .before .block .ensures .0, found k) at (p .put-line .ensures)
 
 pub line-spec : {M : Type 1} → statement M
 line-spec =

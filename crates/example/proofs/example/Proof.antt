@@ -1,9 +1,8 @@
 -- Each row is ruled out before anything is written; the walks give an example or that there is none.
 use mathlib.Core.Path.{_≡_, refl, sym, subst, _∙_}
 use mathlib.Core.Bool.{Bool, false}
-use mathlib.Core.Logic.{inr}
 use mathlib.Core.Option.{some, none}
-use Prim.Native.Nat.{_+_, _≤_, zero-le}
+use Prim.Native.Nat.{_+_, _≤_, _<_, zero-le}
 use native.Mathlib.Omega.{arith}
 use borrow.Author.Needs.{needs}
 use lib.ListN.{length}
@@ -16,7 +15,7 @@ use Rattle.pruning.specs.Interval.{startOf}
 use Rattle.example.specs.Example.{longer, ExampleNo}
 use Rattle.example.specs.declared.ExampleAnswer.the-variants.{Written}
 use Rattle.example.proofs.Shortest.{at-zero, zero-at}
-use Rattle.example.proofs.Answered.{Answered, answered, answered-shown, empty-shown, absent-none, absent-shown, between-shown}
+use Rattle.example.proofs.Answered.{Answered, answered-refused, answered, answered-shown, empty-shown, absent-none, absent-shown, between-shown}
 use Rattle.example.proofs.example.Statement.{statement}
 use Rattle.example.proofs.example.Tie as tie
 
@@ -42,7 +41,7 @@ check-requires : tie.Need-check-requires
 check-requires c κs = search needs
 
 returns : tie.Need-returns
-returns c = (ExampleNo.table (c .before .check .result) (omega arith) (c .before .check .ensures), inr (omega arith, refl, refl))
+returns c = answered-refused (c .before .check .result) (omega arith) (ExampleNo.table (c .before .check .result) (omega arith) (c .before .check .ensures))
 
 has-room-requires : tie.Need-has-room-requires
 has-room-requires c κs = search needs
@@ -51,7 +50,8 @@ returns-2 : tie.Need-returns-2
 returns-2 c =
     let a = c .before .before .before .before .before .before .before .before .args in
     let n : longer (startOf (a .has-start) (a .start-key .now)) (a .end-key .now) + 64 ≤ length (a .out .now) → ⊥ = when-false (c .before .has-room .ensures) (not-true (c .before .has-room .result) (c .if2 .taken)) in
-    (ExampleNo.short (taken (c .before .before)) (omega (arith, n)), inr (omega arith, refl, refl))
+    let short : length (a .out .now) < longer (startOf (a .has-start) (a .start-key .now)) (a .end-key .now) + 64 = omega (arith, n) in
+    answered-refused 24 (omega arith) (ExampleNo.short (taken (c .before .before)) short)
 
 distances-requires : tie.Need-distances-requires
 distances-requires c κs = formed c
@@ -74,10 +74,9 @@ returns-3 c =
     let past = c .before .before .before .before .before .before .before .before in
     let a = past .before .before .before .before .before .before .before .before .args in
     let t = a .table .now in
-    let x = subst (λ (h : Bool). Answered t (startOf h (a .start-key .now)) (a .end-key .now) (a .out .now) (w .last .1 .1 .1 .1 .0) (length (a .out .now)) (c .answer .result)) (sym (c .before .before .before .before .before .before .if3 .taken))
+    subst (λ (h : Bool). Answered t (startOf h (a .start-key .now)) (a .end-key .now) (a .out .now) (w .last .1 .1 .1 .1 .0) (c .answer .result)) (sym (c .before .before .before .before .before .before .if3 .taken))
     (answered (taken (past .before .before)) (subst (λ (h : Bool). longer (startOf h (a .start-key .now)) (a .end-key .now) + 64 ≤ length (a .out .now)) (c .before .before .before .before .before .before .if3 .taken) (room past))
-    (w .result) (c .answer .result) (c .answer .ensures .0) (c .answer .ensures .1) (w .ensures .0) (λ h. between-shown (w .ensures .1 h .0) (w .ensures .1 h .1))) in
-    (x .no, x .leaves)
+    (w .result) (c .answer .result) (c .answer .ensures .0) (c .answer .ensures .1) (w .ensures .none) (λ h. between-shown (w .ensures .some h .0) (w .ensures .some h .1)))
 
 array-read-if4 : tie.Need-array-read-if4
 array-read-if4 c = search needs
@@ -87,9 +86,8 @@ returns-4 c =
     let past = c .before .before .before in
     let a = past .before .before .before .before .before .before .before .before .args in
     let t = a .table .now in
-    let x = subst (λ (h : Bool). Answered t (startOf h (a .start-key .now)) (a .end-key .now) (a .out .now) (a .out .now) (length (a .out .now)) (Written 0)) (sym (c .before .if3 .left))
-    (answered-shown (taken (past .before .before)) (absent-room past (c .before .if3 .left)) 0 (empty-shown t (a .end-key .now) (at-zero (c .before .before .distances .ensures) 0 (formed past .some) (c .if4 .taken)))) in
-    (x .no, x .leaves)
+    subst (λ (h : Bool). Answered t (startOf h (a .start-key .now)) (a .end-key .now) (a .out .now) (a .out .now) (Written 0)) (sym (c .before .if3 .left))
+    (answered-shown (taken (past .before .before)) (absent-room past (c .before .if3 .left)) 0 (empty-shown t (a .end-key .now) (at-zero (c .before .before .distances .ensures) 0 (formed past .some) (c .if4 .taken))))
 
 write-range-end-requires : tie.Need-write-range-end-requires
 unfolding run
@@ -114,10 +112,9 @@ returns-5 c =
     let t = a .table .now in
     let end = a .end-key .now in
     let dead : flag t 0 ≡ 1 → ⊥ = λ f. els .if4 .left (zero-at (els .before .before .distances .ensures) 0 (formed past .some) f) in
-    let x = subst (λ (h : Bool). Answered t (startOf h (a .start-key .now)) end (a .out .now) (w .last .1 .1 .1 .1 .1 .1 .0) (length (a .out .now)) (c .answer2 .result)) (sym e)
+    subst (λ (h : Bool). Answered t (startOf h (a .start-key .now)) end (a .out .now) (w .last .1 .1 .1 .1 .1 .1 .0) (c .answer2 .result)) (sym e)
     (answered (taken (past .before .before)) (absent-room past e) (w .result) (c .answer2 .result) (c .answer2 .ensures .0) (c .answer2 .ensures .1)
-    (λ z. (w .ensures .0 z .0, absent-none t end dead (w .ensures .0 z .1))) (λ h. absent-shown t end (w .ensures .1 h .0) (w .ensures .1 h .1))) in
-    (x .no, x .leaves)
+    (λ z. (w .ensures .none z .0, absent-none t end dead (w .ensures .none z .1))) (λ h. absent-shown t end (w .ensures .some h .0) (w .ensures .some h .1)))
 
 pub example-spec : {M : Type 1} → statement M
 example-spec =

@@ -1,26 +1,27 @@
 -- `listing::get_block_for_automaton` meets its contract: the rows are tried in their order, and what hits none is marked.
 use borrow.Author.Needs.{needs}
-use mathlib.Core.Path.{_≡_, refl, sym, _∙_}
+use mathlib.Core.Path.{_≡_, sym, _∙_}
 use mathlib.Core.Bool.{false}
-use mathlib.Core.Logic.{inl, inr}
 use native.Mathlib.Nat.{add-sub-cancel-left}
 use native.Mathlib.Omega.{arith}
-use Prim.Native.Nat.{_+_, _-_}
+use Prim.Native.Nat.{_+_, _-_, _<_}
 use lib.ListN.{length, take, drop}
 use Rattle.automaton.specs.Table.{tableNo}
 use Rattle.automaton.proofs.Refusal.{table-ok}
+use Rattle.index.specs.Opening.{groupOf}
 use Rattle.index.specs.Lookups.{openedBad, OpenedFits, directoryAt}
 use Rattle.index.proofs.Fits.{opened-fits}
 use Rattle.listing.specs.Listing.{keysOutside}
+use Rattle.listing.proofs.ListedOnce.{nothing-listed, all-listed}
 use Rattle.listing.proofs.Rows.{record-refused, keys-refused, table-refused, room-refused, none-refused}
 use Rattle.listing.proofs.get_block_for_automaton.Statement.{statement}
 use Rattle.listing.proofs.get_block_for_automaton.Tie as tie
 
 -- the record passed row 20
-good : (c : tie.Else1) → let a = c .before .before .before .before .before .args in openedBad 128 (a .opened) (length (a .«data» .now)) ≡ false
+good : (c : tie.Else1) → let a = c .before .before .before .before .before .args in openedBad (a .opened) (length (a .«data» .now)) ≡ false
 good c = sym (c .before .opened-bad .ensures) ∙ c .if1 .left
 
-fits : (c : tie.Else1) → let a = c .before .before .before .before .before .args in OpenedFits 128 (a .opened) (length (a .«data» .now))
+fits : (c : tie.Else1) → let a = c .before .before .before .before .before .args in OpenedFits (groupOf (a .opened)) (a .opened) (length (a .«data» .now))
 fits c = opened-fits _ _ _ (good c)
 
 -- the code's part is the record's
@@ -43,7 +44,13 @@ opened-bad-requires : tie.Need-opened-bad-requires
 opened-bad-requires c κs = search needs
 
 returns : tie.Need-returns
-returns c = (sym (record-refused _ _ _ _ _ (sym (c .before .opened-bad .ensures) ∙ c .if1 .taken)), inr (omega arith, refl, refl))
+returns c = (
+  record {
+    number = sym (record-refused _ _ _ _ (sym (c .before .opened-bad .ensures) ∙ c .if1 .taken));
+    leaves = nothing-listed _ (omega arith);
+  },
+  omega arith,
+)
 
 add-end : tie.Need-add-end
 add-end c = omega (arith, fits (c .before) .directory)
@@ -62,8 +69,13 @@ keys-outside-requires c κs = fits (c .before .before) .few
 
 returns-2 : tie.Need-returns-2
 returns-2 c =
-    let e = c .before .before .before .before in
-    (sym (keys-refused _ _ _ _ _ (good e) (sym (tested (c .before)) ∙ c .if2 .taken)), inr (omega arith, refl, refl))
+    let e = c .before .before .before .before in (
+      record {
+        number = sym (keys-refused _ _ _ _ (good e) (sym (tested (c .before)) ∙ c .if2 .taken));
+        leaves = nothing-listed _ (omega arith);
+      },
+      omega arith,
+    )
 
 check-requires : tie.Need-check-requires
 check-requires c κs = search needs
@@ -73,13 +85,24 @@ returns-3 c =
     let k = c .before in
     let e = k .before in
     let n = k .check .ensures in
-    (n ∙ sym (table-refused _ _ _ _ _ (good (e .before .before .before .before)) (inside e) (λ z. c .if3 .taken (n ∙ z))), inr (omega arith, refl, refl))
+    let some : 0 < k .check .result = omega arith in (
+      record {
+        number = n ∙ sym (table-refused _ _ _ _ (good (e .before .before .before .before)) (inside e) (λ z. c .if3 .taken (n ∙ z)));
+        leaves = nothing-listed _ some;
+      },
+      some,
+    )
 
 returns-4 : tie.Need-returns-4
 returns-4 c =
     let k = c .before .before in
-    let e = k .before .before in
-    (sym (room-refused _ _ _ _ _ (good (e .before .before .before .before)) (inside e) (taken k) (c .if4 .taken)), inr (omega arith, refl, refl))
+    let e = k .before .before in (
+      record {
+        number = sym (room-refused _ _ _ _ (good (e .before .before .before .before)) (inside e) (taken k) (c .if4 .taken));
+        leaves = nothing-listed _ (omega arith);
+      },
+      omega arith,
+    )
 
 mark-blocks-requires : tie.Need-mark-blocks-requires
 mark-blocks-requires c κs =
@@ -97,8 +120,13 @@ returns-5 c =
     let i = m .before .before in
     let k = i .before .before in
     let e = k .before .before in
-    let o = e .before .before .before .before in
-    (sym (none-refused _ _ _ _ _ (good o) (inside e) (taken k) (i .if4 .left)), inl (refl, rw (part o) at (m .mark-blocks .ensures)))
+    let o = e .before .before .before .before in (
+      record {
+        number = sym (none-refused _ _ _ _ (good o) (inside e) (taken k) (i .if4 .left));
+        leaves = all-listed (rw (part o) at (m .mark-blocks .ensures));
+      },
+      search needs,
+    )
 
 pub get-block-for-automaton-spec : {M : Type 1} → statement M
 get-block-for-automaton-spec =

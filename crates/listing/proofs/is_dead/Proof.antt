@@ -19,7 +19,7 @@ can-match-requires c κs = search needs
 returns : tie.Need-returns
 returns c =
     let a = c .before .before .args in
-    exactly-not (c .can-match .result) (c .can-match .ensures) (bit-off (a .reach) (getD (a .states .now) (a .known) 0)) (λ z one. omega arith)
+    exactly-not (c .can-match .result) (c .can-match .ensures .0) (bit-off (a .reach) (getD (a .states .now) (a .known) 0)) (λ z one. omega arith)
 
 pub is-dead-spec : {M : Type 1} → statement M
 is-dead-spec =

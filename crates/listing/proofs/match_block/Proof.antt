@@ -1,14 +1,12 @@
 -- The state behind shared bytes leads nowhere, or it is the base of the walk.
-use Prim.Native.Nat.{ℕ, _≤_, _<_}
+use Prim.Native.Nat.{_≤_}
 use native.Mathlib.Omega.{arith}
 use borrow.Author.Needs.{needs}
-use lib.ListN.{length, getD}
 use Rattle.keys.specs.Order.{commonPrefixLen}
 use Rattle.keys.proofs.Order.{commonPrefixLen-left, commonPrefixLen-right}
 use Rattle.automaton.specs.Words.{Bytes}
 use Rattle.automaton.proofs.Exact.{when-true}
 use Rattle.automaton.proofs.Strings.{bytes-of}
-use Rattle.listing.specs.Followed.{Followed}
 use Rattle.listing.proofs.Following.{followed-state, followed-dead, followed-next}
 use Rattle.listing.proofs.match_block.Statement.{statement}
 use Rattle.listing.proofs.match_block.Tie as tie

@@ -4,9 +4,9 @@ use mathlib.Core.Path.{sym}
 use native.Mathlib.Omega.{arith}
 use lib.ListN.{length}
 use lib.Seq.{length-take-le}
-use Rattle.replay.specs.Made.{entriesOf}
+use Rattle.replay.specs.Made.{listSettings, entriesOf}
 use Rattle.replay.proofs.Items.{list-ok}
-use Rattle.replay.proofs.Whole.{ReplayOk, replay-ok, questions-there, total-fits, opened-given, replayed}
+use Rattle.replay.proofs.Whole.{ReplayOk, replay-ok, questions-there, total-fits, opened-list, replayed}
 use borrow.Author.Needs.{needs}
 use Rattle.replay.proofs.replay_list.Statement.{statement}
 use Rattle.replay.proofs.replay_list.Tie as tie
@@ -27,7 +27,7 @@ make-calls-requires : tie.Need-make-calls-requires
 make-calls-requires c κs = let k = ok (c .before .before .before .before .before .before .before .before) in (k .list, omega (arith, k .fits))
 
 call-count-requires : tie.Need-call-count-requires
-call-count-requires c κs = list-ok _ (ok (c .before .before .before .before .before .before .before .before .before .before .before .before .before .before .before) .list) .counts
+call-count-requires c κs = list-ok _ (ok (c .before .before .before .before .before .before .before .before .before .before .before .before .before .before .before) .list) .head
 
 mul-finish-list : tie.Need-mul-finish-list
 mul-finish-list c = search needs
@@ -49,7 +49,7 @@ open-list-requires c κs =
     let f = c .before .before .before .before .before .before in
     let m = f .before .before .before .before .before .before .before .before .before .before .before .before in
     let k = ok (f .before .before .before .before .before .before .before .before .before .before .before .before .before .before .before .before .before .before .before .before .before) in (
-      list-ok _ (k .list) .counts,
+      list-ok _ (k .list) .head,
       questions-there _ _ (m .make-calls .ensures .0 .1) (list-ok _ (k .list)),
       omega (arith, k .fits, f .before .before .before .before .before .call-count .ensures .0, m .make-calls .kept .1 .1 .1 .0, f .finish-list .kept .1 .1 .1 .1 .0),
     )
@@ -76,8 +76,8 @@ returns c =
     let same = m .ensures .0 .0 in
     replayed (a .calls .now) (a .blocks .now) (a .keys .now) (a .out .now) (m .last .1 .0) (m .last .1 .1 .0) (m .result) same
     (a .answers .now) (f .before .before .before .before .before .call-count .result) (f .before .before .before .before .before .call-count .ensures .0) _ _ _ (l .last .1 .1 .1 .0) (m .ensures .1) (l .ensures .1 .0) (l .ensures .1 .1) (m .ensures .0 .1)
-    (c .before .before .open-list .ensures _ (entriesOf (a .calls .now) (a .blocks .now) (a .keys .now))
-    (opened-given (a .calls .now) (a .blocks .now) (a .keys .now) (a .out .now) (m .last .1 .0) (m .last .1 .1 .0) (m .result) same (l .result) (l .last .1 .1 .1 .0) (l .ensures .0) (l .ensures .1 .0)))
+    (c .before .before .open-list .ensures _ (listSettings (a .calls .now)) (entriesOf (a .calls .now) (a .blocks .now) (a .keys .now))
+    (opened-list (a .calls .now) (a .blocks .now) (a .keys .now) (a .out .now) (m .last .1 .0) (m .last .1 .1 .0) (m .result) same (l .result) (l .last .1 .1 .1 .0) (l .ensures .0) (l .ensures .1 .0)))
 
 pub replay-list-spec : {M : Type 1} → statement M
 replay-list-spec =

@@ -18,13 +18,13 @@ returns : tie.Need-returns
 returns c = sym (no-list _ _ (sym (c .before .list-bad .ensures) ∙ c .if1 .taken))
 
 call-count-requires : tie.Need-call-count-requires
-call-count-requires c κs = list-ok _ (good c) .counts
+call-count-requires c κs = list-ok _ (good c) .head
 
 add-if2 : tie.Need-add-if2
 add-if2 c = search needs
 
 question-count-requires : tie.Need-question-count-requires
-question-count-requires c κs = list-ok _ (good (c .before)) .counts
+question-count-requires c κs = list-ok _ (good (c .before)) .head
 
 add-if2-2 : tie.Need-add-if2-2
 add-if2-2 c = search needs

@@ -5,7 +5,7 @@ use native.Mathlib.Omega.{arith}
 use native.Mathlib.Nat.{le-antisymm}
 use lib.Dec.{lit<}
 use lib.ListN.{take, drop}
-use Rattle.serialize.specs.Digits.{ofDigits, leVal, Below}
+use Rattle.serialize.specs.Digits.{ofDigits, leVal, DigitsBelow}
 use Rattle.serialize.proofs.Digits.{ofDigits-take-lt, below-drop}
 use Rattle.serialize.proofs.Turns.{or-next-byte}
 use Rattle.serialize.proofs.deserialize_le.Statement.{statement}
@@ -46,7 +46,7 @@ loop-again : tie.Need-loop-again Inv-loop μ-loop
 loop-again c =
     let a = c .before .before .before .args in
     let here = c .before .before .loop in
-    let known : Below 8 (a .bytes .now) = λ k. c .shared-slice-known .given k .fits in
+    let known : DigitsBelow 8 (a .bytes .now) = λ k. c .shared-slice-known .given k .fits in
     let e = or-next-byte (a .bytes .now) (a .at) (here .i) (here .value) known (omega arith) (here .inv .1) in
     (omega arith, e, rw e (ofDigits-take-lt 8 (here .i + 1) (drop (a .at) (a .bytes .now)) (below-drop 8 (a .at) (a .bytes .now) known)))
 

@@ -5,7 +5,7 @@ use native.Mathlib.Omega.{arith}
 use lib.ListN.{length, length-set}
 use lib.Seq.{sets}
 use lib.Bits.{and-mask, mask-lt}
-use Rattle.serialize.specs.Digits.{digits, leBytes}
+use Rattle.serialize.specs.Digits.{digitsOf, leBytes}
 use Rattle.serialize.proofs.Turns.{store-next-byte}
 use Rattle.serialize.proofs.serialize_le.Statement.{statement}
 use Rattle.serialize.proofs.serialize_le.Tie as tie
@@ -47,7 +47,7 @@ same-length : tie.Need-same-length Inv-loop μ-loop
 same-length c = c .before .loop .inv .0
 
 returns : tie.Need-returns Inv-loop μ-loop
-unfolding digits
+unfolding digitsOf
 returns c =
     let here = c .before .loop in
     let z : here .left ≡ 0 = omega arith in

@@ -1,7 +1,7 @@
 -- `slope::higher_with` meets its contract: a point that stays or ties by its tests alone, and another by `higher`.
 use borrow.Author.Needs.{needs}
 use native.Mathlib.Omega.{arith}
-use Rattle.slope.proofs.Step.{below, higher-new, higher-stays, higher-ties, room}
+use Rattle.slope.proofs.Step.{below, higherPoint-new, higherPoint-stays, higherPoint-ties, room}
 use Rattle.slope.proofs.higher_with.Statement.{statement}
 use Rattle.slope.proofs.higher_with.Tie as tie
 
@@ -11,10 +11,10 @@ mul-at c = omega (arith, room (c .before .args .high .slope) (c .before .args .i
 returns : tie.Need-returns
 returns c =
     let args = c .before .before .args in
-    higher-stays _ _ _ _ _ (below (args .high .slope) (args .i) (args .v) (omega arith) (omega arith) (omega arith))
+    higherPoint-stays _ _ _ _ _ (below (args .high .slope) (args .i) (args .v) (omega arith) (omega arith) (omega arith))
 
 returns-2 : tie.Need-returns-2
-returns-2 c = higher-ties _ _ _ (omega arith) _ _ (omega arith) (omega arith) (omega arith)
+returns-2 c = higherPoint-ties _ _ _ (omega arith) _ _ (omega arith) (omega arith) (omega arith)
 
 new-requires : tie.Need-new-requires
 new-requires c κs = search needs
@@ -23,7 +23,7 @@ higher-requires : tie.Need-higher-requires
 higher-requires c κs = search needs
 
 returns-3 : tie.Need-returns-3
-returns-3 c = higher-new _ (c .before .new .result) (c .higher .result) _ _ (c .before .new .ensures) (c .higher .ensures)
+returns-3 c = higherPoint-new _ (c .before .new .result) (c .higher .result) _ _ (c .before .new .ensures) (c .higher .ensures)
 
 pub higher-with-spec : {M : Type 1} → statement M
 higher-with-spec =

@@ -41,7 +41,7 @@ use denote.Exit.{yes}
 use Rattle.group.specs.declared.BlockAddr.{BlockAddr}
 use Rattle.group.proofs.BlockAddr as B
 use Rattle.store_slice.specs.declared.Stored.{Stored}
-use Rattle.store_slice.specs.Slice.{recordsNo, sliceStored, sliceOut}
+use Rattle.store_slice.specs.Slice.{blockListNo, sliceStored, sliceOut}
 use Rattle.store_slice.proofs.Answer.{stored-refused}
 use Rattle.store_slice.proofs.Sized.{sliceB, sliceO, big-lit, stayed, asked, exits}
 use Rattle.store_slice.proofs.Stored as S
@@ -78,10 +78,10 @@ same-code = refl
 
 -- what the two sizes ask
 abbrev Few : List BlockAddr → Type 0
-Few ys = (recordsNo ys ≡ 0) × (length ys ≤ 1024)
+Few ys = (blockListNo ys ≡ 0) × (length ys ≤ 1024)
 
 abbrev Many : List BlockAddr → Type 0
-Many ys = recordsNo ys ≡ 0
+Many ys = blockListNo ys ≡ 0
 
 -- a value that stands alone
 abbrev one-of : List Val → Val
@@ -151,8 +151,8 @@ module _ {M : Type 1} (𝓤 : URA M) (H : Heap 𝓤) (A : Atoms 𝓤) (W : Given
   goes-rows : ent 𝓤 (⋆ 𝓤 H A (token₀ ∷ ‵ ownB ∷ [])) (RowsNo 𝓤 H A mem run .pre to-rows)
   goes-rows = qed W (token₀ ∷ ‵ ownB ∷ []) ∵ nothing ! $ move ! (2 ∷ 0 ∷ []) $ fjoin ! $ move ! (1 ∷ 0 ∷ []) $ join ! $ frame ! $ done !
 
-  rows-of : (r : ℕ) → ent 𝓤 (ensured 𝓤 H A rows-no.ended (rows-no.clauses 𝓤 H A mem run) (κ₀, tt) (x .0, tt) tt r) (fact 𝓤 (r ≡ recordsNo ys))
-  rows-of r = exE 𝓤 _ (λ ws. snd∗ 𝓤 (sem 𝓤 H A (lasts rows-no.ended (κ₀, tt) (x .0, tt) ws)) (fact 𝓤 (r ≡ recordsNo ys)))
+  rows-of : (r : ℕ) → ent 𝓤 (ensured 𝓤 H A rows-no.ended (rows-no.clauses 𝓤 H A mem run) (κ₀, tt) (x .0, tt) tt r) (fact 𝓤 (r ≡ blockListNo ys))
+  rows-of r = exE 𝓤 _ (λ ws. snd∗ 𝓤 (sem 𝓤 H A (lasts rows-no.ended (κ₀, tt) (x .0, tt) ws)) (fact 𝓤 (r ≡ blockListNo ys)))
 
   -- ---- what each size is passed
   module _ (φ : List BlockAddr → Type 0) where
@@ -183,7 +183,7 @@ module _ {M : Type 1} (𝓤 : URA M) (H : Heap 𝓤) (A : Atoms 𝓤) (W : Given
         move t (2 ∷ []) $ split t $ move t (1 ∷ []) $ peeks t S.the-row (Is S.the-row) (shows 𝓤 H A S.the-row) r (v ∷ []) (λ is. then r v (zs .1 .0) e same is))))))
 
   -- ---- the exit where a row was hit
-  exits-refused : (r : ℕ) → recordsNo ys ≡ r → (r ≡ 0 → ⊥) → r < 2 ^ 32 → ent 𝓤 (⋆ 𝓤 H A (token₀ ∷ ‵ ownB ∷ ‵ ownO ∷ token₁ ∷ [])) (Post (S′.lowered (refused r)))
+  exits-refused : (r : ℕ) → blockListNo ys ≡ r → (r ≡ 0 → ⊥) → r < 2 ^ 32 → ent 𝓤 (⋆ 𝓤 H A (token₀ ∷ ‵ ownB ∷ ‵ ownO ∷ token₁ ∷ [])) (Post (S′.lowered (refused r)))
   exits-refused r e hits l =
       qed W (token₀ ∷ ‵ ownB ∷ ‵ ownO ∷ token₁ ∷ []) ∵
       suffices ! _ (ends-at 𝓤 H A f.ended stayed (f.clauses 𝓤 H A mem run) W bound (S′.lowered (refused r)) (refused r) (tt, (outs, tt)) (tt, (refl, tt))) $
@@ -218,7 +218,7 @@ module _ {M : Type 1} (𝓤 : URA M) (H : Heap 𝓤) (A : Atoms 𝓤) (W : Given
         move ! (4 ∷ 3 ∷ []) $ join ! $ use2 W (raw (RowsNo 𝓤 H A mem run .pre to-rows)) goes-rows $
         calls-at ! fm (RowsNo 𝓤 H A mem run) known-rows to-rows (and-then ! (load ! (from ! (stop !)) (look ! 20 refl)) (no-more !)) (λ v.
         use1 W (later (some (λ (r : ℕ). (token₀ ⊛ ‵ (u32 .own r (v ∷ []))) ⊛ raw (ensured 𝓤 H A rows-no.ended (rows-no.clauses 𝓤 H A mem run) (κ₀, tt) (x .0, tt) tt r)))) (id⊢ 𝓤 _) $ await ! tt $ pick ! (λ r.
-        split ! $ move ! (1 ∷ []) $ use1 W (raw (fact 𝓤 (r ≡ recordsNo ys))) (rows-of r) $ heard ! (r ≡ recordsNo ys) (λ e. split ! $ move ! (1 ∷ []) $
+        split ! $ move ! (1 ∷ []) $ use1 W (raw (fact 𝓤 (r ≡ blockListNo ys))) (rows-of r) $ heard ! (r ≡ blockListNo ys) (λ e. split ! $ move ! (1 ∷ []) $
         peeks ! u32 (Is u32) (shows 𝓤 H A u32) r (v ∷ []) (λ is.
         land ! (from ! (stop !)) (init ! 17 refl (uint-lawful 𝓤 H A W w32 .typed r _ is .0)) $ drop ! $
         -- [κ₀'s; blocks; out; κ₁'s; _9; …]
@@ -230,7 +230,7 @@ module _ {M : Type 1} (𝓤 : URA M) (H : Heap 𝓤) (A : Atoms 𝓤) (W : Given
         move ! (22 ∷ 23 ∷ []) $ free1 ! $ move ! (20 ∷ 21 ∷ []) $ free1 ! $ move ! (18 ∷ 19 ∷ []) $ free1 ! $ move ! (16 ∷ 17 ∷ []) $ free1 ! $ move ! (14 ∷ 15 ∷ []) $ free1 ! $
         move ! (12 ∷ 13 ∷ []) $ free1 ! $ move ! (10 ∷ 11 ∷ []) $ free1 ! $ move ! (8 ∷ 9 ∷ []) $ free1 ! $ move ! (6 ∷ 7 ∷ []) $ free1 ! $ move ! (4 ∷ 5 ∷ []) $ free1 ! $ free0 ! $
         by ! (exits-refused r (sym e) (hit r yes′) (is .1)))
-        (λ no′. let none : recordsNo ys ≡ 0 = sym e ∙ eqb→eq r 0 (double (eqb r 0) no′) in
+        (λ no′. let none : blockListNo ys ≡ 0 = sym e ∙ eqb→eq r 0 (double (eqb r 0) no′) in
         skips ! $ exec ! C Λ (En l₀ l₁ l₂ l₃ l₄ l₅ l₆ l₇ l₈ l₉) mir.t-4 (atRet (En l₀ l₁ l₂ l₃ l₄ l₅ l₆ l₇ l₈ l₉) Post) $
         assigns ! (of-opd ! (load ! (from ! (fld ! refl (stop !))) (look-in ! 20 (sub ! 1 refl (whole !))))) (from ! (stop !)) (init ! 12 refl (tt, record { fits = gn .0 })) $
         assigns ! (bin ! (load ! (from ! (stop !)) (look ! 12 refl)) (big-lit ! (record { fits = lit< tt })) tt) (from ! (stop !)) (store ! 14 refl (tt, tt)) $

@@ -8,7 +8,7 @@ use contract.Running.{givenOf, tables, tablesOf}
 use denote.Triple.Spec.{tripleOf}
 use denote.Triple.Table.{entered, cited}
 use Rattle.group.specs.declared.BlockAddr.{BlockAddr}
-use Rattle.store_slice.specs.Slice.{recordsNo}
+use Rattle.store_slice.specs.Slice.{blockListNo}
 use Rattle.store_slice.proofs.Sized.{sized, CopyOut, WriteArea, sized-meets}
 use Rattle.store_slice.proofs.area.copy_out.Symbol as copy-out-def
 use Rattle.store_slice.proofs.area.copy_out.Symbol.{name as #copy-out}
@@ -22,12 +22,12 @@ use Rattle.store_slice.proofs.serialize_few.Statement as stated
 use Rattle.store_slice.proofs.serialize_few.Code as code
 
 abbrev Asked : List BlockAddr → Type 0
-Asked ys = (recordsNo ys ≡ 0) × (length ys ≤ 1024)
+Asked ys = (blockListNo ys ≡ 0) × (length ys ≤ 1024)
 
 same-code : code.function ≡ sized 3072
 same-code = refl
 
-fit : (ys : List BlockAddr) → Asked ys → (3 * length ys ≤ 3072) × (recordsNo ys ≡ 0)
+fit : (ys : List BlockAddr) → Asked ys → (3 * length ys ≤ 3072) × (blockListNo ys ≡ 0)
 fit ys h = (omega (arith, h .1), h .0)
 
 pub serialize-few-spec : {M : Type 1} → stated.statement M

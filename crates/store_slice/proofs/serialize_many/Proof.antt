@@ -8,7 +8,7 @@ use contract.Running.{givenOf, tables, tablesOf}
 use denote.Triple.Spec.{tripleOf}
 use denote.Triple.Table.{entered, cited}
 use Rattle.group.specs.declared.BlockAddr.{BlockAddr}
-use Rattle.store_slice.specs.Slice.{recordsNo}
+use Rattle.store_slice.specs.Slice.{blockListNo}
 use Rattle.store_slice.proofs.Kept.{records-few}
 use Rattle.store_slice.proofs.Sized.{sized, CopyOut, WriteArea, sized-meets}
 use Rattle.store_slice.proofs.area.copy_out.Symbol as copy-out-def
@@ -23,12 +23,12 @@ use Rattle.store_slice.proofs.serialize_many.Statement as stated
 use Rattle.store_slice.proofs.serialize_many.Code as code
 
 abbrev Asked : List BlockAddr → Type 0
-Asked ys = recordsNo ys ≡ 0
+Asked ys = blockListNo ys ≡ 0
 
 same-code : code.function ≡ sized 196608
 same-code = refl
 
-fit : (ys : List BlockAddr) → Asked ys → (3 * length ys ≤ 196608) × (recordsNo ys ≡ 0)
+fit : (ys : List BlockAddr) → Asked ys → (3 * length ys ≤ 196608) × (blockListNo ys ≡ 0)
 fit ys h = (omega (arith, records-few ys h), h)
 
 pub serialize-many-spec : {M : Type 1} → stated.statement M

@@ -3,8 +3,9 @@
 use tantivy_sstable::access::Block;
 
 use crate::folder::Folder;
-use model::blocks::{LIMIT, touching};
+use model::blocks::touching;
 use model::files::{File, worked_file};
+use model::settings::LIMIT;
 
 fn keys(keys: &[&[u8]]) -> Vec<Vec<u8>> {
     keys.iter().map(|key| key.to_vec()).collect()

@@ -1,10 +1,11 @@
 //! Index files that are refused: the smallest of each row and of each part of a row, and others.
 
 use crate::folder::Folder;
-use model::blocks::{LIMIT, touching};
+use model::blocks::touching;
 use model::files::{Fault, File, keys_of_one_byte};
 use model::foreign::{self, Group};
 use model::opening;
+use model::settings::LIMIT;
 
 /// A file's name, which begins with its row; the row's parts that it breaks; what it is; its bytes.
 type Case = (&'static str, &'static [&'static str], &'static str, Vec<u8>);

@@ -1,12 +1,20 @@
 //! Builders over any areas: rows 1 and 8, and what a broken last record allows.
 
 use model::areas::Areas;
-use model::blocks::{LIMIT, block};
+use model::blocks::block;
 use model::numbers::Numbers;
+use model::settings::{LIMIT, LONGEST_KEY, MOST_BLOCKS, STRIDE};
 use tantivy_sstable::access::Block;
 
-use crate::builder::Builder;
+use crate::calls::builder::Builder;
 use crate::tally::Tally;
+
+pub fn run(tally: &mut Tally) {
+    counts(tally);
+    changed(tally);
+    keys(tally);
+    random(tally, 100_000);
+}
 
 /// Numbers at which a sum or a test can go wrong.
 const EDGES: [u64; 12] = [
@@ -14,8 +22,8 @@ const EDGES: [u64; 12] = [
     1,
     2,
     5,
-    1024,
-    1025,
+    LONGEST_KEY as u64,
+    LONGEST_KEY as u64 + 1,
     LIMIT - 1,
     LIMIT,
     1 << 63,
@@ -32,12 +40,12 @@ const COUNTS: [u64; 14] = [
     3,
     4,
     13_107,
-    65_535,
-    65_536,
-    65_537,
+    MOST_BLOCKS as u64 - 1,
+    MOST_BLOCKS as u64,
+    MOST_BLOCKS as u64 + 1,
     1 << 32,
-    u64::MAX / 5,
-    u64::MAX / 5 + 1,
+    u64::MAX / STRIDE as u64,
+    u64::MAX / STRIDE as u64 + 1,
     1 << 63,
     u64::MAX,
 ];
@@ -62,7 +70,7 @@ fn right() -> Areas {
 }
 
 /// Every count over these areas, also over their fronts.
-pub fn counts(tally: &mut Tally) {
+fn counts(tally: &mut Tally) {
     tally.section("areas: counts and fronts of the areas");
     let whole = right();
     for n in COUNTS {
@@ -81,7 +89,7 @@ pub fn counts(tally: &mut Tally) {
 }
 
 /// Each number changed to each edge and to what stands beside it; two numbers at once.
-pub fn changed(tally: &mut Tally) {
+fn changed(tally: &mut Tally) {
     tally.section("areas: each number changed, and each two");
     let whole = right();
     let add = block(30, 31, 10);
@@ -103,8 +111,8 @@ pub fn changed(tally: &mut Tally) {
     }
 }
 
-/// Every key area of four bytes over two letters and FF, behind lengths of every kind.
-pub fn keys(tally: &mut Tally) {
+/// Every key area of four bytes over two letters and FF, with lengths of every kind.
+fn keys(tally: &mut Tally) {
     tally.section("areas: every key area of four bytes over three letters");
     for keys in super::keys::all(b"ab\xff", 4)
         .iter()
@@ -127,7 +135,7 @@ pub fn keys(tally: &mut Tally) {
 }
 
 /// A list of legal blocks with touching keys in areas that are a little larger, then up to three changes.
-pub fn random(tally: &mut Tally, count: u64) {
+fn random(tally: &mut Tally, count: u64) {
     tally.section("areas: by chance, up to three numbers changed");
     let mut rng = Numbers::from_seed(104);
     for _ in 0..count {

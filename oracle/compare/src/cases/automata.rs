@@ -3,10 +3,18 @@
 use model::automaton::{Interval, Table, room};
 use model::numbers::Numbers;
 use model::patterns::{beside, chain, drawn, flags, interval, many, order, ring, small};
+use model::settings::MOST_STATES;
 
 use super::keys;
-use crate::patterns::Pattern;
+use crate::calls::intervals::Pattern;
 use crate::tally::Tally;
+
+pub fn run(tally: &mut Tally) {
+    every_small_one(tally);
+    random(tally, 5_000);
+    long(tally);
+    refused(tally);
+}
 
 /// Every interval between these keys, also those with no start and those whose start isn't below the end.
 fn every_interval(tally: &mut Tally, pattern: &Pattern, keys: &[Vec<u8>]) {
@@ -32,7 +40,7 @@ fn every_table(m: usize, bounds: &[u8]) -> impl Iterator<Item = Table> {
     })
 }
 
-pub fn every_small_one(tally: &mut Tally) {
+fn every_small_one(tally: &mut Tally) {
     tally.section("automata: every one of one state");
     for table in every_table(1, &[]) {
         let keys = keys::all(&[0x00, 0x01, 0x61, 0xfe, 0xff], 3);
@@ -98,7 +106,7 @@ fn table(rng: &mut Numbers, round: u64) -> (Table, Vec<u8>) {
 }
 
 /// Automata of 1 to 64 states, a third of them 64.
-pub fn random(tally: &mut Tally, count: u64) {
+fn random(tally: &mut Tally, count: u64) {
     tally.section("automata: by chance, 1 to 64 states");
     let mut rng = Numbers::from_seed(119);
     for round in 0..count {
@@ -123,12 +131,12 @@ pub fn random(tally: &mut Tally, count: u64) {
 }
 
 /// 64 states that count the length: the example fills its room; keys of many bytes.
-pub fn long(tally: &mut Tally) {
+fn long(tally: &mut Tally) {
     tally.section("automata: 64 states that count the length, long keys");
-    for accepted in 0..64 {
-        let mut flags = vec![0; 64];
+    for accepted in 0..MOST_STATES {
+        let mut flags = vec![0; MOST_STATES];
         flags[accepted] = 1;
-        let pattern = Pattern::of(&Table::rule(flags, |state, _| (state + 1) % 64));
+        let pattern = Pattern::of(&Table::rule(flags, |state, _| (state + 1) % MOST_STATES));
         for length in (0..70).chain([127, 128, 1023, 1024, 1025, 3000]) {
             let start = [&[0x61][..], &vec![0xff; length]].concat();
             pattern.all(tally, Some(&start), b"\x62");
@@ -140,7 +148,7 @@ pub fn long(tally: &mut Tally) {
 }
 
 /// Automata that break rows 21 to 23, alone and together.
-pub fn refused(tally: &mut Tally) {
+fn refused(tally: &mut Tally) {
     tally.section("automata: refused ones");
     let mut rng = Numbers::from_seed(120);
     for m in [0, 1, 2, 3, 5, 63, 64, 65, 66, 128, 255] {

@@ -1,16 +1,28 @@
 //! Damaged files: opened, then looked up with the record of the whole file.
 
-use model::blocks::{LIMIT, random, touching};
+use model::blocks::{random, touching};
 use model::faults::faults;
 use model::files::{File as Parts, rising, smallest, two_group_file, worked_file};
 use model::foreign::{self, Group};
 use model::numbers::Numbers;
 use model::opening::{self, Opened};
+use model::settings::LIMIT;
 
 use super::lookups;
-use crate::opened::{self, File};
-use crate::patterns::Pattern;
-use crate::tally::{Tally, quietly};
+use crate::asked::quietly;
+use crate::calls::intervals::Pattern;
+use crate::calls::opened::{self, File};
+use crate::tally::Tally;
+
+pub fn run(tally: &mut Tally) {
+    every_byte(tally);
+    some_bytes(tally);
+    cut(tally);
+    numbers(tally);
+    pairs(tally);
+    by_row(tally);
+    random_ones(tally, 20_000);
+}
 
 /// Numbers at which a sum or a test can go wrong.
 const EDGES: [u64; 15] = [
@@ -70,7 +82,7 @@ impl Whole {
     fn look_up(&self, tally: &mut Tally, file: &File) {
         lookups::some(tally, file);
         let room = usize::try_from(file.n()).unwrap_or(0).min(70_000);
-        file.list(tally, self.pattern.lent(), self.pattern.taken(), room);
+        file.list(tally, &self.pattern, room);
     }
 }
 
@@ -116,7 +128,7 @@ fn longer(rng: &mut Numbers) -> Vec<Whole> {
 }
 
 /// Every byte of the short files with every value.
-pub fn every_byte(tally: &mut Tally) {
+fn every_byte(tally: &mut Tally) {
     tally.section("damage: every byte of short files with every value");
     for whole in short() {
         for at in 0..whole.bytes.len() {
@@ -130,7 +142,7 @@ pub fn every_byte(tally: &mut Tally) {
 }
 
 /// Every byte of longer files with some values.
-pub fn some_bytes(tally: &mut Tally) {
+fn some_bytes(tally: &mut Tally) {
     tally.section("damage: every byte of files of two groups with some values");
     for whole in longer(&mut Numbers::from_seed(109)) {
         for at in 0..whole.bytes.len() {
@@ -145,7 +157,7 @@ pub fn some_bytes(tally: &mut Tally) {
 }
 
 /// Every front, every end; every byte left out, and one put in at every place.
-pub fn cut(tally: &mut Tally) {
+fn cut(tally: &mut Tally) {
     tally.section("damage: every front, every end, a byte less or more at every place");
     let mut rng = Numbers::from_seed(110);
     let mut all = short();
@@ -165,7 +177,7 @@ pub fn cut(tally: &mut Tally) {
 }
 
 /// A number of 1, 2, 4 or 8 bytes at every place of the short files.
-pub fn numbers(tally: &mut Tally) {
+fn numbers(tally: &mut Tally) {
     tally.section("damage: edge numbers of 2, 4 and 8 bytes at every place");
     for whole in short() {
         for width in [2, 4, 8] {
@@ -181,7 +193,7 @@ pub fn numbers(tally: &mut Tally) {
 }
 
 /// Two bytes at once, in the smallest file: every two places.
-pub fn pairs(tally: &mut Tally) {
+fn pairs(tally: &mut Tally) {
     tally.section("damage: every two bytes of the smallest file with some values");
     let whole = Whole::new(smallest().bytes());
     for one in 0..whole.bytes.len() {
@@ -204,7 +216,7 @@ pub fn pairs(tally: &mut Tally) {
 }
 
 /// Faults by their rows, alone and every two.
-pub fn by_row(tally: &mut Tally) {
+fn by_row(tally: &mut Tally) {
     tally.section("damage: faults by their rows, every two");
     let file = smallest();
     let faults = faults();
@@ -221,7 +233,7 @@ pub fn by_row(tally: &mut Tally) {
 }
 
 /// Many bytes at once, by chance; or no file at all.
-pub fn random_ones(tally: &mut Tally, count: u64) {
+fn random_ones(tally: &mut Tally, count: u64) {
     tally.section("damage: by chance, up to six bytes");
     let mut rng = Numbers::from_seed(111);
     let mut all = short();

@@ -1,14 +1,23 @@
 //! Files that keep the rules and that the writer wouldn't write.
 
-use model::blocks::{LIMIT, random, touching};
+use model::blocks::{random, touching};
 use model::files::{File as Parts, rising};
 use model::foreign::{self, Group, group, near};
 use model::numbers::Numbers;
+use model::settings::{GROUP_LEN, LIMIT, WIDEST};
 use tantivy_sstable::access::Block;
 
 use super::lookups;
-use crate::opened;
+use crate::calls::opened;
 use crate::tally::Tally;
+
+pub fn run(tally: &mut Tally) {
+    widths(tally);
+    wide(tally);
+    slopes(tally, 3_000);
+    gaps(tally, 300);
+    overlaps(tally);
+}
 
 /// Opens the file of these groups, which must hold their blocks, and looks everything up.
 fn open(tally: &mut Tally, rng: &mut Numbers, groups: &[Group], addresses: Vec<u8>) {
@@ -36,12 +45,12 @@ fn near_slopes(rng: &mut Numbers, count: usize, slopes: [u32; 2], widths: [u8; 2
     touching(rng.bits(20), &lengths, rng.bits(20), &steps)
 }
 
-/// Every two widths from 1 to 56; a gap before the fields, none or some bytes behind them.
-pub fn widths(tally: &mut Tally) {
+/// Every two widths from 1 to 56; a gap before the fields, none or some bytes after them.
+fn widths(tally: &mut Tally) {
     tally.section("foreign: every two widths from 1 to 56");
     let mut rng = Numbers::from_seed(112);
-    for range_width in 1..=56 {
-        for ord_width in 1..=56 {
+    for range_width in 1..=WIDEST {
+        for ord_width in 1..=WIDEST {
             let slopes = [rng.bits(30) as u32, 1 + rng.bits(20) as u32];
             let count = rng.within(2, 5) as usize;
             let blocks = near_slopes(&mut rng, count, slopes, [range_width, ord_width]);
@@ -61,11 +70,11 @@ pub fn widths(tally: &mut Tally) {
 }
 
 /// Widths of 50 to 56 in full groups, the last one with no byte to spare.
-pub fn wide(tally: &mut Tally) {
+fn wide(tally: &mut Tally) {
     tally.section("foreign: widths of 50 to 56 in full groups");
     let mut rng = Numbers::from_seed(113);
-    for range_width in 50..=56 {
-        for ord_width in 50..=56 {
+    for range_width in 50..=WIDEST {
+        for ord_width in 50..=WIDEST {
             let count = rng.within(126, 260) as usize;
             let slopes = [
                 rng.pick(&[0, 9, 1 << 31, u32::MAX]),
@@ -73,7 +82,7 @@ pub fn wide(tally: &mut Tally) {
             ];
             let blocks = near_slopes(&mut rng, count, slopes, [range_width, ord_width]);
             let (mut groups, mut offset) = (Vec::new(), rng.below(3) as usize);
-            for blocks in blocks.chunks(128) {
+            for blocks in blocks.chunks(GROUP_LEN) {
                 let next = Group {
                     blocks,
                     offset,
@@ -92,7 +101,7 @@ pub fn wide(tally: &mut Tally) {
 }
 
 /// Any slopes, few blocks, numbers up to 2^48 - 1.
-pub fn slopes(tally: &mut Tally, count: u64) {
+fn slopes(tally: &mut Tally, count: u64) {
     tally.section("foreign: any slopes, few blocks");
     let mut rng = Numbers::from_seed(114);
     for round in 0..count {
@@ -117,14 +126,14 @@ pub fn slopes(tally: &mut Tally, count: u64) {
 }
 
 /// More groups: gaps between them, in any order.
-pub fn gaps(tally: &mut Tally, count: u64) {
+fn gaps(tally: &mut Tally, count: u64) {
     tally.section("foreign: more groups, gaps, any order");
     let mut rng = Numbers::from_seed(115);
     for _ in 0..count {
         let n = rng.pick(&[129, 130, 140, 256, 257, 300, 385]);
         let (length_bits, step_bits) = (rng.pick(&[0, 2, 5, 20, 38]), rng.pick(&[0, 1, 5, 38]));
         let blocks = random(&mut rng, n, length_bits, step_bits, 20, 20);
-        let mut parts: Vec<(usize, &[Block])> = blocks.chunks(128).enumerate().collect();
+        let mut parts: Vec<(usize, &[Block])> = blocks.chunks(GROUP_LEN).enumerate().collect();
         if rng.one_in(2) {
             parts.reverse();
         }
@@ -149,14 +158,21 @@ pub fn gaps(tally: &mut Tally, count: u64) {
 }
 
 /// Groups that share their fields or lie inside each other's; every offset of the second, most of them refused.
-pub fn overlaps(tally: &mut Tally) {
+fn overlaps(tally: &mut Tally) {
     tally.section("foreign: groups that overlap, the second at every offset");
     let mut rng = Numbers::from_seed(116);
-    for (width, more) in [(4, 12), (4, 128), (8, 3), (1, 100), (52, 5), (56, 128)] {
-        let n = 128 + more;
+    for (width, more) in [
+        (4, 12),
+        (4, GROUP_LEN),
+        (8, 3),
+        (1, 100),
+        (52, 5),
+        (WIDEST, GROUP_LEN),
+    ] {
+        let n = GROUP_LEN + more;
         let blocks = touching(9, &vec![6; n], 3, &vec![2; n - 1]);
         let first = Group {
-            blocks: &blocks[..128],
+            blocks: &blocks[..GROUP_LEN],
             offset: 0,
             range_slope: 6,
             ord_slope: 2,
@@ -165,7 +181,7 @@ pub fn overlaps(tally: &mut Tally) {
         };
         for offset in 0..=first.length() {
             let second = Group {
-                blocks: &blocks[128..],
+                blocks: &blocks[GROUP_LEN..],
                 offset,
                 ..first
             };

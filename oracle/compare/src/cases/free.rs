@@ -1,4 +1,4 @@
-//! Lookups and listings behind records that aren't the file's.
+//! Lookups and listings with records that aren't the file's.
 
 use model::automaton::Table;
 use model::blocks::random;
@@ -6,11 +6,18 @@ use model::faults::others;
 use model::files::{File as Parts, rising, smallest, two_group_file, worked_file};
 use model::numbers::Numbers;
 use model::opening::Opened;
+use model::settings::{GROUP_LEN, GROUP_RECORD, OPENED_LEN};
 
 use super::lookups;
-use crate::opened::{self, File};
-use crate::patterns::Pattern;
+use crate::calls::intervals::Pattern;
+use crate::calls::opened::{self, File};
 use crate::tally::Tally;
+
+pub fn run(tally: &mut Tally) {
+    listed(tally);
+    changed(tally);
+    random_ones(tally, 1_000);
+}
 
 /// Every lookup, and listings into three buffers.
 fn all(tally: &mut Tally, file: &File, patterns: &[Pattern]) {
@@ -18,7 +25,7 @@ fn all(tally: &mut Tally, file: &File, patterns: &[Pattern]) {
     let n = usize::try_from(file.n()).unwrap_or(0).min(66_000);
     for pattern in patterns {
         for room in [n, n.saturating_sub(1), 300] {
-            file.list(tally, pattern.lent(), pattern.taken(), room);
+            file.list(tally, pattern, room);
         }
     }
 }
@@ -55,7 +62,7 @@ fn files() -> Vec<Vec<u8>> {
 }
 
 /// The records beside that of the 85 bytes, with each file.
-pub fn listed(tally: &mut Tally) {
+fn listed(tally: &mut Tally) {
     tally.section("free: records beside the right one");
     let patterns = patterns();
     let right = opened::open(tally, &worked_file().bytes()).opening.record;
@@ -70,14 +77,14 @@ pub fn listed(tally: &mut Tally) {
 }
 
 /// One number of the record replaced, or two.
-pub fn changed(tally: &mut Tally) {
+fn changed(tally: &mut Tally) {
     tally.section("free: each number of a record replaced, and each two");
     let patterns = patterns();
     for bytes in files() {
         let mut file = opened::open(tally, &bytes);
         let own = file.opening.record.numbers();
         let len = bytes.len() as u64;
-        for at in 0..7 {
+        for at in 0..OPENED_LEN {
             let old = own[at];
             let beside = [
                 0,
@@ -93,7 +100,7 @@ pub fn changed(tally: &mut Tally) {
                 numbers[at] = value;
                 file.set_record(Opened::of(numbers));
                 all(tally, &file, &patterns[..1]);
-                for other in at + 1..7 {
+                for other in at + 1..OPENED_LEN {
                     for change in [
                         0,
                         2,
@@ -112,7 +119,7 @@ pub fn changed(tally: &mut Tally) {
 }
 
 /// Records by chance, some of whose places fit the bytes.
-pub fn random_ones(tally: &mut Tally, count: u64) {
+fn random_ones(tally: &mut Tally, count: u64) {
     tally.section("free: records by chance");
     let mut rng = Numbers::from_seed(118);
     let patterns = patterns();
@@ -127,7 +134,7 @@ pub fn random_ones(tally: &mut Tally, count: u64) {
             lookups::some(tally, &file);
             let at = rng.below(patterns.len() as u64) as usize;
             let room = rng.below(300) as usize;
-            file.list(tally, patterns[at].lent(), patterns[at].taken(), room);
+            file.list(tally, &patterns[at], room);
         }
     }
 }
@@ -148,11 +155,14 @@ fn record(rng: &mut Numbers, len: u64, own: Opened) -> Opened {
             },
         )
     };
-    let (directory, records) = (place(own.directory, 4), place(own.records, 36));
+    let (directory, records) = (
+        place(own.directory, 4),
+        place(own.records, GROUP_RECORD as u64),
+    );
     let addresses = place(own.addresses, 1);
     let n = match rng.below(4) {
         0 => own.n,
-        1 => records.1 / 36 * 128,
+        1 => records.1 / GROUP_RECORD as u64 * GROUP_LEN as u64,
         2 => rng.within(1, 300),
         _ => rng.pick(&[0, 1, 65_536, 65_537, u64::MAX]),
     };

@@ -3,9 +3,15 @@
 use model::areas::Areas;
 use model::numbers::Numbers;
 
-use crate::builder::Builder;
-use crate::keys::common_prefix_len;
+use crate::calls::builder::Builder;
+use crate::calls::keys::common_prefix_len;
 use crate::tally::Tally;
+
+pub fn run(tally: &mut Tally) {
+    pairs(tally);
+    long(tally);
+    random(tally, 100_000);
+}
 
 /// All keys over these bytes up to a length, the shorter ones first.
 pub fn all(bytes: &[u8], longest: usize) -> Vec<Vec<u8>> {
@@ -22,10 +28,10 @@ pub fn all(bytes: &[u8], longest: usize) -> Vec<Vec<u8>> {
     keys
 }
 
-/// A builder with one block whose key this is, behind some bytes of the key area.
-pub fn one_key(key: &[u8], before: usize, behind: usize) -> Builder {
+/// A builder with one block whose key this is, after some bytes of the key area.
+pub fn one_key(key: &[u8], before: usize, after: usize) -> Builder {
     let front = vec![0x77; before];
-    let rest = vec![0x88; behind];
+    let rest = vec![0x88; after];
     let length = key.len() as u64;
     Builder::raw(Areas {
         n: 1,
@@ -40,7 +46,7 @@ fn pair(tally: &mut Tally, left: &[u8], right: &[u8]) {
 }
 
 /// Every pair of keys of up to four bytes, and of up to three over more bytes.
-pub fn pairs(tally: &mut Tally) {
+fn pairs(tally: &mut Tally) {
     tally.section("keys: every pair of short ones");
     for (bytes, longest) in [
         (&[0x00, 0x01, 0xfe, 0xff][..], 4),
@@ -55,8 +61,8 @@ pub fn pairs(tally: &mut Tally) {
     }
 }
 
-/// Keys that differ at each place, with runs of FF behind it; keys of up to 1,025 bytes.
-pub fn long(tally: &mut Tally) {
+/// Keys that differ at each place, with runs of FF after it; keys of up to 1,025 bytes.
+fn long(tally: &mut Tally) {
     tally.section("keys: up to 1,025 bytes, long common fronts");
     let mut rng = Numbers::from_seed(101);
     for length in (0..70).chain([
@@ -82,7 +88,7 @@ pub fn long(tally: &mut Tally) {
 }
 
 /// By chance, with a common front.
-pub fn random(tally: &mut Tally, count: u64) {
+fn random(tally: &mut Tally, count: u64) {
     tally.section("keys: by chance");
     let mut rng = Numbers::from_seed(102);
     for _ in 0..count {

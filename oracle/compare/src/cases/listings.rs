@@ -5,20 +5,28 @@ use model::blocks::{random, touching};
 use model::files::{File as Parts, rising, worked_file};
 use model::numbers::Numbers;
 use model::patterns::{drawn, nearby, ring, small};
+use model::settings::{LONGEST_KEY, MOST_BLOCKS, MOST_STATES};
 use tantivy_sstable::access;
 
 use super::keys;
-use crate::opened::{self, File};
-use crate::patterns::Pattern;
+use crate::calls::intervals::Pattern;
+use crate::calls::opened::{self, File};
 use crate::tally::Tally;
+
+pub fn run(tally: &mut Tally) {
+    words(tally);
+    random_ones(tally, 500);
+    large(tally);
+    refused(tally);
+}
 
 fn list(tally: &mut Tally, file: &File, pattern: &Pattern, more: isize) {
     let room = (file.n() as usize).saturating_add_signed(more);
-    file.list(tally, pattern.lent(), pattern.taken(), room);
+    file.list(tally, pattern, room);
 }
 
 /// Every automaton of one word of up to two bytes, and of two such words, in a file with every short key.
-pub fn words(tally: &mut Tally) {
+fn words(tally: &mut Tally) {
     tally.section("listings: one and two short words, every short key a separator");
     let mut names = keys::all(&[0x00, 0x61, 0xff], 3);
     names.sort();
@@ -50,7 +58,7 @@ fn separators(rng: &mut Numbers, count: u64) -> Vec<Vec<u8>> {
 fn pattern(rng: &mut Numbers, keys: &[Vec<u8>]) -> Pattern {
     let at = rng.below(keys.len() as u64) as usize;
     let key = &keys[at][..keys[at].len().min(12)];
-    let m = rng.within(1, 64) as usize;
+    let m = rng.within(1, MOST_STATES as u64) as usize;
     let way = rng.below(3) as usize;
     let table = match rng.below(7) {
         0 => Table::words(&[key]),
@@ -68,7 +76,7 @@ fn pattern(rng: &mut Numbers, keys: &[Vec<u8>]) -> Pattern {
 }
 
 /// Files of 2 to 300 blocks, each with automata of every kind; seldom too little room.
-pub fn random_ones(tally: &mut Tally, count: u64) {
+fn random_ones(tally: &mut Tally, count: u64) {
     tally.section("listings: by chance, 2 to 300 blocks");
     let mut rng = Numbers::from_seed(121);
     for round in 0..count {
@@ -93,13 +101,13 @@ pub fn random_ones(tally: &mut Tally, count: u64) {
 }
 
 /// 65,536 blocks; separators of 1,024 bytes.
-pub fn large(tally: &mut Tally) {
+fn large(tally: &mut Tally) {
     tally.section("listings: 65,536 blocks, separators of 1,024 bytes");
     let mut rng = Numbers::from_seed(122);
-    let names: Vec<Vec<u8>> = (0..65_536u32)
+    let names: Vec<Vec<u8>> = (0..MOST_BLOCKS as u32)
         .map(|i| i.to_be_bytes()[1..].to_vec())
         .collect();
-    let blocks = touching(0, &vec![1; 65_536], 0, &vec![1; 65_535]);
+    let blocks = touching(0, &vec![1; MOST_BLOCKS], 0, &vec![1; MOST_BLOCKS - 1]);
     let file = opened::open(tally, &Parts::written(&blocks, &names).bytes());
     for _ in 0..12 {
         let pattern = pattern(&mut rng, &names);
@@ -107,7 +115,7 @@ pub fn large(tally: &mut Tally) {
         list(tally, &file, &pattern, -1);
     }
     let names: Vec<Vec<u8>> = (0..130)
-        .map(|i| [vec![0xff; 1023], vec![i]].concat())
+        .map(|i| [vec![0xff; LONGEST_KEY - 1], vec![i]].concat())
         .collect();
     let blocks = random(&mut rng, 130, 8, 4, 10, 10);
     let file = opened::open(tally, &Parts::written(&blocks, &names).bytes());
@@ -117,7 +125,7 @@ pub fn large(tally: &mut Tally) {
 }
 
 /// Refused automata with room and without; the automaton's rows come before the room's.
-pub fn refused(tally: &mut Tally) {
+fn refused(tally: &mut Tally) {
     tally.section("listings: refused automata");
     let file = opened::open(tally, &worked_file().bytes());
     let whole = Table::words(&[b"c"]).bytes();

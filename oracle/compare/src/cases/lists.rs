@@ -1,11 +1,17 @@
 //! Lists of add and shorten calls from a fresh builder.
 
-use model::blocks::{LIMIT, block};
+use model::blocks::block;
 use model::numbers::Numbers;
+use model::settings::{LIMIT, STRIDE};
 use tantivy_sstable::access::Block;
 
-use crate::builder::Builder;
+use crate::calls::builder::Builder;
 use crate::tally::Tally;
+
+pub fn run(tally: &mut Tally) {
+    short(tally);
+    random(tally, 50_000);
+}
 
 #[derive(Clone)]
 enum Step {
@@ -51,7 +57,7 @@ fn grow(tally: &mut Tally, steps: &[Step], builder: &Builder, most: usize) {
 }
 
 /// Every list of up to three calls, in areas with room and without.
-pub fn short(tally: &mut Tally) {
+fn short(tally: &mut Tally) {
     tally.section("lists: every one of up to three calls, finished");
     let steps = alphabet();
     for (room, key_room) in [(15, 9), (10, 3), (14, 1)] {
@@ -105,14 +111,15 @@ fn step(rng: &mut Numbers, builder: &Builder) -> Step {
 }
 
 /// Lists of up to 30 calls by chance; seldom keys about as long as may be.
-pub fn random(tally: &mut Tally, count: u64) {
+fn random(tally: &mut Tally, count: u64) {
     tally.section("lists: by chance, up to 30 calls");
     let mut rng = Numbers::from_seed(103);
     for _ in 0..count {
         let calls = rng.within(1, 30);
         let blocks = rng.below(calls + 1) as usize;
         let key_room = rng.below(8 * calls);
-        let mut builder = Builder::fresh(5 * blocks + rng.below(6) as usize, key_room as usize);
+        let mut builder =
+            Builder::fresh(STRIDE * blocks + rng.below(6) as usize, key_room as usize);
         for _ in 0..calls {
             step(&mut rng, &builder).run(tally, &mut builder);
         }

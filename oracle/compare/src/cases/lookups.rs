@@ -2,8 +2,9 @@
 
 use model::around::{ids, keys, ords};
 use model::numbers::Numbers;
+use model::settings::{GROUP_LEN, LIMIT};
 
-use crate::opened::File;
+use crate::calls::opened::File;
 use crate::tally::Tally;
 
 /// Every lookup with ids, ordinals and keys around those of a file that opens: all of a short one, of a long one those
@@ -11,14 +12,17 @@ use crate::tally::Tally;
 pub fn around(tally: &mut Tally, rng: &mut Numbers, file: &File, some: usize) {
     let n = file.n();
     let ids = ids(rng, n, some);
-    for &id in ids
-        .iter()
-        .chain(&[n, n + 1, n.next_multiple_of(128), 1 << 32, u64::MAX])
-    {
+    for &id in ids.iter().chain(&[
+        n,
+        n + 1,
+        n.next_multiple_of(GROUP_LEN as u64),
+        1 << 32,
+        u64::MAX,
+    ]) {
         file.id(tally, id);
         file.separator(tally, id);
     }
-    let far = [1 << 47, 1 << 48, 1 << 63];
+    let far = [LIMIT / 2, LIMIT, 1 << 63];
     for ord in ords(&file.opening.blocks, &ids).into_iter().chain(far) {
         file.ord(tally, ord);
     }

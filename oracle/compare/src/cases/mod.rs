@@ -1,13 +1,35 @@
-//! The cases, by topic.
+//! The cases, by topic. A further topic is one more file and one more line of the list.
 
-pub mod areas;
-pub mod automata;
-pub mod damage;
-pub mod foreign;
-pub mod free;
+mod areas;
+mod automata;
+mod damage;
+mod finishes;
+mod foreign;
+mod free;
+mod fronts;
 pub mod keys;
-pub mod listings;
-pub mod lists;
-pub mod lookups;
-pub mod sizes;
-pub mod stores;
+mod late;
+mod listings;
+mod lists;
+mod lookups;
+mod sizes;
+mod stores;
+
+use crate::tally::Tally;
+
+/// A topic's name, and its cases.
+pub const TOPICS: &[(&str, fn(&mut Tally))] = &[
+    ("keys", keys::run),
+    ("lists", lists::run),
+    ("areas", areas::run),
+    ("stores", stores::run),
+    ("sizes", sizes::run),
+    ("damage", damage::run),
+    ("foreign", foreign::run),
+    ("free", free::run),
+    ("automata", automata::run),
+    ("listings", listings::run),
+    ("fronts", fronts::run),
+    ("finishes", finishes::run),
+    ("late", late::run),
+];

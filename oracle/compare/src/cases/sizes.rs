@@ -1,20 +1,27 @@
 //! Builders of the named sizes: added one by one, finished, opened and looked up.
 
 use model::areas::{Areas, by_rule};
-use model::blocks::{LIMIT, block, random, touching};
+use model::blocks::{block, random, touching};
 use model::numbers::Numbers;
+use model::settings::{GROUP_LEN, LIMIT, LONGEST_KEY, MOST_BLOCKS, STRIDE};
 use tantivy_sstable::access::Block;
 
 use super::lookups;
-use crate::builder::Builder;
-use crate::lent::junk;
-use crate::opened;
+use crate::calls::builder::Builder;
+use crate::calls::opened;
+use crate::memory::lent::junk;
 use crate::tally::Tally;
+
+pub fn run(tally: &mut Tally) {
+    named(tally, 12);
+    too_long(tally);
+    most(tally);
+}
 
 /// Adds the blocks, shortens each key before the next one, finishes, opens and looks up.
 fn build(tally: &mut Tally, rng: &mut Numbers, blocks: &[Block], keys: &[Vec<u8>]) {
     let taken: usize = keys.iter().map(Vec::len).sum();
-    let mut builder = Builder::fresh(5 * blocks.len() + 3, taken + 2);
+    let mut builder = Builder::fresh(STRIDE * blocks.len() + 3, taken + 2);
     let shortens = rng.one_in(2);
     for (i, (&block, key)) in blocks.iter().zip(keys).enumerate() {
         if shortens && i > 0 {
@@ -30,11 +37,11 @@ fn build(tally: &mut Tally, rng: &mut Numbers, blocks: &[Block], keys: &[Vec<u8>
     }
 }
 
-/// Rising keys: a common front, a number, and bytes behind it.
-fn keys(rng: &mut Numbers, count: u64, front: u64, behind: u64) -> Vec<Vec<u8>> {
+/// Rising keys: a common front, a number, and bytes after it.
+fn keys(rng: &mut Numbers, count: u64, front: u64, after: u64) -> Vec<Vec<u8>> {
     let front = rng.bytes(front);
     let key = |i: u64, rng: &mut Numbers| {
-        let length = rng.below(behind + 1);
+        let length = rng.below(after + 1);
         let tail: Vec<u8> = (0..length)
             .map(|_| rng.pick(&[0x00, 0x61, 0xff, 0xff]))
             .collect();
@@ -44,7 +51,7 @@ fn keys(rng: &mut Numbers, count: u64, front: u64, behind: u64) -> Vec<Vec<u8>> 
 }
 
 /// 2, 127 to 129, 255 to 257 blocks and between; keys of 0 and of 1,024 bytes among them.
-pub fn named(tally: &mut Tally, rounds: u64) {
+fn named(tally: &mut Tally, rounds: u64) {
     tally.section("builders: 2, 3, 127 to 129, 255 to 257 blocks, finished, opened and looked up");
     let mut rng = Numbers::from_seed(107);
     for n in [2, 3, 127, 128, 129, 255, 256, 257] {
@@ -69,7 +76,7 @@ pub fn named(tally: &mut Tally, rounds: u64) {
 /// Keys of 1,024 bytes that differ near their ends, and an empty one.
 fn long_keys(tally: &mut Tally, rng: &mut Numbers, n: u64) {
     let blocks = random(rng, n, 10, 5, 10, 10);
-    let mut names = keys(rng, n, 1022, 0);
+    let mut names = keys(rng, n, LONGEST_KEY as u64 - 2, 0);
     build(tally, rng, &blocks, &names);
     names[0] = vec![];
     build(tally, rng, &blocks, &names);
@@ -92,9 +99,10 @@ fn top(tally: &mut Tally, rng: &mut Numbers, n: u64) {
 }
 
 /// Keys of 1,025 bytes are refused, by an add and by a shorten.
-pub fn too_long(tally: &mut Tally) {
+fn too_long(tally: &mut Tally) {
     tally.section("builders: keys of 1,023 to 1,026 bytes");
-    for length in [1023, 1024, 1025, 1026, 5000] {
+    let most = LONGEST_KEY;
+    for length in [most - 1, most, most + 1, most + 2, 5000] {
         for byte in [0x00, 0x61, 0xff] {
             let key = vec![byte; length];
             let mut builder = Builder::fresh(15, 6000);
@@ -111,31 +119,32 @@ pub fn too_long(tally: &mut Tally) {
 }
 
 /// 65,536 blocks, and one more. Those at the groups' ends are compared with the whole areas.
-pub fn most(tally: &mut Tally) {
+fn most(tally: &mut Tally) {
     tally.section("builders: 65,536 blocks");
     let mut rng = Numbers::from_seed(108);
     let mut builder = Builder::raw(Areas {
         n: 0,
-        blocks: junk(5 * 65_537),
-        keys: junk(4 * 65_537),
+        blocks: junk(STRIDE * (MOST_BLOCKS + 1)),
+        keys: junk(4 * (MOST_BLOCKS + 1)),
     });
-    for i in 0..65_536u32 {
+    for i in 0..MOST_BLOCKS as u32 {
         let (block, key) = by_rule(i);
-        if i % 128 == 127 || [0, 1, 128, 65_408, 65_534].contains(&i) {
+        let last = i as usize % GROUP_LEN == GROUP_LEN - 1;
+        if last || [0, 1, 128, 65_408, 65_534].contains(&i) {
             assert_eq!(builder.add(tally, block, &key), 0);
             builder.shorten(tally, &(i + 1).to_be_bytes());
         } else {
             builder.add_unseen(tally, block, &key);
         }
     }
-    let (after, key) = by_rule(65_536);
+    let (after, key) = by_rule(MOST_BLOCKS as u32);
     assert_eq!(builder.add(tally, after, &key), 7);
     builder.add(tally, block(after.start, after.end, 0), &key);
     builder.add(tally, after, b"");
     builder.shorten(tally, &key);
     let index = builder.finish(tally, &[0, -1, 100]);
     let file = opened::open(tally, &index);
-    assert_eq!(file.n(), 65_536);
+    assert_eq!(file.n(), MOST_BLOCKS as u64);
     lookups::around(tally, &mut rng, &file, 500);
     broken_late(tally, &builder);
 }
@@ -144,7 +153,7 @@ pub fn most(tally: &mut Tally) {
 fn broken_late(tally: &mut Tally, builder: &Builder) {
     for back in 1..=10 {
         let mut areas = builder.areas.clone();
-        let at = 5 * 65_536 - back;
+        let at = STRIDE * MOST_BLOCKS - back;
         areas.blocks[at] += 1;
         Builder::raw(areas).finish(tally, &[0]);
     }

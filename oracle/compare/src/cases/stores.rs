@@ -1,14 +1,23 @@
 //! Slices of blocks.
 
-use model::blocks::{LIMIT, block, by_rule, random, touching};
+use model::blocks::{block, by_rule, random, touching};
 use model::numbers::Numbers;
+use model::settings::{LIMIT, MOST_BLOCKS};
 use tantivy_sstable::access::Block;
 
-use crate::stores::store;
+use crate::calls::stores::store;
 use crate::tally::Tally;
 
+pub fn run(tally: &mut Tally) {
+    small(tally);
+    powers(tally);
+    random_ones(tally, 100_000);
+    sizes(tally);
+    most(tally);
+}
+
 /// Every slice of up to three blocks over few numbers.
-pub fn small(tally: &mut Tally) {
+fn small(tally: &mut Tally) {
     tally.section("stores: every slice of up to three blocks over few numbers");
     let mut all = Vec::new();
     for (start, end) in [(0, 0), (0, 1), (1, 1), (1, 3), (3, 3), (1, 0), (3, LIMIT)] {
@@ -27,7 +36,7 @@ pub fn small(tally: &mut Tally) {
 }
 
 /// Legal slices of two and three blocks whose lengths and steps are powers of two and beside them.
-pub fn powers(tally: &mut Tally) {
+fn powers(tally: &mut Tally) {
     tally.section("stores: lengths and steps around every power of two");
     let mut values = vec![0];
     for k in 0..48 {
@@ -55,7 +64,7 @@ pub fn powers(tally: &mut Tally) {
 }
 
 /// Random slices of up to 20 blocks.
-pub fn random_ones(tally: &mut Tally, count: u64) {
+fn random_ones(tally: &mut Tally, count: u64) {
     tally.section("stores: by chance, up to 20 blocks");
     let mut rng = Numbers::from_seed(105);
     for _ in 0..count {
@@ -97,7 +106,7 @@ fn spoil(rng: &mut Numbers, blocks: &mut [Block]) {
 }
 
 /// The sizes around one and two groups.
-pub fn sizes(tally: &mut Tally) {
+fn sizes(tally: &mut Tally) {
     tally.section("stores: 2, 127 to 129, 255 to 257 and more blocks");
     let mut rng = Numbers::from_seed(106);
     for n in [
@@ -141,14 +150,14 @@ fn at_the_top(tally: &mut Tally, n: u64) {
 }
 
 /// 65,536 blocks, and more; rows 3 to 5 in the last block come before 7.
-pub fn most(tally: &mut Tally) {
+fn most(tally: &mut Tally) {
     tally.section("stores: 65,535 to 65,537 blocks");
     for seed in [7, 529 * 3 + 23 * 5 + 9, 529 * 1000 + 23 * 16 + 16] {
-        let blocks = by_rule(seed, 65_538);
-        for n in [65_535, 65_536, 65_537, 65_538] {
+        let blocks = by_rule(seed, MOST_BLOCKS as u64 + 2);
+        for n in MOST_BLOCKS - 1..=MOST_BLOCKS + 2 {
             store(tally, &blocks[..n], &[0, -1, 1]);
         }
-        for n in [65_536, 65_537] {
+        for n in [MOST_BLOCKS, MOST_BLOCKS + 1] {
             for at in [0, 1, 40_000, n - 1] {
                 for fault in [
                     |b: &mut Block| b.end = LIMIT,
@@ -163,5 +172,5 @@ pub fn most(tally: &mut Tally) {
             }
         }
     }
-    at_the_top(tally, 65_536);
+    at_the_top(tally, MOST_BLOCKS as u64);
 }

@@ -1,17 +1,20 @@
 //! Blocks and keys that are handed over, and automata.
 
-use model::blocks::{LIMIT, block, touching};
+use model::blocks::{block, touching};
+use model::settings::LIMIT;
 use tantivy_fst::Automaton;
 use tantivy_sstable::access::{self, Block, Store};
 
-use super::{Difference, checked, difference};
-use crate::lent::{Lent, Out};
-use crate::library;
-use crate::tally::rust;
+use super::{Difference, difference};
+use crate::asked::{overflow_checks, quietly};
+use crate::calls::intervals::{Keys, can_block_match};
+use crate::calls::{building, stores};
+use crate::memory::lent::Lent;
+use crate::memory::out::{Out, values};
 
 /// What the Rust does with a slice of blocks.
-fn writes(blocks: &[Block]) -> String {
-    let Some(bytes) = rust(|| access::write_store(blocks)) else {
+pub fn writes(blocks: &[Block]) -> String {
+    let Some(bytes) = quietly(|| access::write_store(blocks)) else {
         return "panics".to_string();
     };
     let store = Store::open(&bytes);
@@ -27,14 +30,10 @@ fn writes(blocks: &[Block]) -> String {
 
 /// The library's number for the slice.
 fn store(blocks: &[Block]) -> String {
-    let flat: Vec<u64> = blocks
-        .iter()
-        .flat_map(|b| [b.start, b.end, b.ord])
-        .collect();
     let mut out = Lent::buffer(2_000_000);
     let mut len = Out::new();
-    let no = library::store(&Lent::new(&flat), &mut out, &mut len);
-    let more = if no == 0 || len.is([0]) {
+    let no = stores::call(&Lent::new(&stores::flat(blocks)), &mut out, &mut len);
+    let more = if no == 0 || len.is(0) {
         ""
     } else {
         " and a length"
@@ -43,34 +42,27 @@ fn store(blocks: &[Block]) -> String {
 }
 
 /// What the Rust's builder does with blocks and keys.
-fn builds(blocks: &[(Block, &[u8])]) -> String {
-    match rust(|| access::write_index(blocks)) {
+pub fn builds(blocks: &[(Block, &[u8])]) -> String {
+    match quietly(|| access::write_index(blocks)) {
         None => "takes them, and fails when it writes".to_string(),
         Some(bytes) => format!("takes them and writes {} bytes", bytes.len()),
     }
 }
 
 /// The library's numbers for the same adds, then that of a finish.
-fn adds(blocks: &[(Block, &[u8])], room: usize, key_room: usize, out: usize) -> String {
+pub fn adds(blocks: &[(Block, &[u8])], room: usize, key_room: usize, out: usize) -> String {
     let (mut places, mut keys) = (Lent::buffer(room), Lent::buffer(key_room));
-    let mut n = Out::of([0]);
+    let mut n = Out::of(0);
     for &(block, key) in blocks {
-        let no = library::add(&mut n, &mut places, &mut keys, &Lent::new(key), block);
+        let no = building::add(&mut n, &mut places, &mut keys, &Lent::new(key), block);
         if no != 0 {
             return format!("gets {no}");
         }
     }
-    let (mut total, mut len) = (Out::new(), Out::new());
-    let lengths = [&mut total, &mut len];
-    let no = library::finish(
-        n.value()[0],
-        &places,
-        &keys,
-        &mut Lent::buffer(out),
-        lengths,
-    );
+    let (mut written, mut lengths) = (Lent::buffer(out), Out::some());
+    let no = building::finish(n.value(), &places, &keys, &mut written, &mut lengths);
     match no {
-        0 => format!("writes {} bytes", total.value()[0]),
+        0 => format!("writes {} bytes", values(&lengths).0[0]),
         no => format!("gets {no}"),
     }
 }
@@ -91,7 +83,7 @@ fn numbers() -> Vec<Difference> {
     let falls = [block(1, 0, 0)];
     let top = [block(0, LIMIT, 0)];
     let ord = [block(0, 0, LIMIT)];
-    let wraps = if checked() { "panics" } else { BACK };
+    let wraps = if overflow_checks() { "panics" } else { BACK };
     vec![
         difference(
             "D22",
@@ -119,7 +111,7 @@ fn slices() -> Vec<Difference> {
     let same = [block(0, 0, 0), block(0, 0, 0)];
     let lower = [block(0, 0, 1), block(0, 0, 0)];
     let many = touching(0, &vec![0; 65_537], 0, &vec![1; 65_536]);
-    let wraps = if checked() { "panics" } else { BACK };
+    let wraps = if overflow_checks() { "panics" } else { BACK };
     let other = "writes a store that gives id 0 as Some(Block { start: 0, end: 1, ord: 0 })";
     vec![
         difference(
@@ -150,7 +142,7 @@ fn slices() -> Vec<Difference> {
 }
 
 /// An empty block from ordinal 0 on and, with a second key, one from 1 on.
-fn with_keys<'a>(keys: &[&'a [u8]]) -> Vec<(Block, &'a [u8])> {
+pub fn with_keys<'a>(keys: &[&'a [u8]]) -> Vec<(Block, &'a [u8])> {
     let ords = 0..keys.len() as u64;
     ords.zip(keys)
         .map(|(ord, &key)| (block(0, 0, ord), key))
@@ -173,7 +165,7 @@ fn added() -> Vec<Difference> {
         ),
         difference(
             "D30",
-            "an add of key 00 behind 00",
+            "an add of key 00 after 00",
             (builds(&same), fails),
             (adds(&same, 10, 2, 500), "gets 6"),
         ),
@@ -217,12 +209,12 @@ fn finished() -> Vec<Difference> {
 }
 
 fn shorten() -> Difference {
-    let answer = match rust(|| access::find_shorter_str_in_between(b"", b"")) {
+    let answer = match quietly(|| access::find_shorter_str_in_between(b"", b"")) {
         None => "panics".to_string(),
         Some(short) => format!("gives {short:x?}"),
     };
     let mut blocks = Lent::new(&[0, 0, 0, 0, 0]);
-    let no = library::shorten(1, &mut blocks, &mut Lent::new(&[]), &Lent::new(&[]));
+    let no = building::shorten(1, &mut blocks, &mut Lent::new(&[]), &Lent::new(&[]));
     difference(
         "D35",
         "an empty key shortened before an empty one",
@@ -231,7 +223,7 @@ fn shorten() -> Difference {
     )
 }
 
-/// 65 states, one behind the other; the last accepts.
+/// 65 states, one after the other; the last accepts.
 struct Long;
 
 impl Automaton for Long {
@@ -255,14 +247,14 @@ impl Automaton for Long {
 }
 
 fn states() -> Difference {
-    let answer = rust(|| access::can_block_match_automaton(None, &[0; 64], &Long));
+    let answer = quietly(|| access::can_block_match_automaton(None, &[0; 64], &Long));
     let next = |i: usize| ((i / 256 + 1) % 65) as u8;
     let mut bytes = vec![65];
     bytes.extend((0..65).map(|state| u8::from(state == 64)));
     bytes.extend((0..256 * 65).map(next));
     let mut matches = Out::new();
-    let (start, end) = (Lent::new(&[]), Lent::new(&[0; 64]));
-    let no = library::can_block_match(false, &start, &end, &Lent::new(&bytes), &mut matches);
+    let keys = Keys::new(None, b"", &[0; 64]);
+    let no = can_block_match(&keys, &Lent::new(&bytes), &mut matches);
     difference(
         "D36",
         "an automaton of 65 states",

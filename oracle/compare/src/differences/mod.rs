@@ -1,14 +1,15 @@
-//! The differences that docs/DIFFERENCES.md lists: the smallest input of each on both sides.
+//! The differences that docs/DIFFERENCES.md lists: the smallest input of each on both sides, and where the cases met them.
 
 mod building;
+mod further;
+mod met;
 mod opening;
 
 use std::collections::BTreeSet;
 use std::fs;
-use std::hint::black_box;
 use std::path::Path;
 
-use crate::tally::{Tally, quietly};
+use crate::tally::Tally;
 
 /// One difference: what both sides do, and what the list says that they do.
 struct Difference {
@@ -32,37 +33,41 @@ fn difference(
     }
 }
 
-/// Whether a sum that wraps stops the program.
-fn checked() -> bool {
-    quietly(|| black_box(255u8) + black_box(1)).is_none()
-}
-
-/// Shows each difference, and holds the list to those that were shown.
+/// Shows each difference, holds the list to them, and the differences that the cases met to the list.
 pub fn run(tally: &mut Tally, root: &Path) {
     tally.section("differences");
-    let mut shown = BTreeSet::new();
-    for found in opening::all().into_iter().chain(building::all()) {
-        let Difference {
-            id,
-            input,
-            rust,
-            here,
-        } = found;
-        println!("  {id} {input}: the Rust {}, here {}", rust[0], here[0]);
-        let right = rust[0] == rust[1] && here[0] == here[1];
-        tally.difference(right, || {
-            format!(
-                "{id}: listed is that the Rust {}, here {}",
-                rust[1], here[1]
-            )
-        });
-        assert!(shown.insert(id.to_string()), "{id} twice");
-    }
     let listed = listed(root);
+    let mut all: Vec<Difference> = opening::all().into_iter().chain(building::all()).collect();
+    all.extend(further::all());
+    let shown: BTreeSet<String> = all
+        .iter()
+        .map(|difference| difference.id.to_string())
+        .collect();
+    assert_eq!(shown.len(), all.len(), "a mark twice");
+    all.into_iter()
+        .for_each(|difference| show(tally, difference));
     tally.difference(shown == listed, || {
         format!("listed {listed:?}, shown {shown:?}")
     });
     tally.end_section();
+    met::hold(tally, &listed);
+}
+
+fn show(tally: &mut Tally, difference: Difference) {
+    let Difference {
+        id,
+        input,
+        rust,
+        here,
+    } = difference;
+    println!("  {id} {input}: the Rust {}, here {}", rust[0], here[0]);
+    let right = rust[0] == rust[1] && here[0] == here[1];
+    tally.difference(right, || {
+        format!(
+            "{id}: listed is that the Rust {}, here {}",
+            rust[1], here[1]
+        )
+    });
 }
 
 /// The marks of the differences in docs/DIFFERENCES.md: table rows whose first cell is D and a number.

@@ -1,17 +1,19 @@
 //! Files, and lookups in them.
 
-use model::blocks::{LIMIT, touching};
+use model::blocks::touching;
 use model::files::{File as Parts, keys_of_one_byte};
+use model::settings::{LIMIT, OPENED_LEN};
 use tantivy_sstable::access::{self, Block, Index};
 
-use super::{Difference, checked, difference};
-use crate::lent::{Lent, Out};
-use crate::library;
-use crate::tally::rust;
+use super::{Difference, difference};
+use crate::asked::{overflow_checks, quietly};
+use crate::calls::{lookups, opened};
+use crate::memory::lent::Lent;
+use crate::memory::out::Out;
 
 /// What the Rust does with a file.
 fn opens(bytes: &[u8]) -> String {
-    match rust(|| Index::try_open(bytes).is_ok()) {
+    match quietly(|| Index::try_open(bytes).is_ok()) {
         None => "panics",
         Some(true) => "opens it",
         Some(false) => "refuses it",
@@ -20,9 +22,9 @@ fn opens(bytes: &[u8]) -> String {
 }
 
 /// The Rust's answer for an id, in a file that it opens.
-fn gives(bytes: &[u8], id: u64) -> String {
+pub fn gives(bytes: &[u8], id: u64) -> String {
     let index = Index::open(bytes);
-    match rust(|| index.get_block(id)) {
+    match quietly(|| index.get_block(id)) {
         None => format!("opens it and panics at id {id}"),
         Some(None) => format!("opens it and finds no id {id}"),
         Some(Some(Block { start, end, ord })) => {
@@ -32,10 +34,10 @@ fn gives(bytes: &[u8], id: u64) -> String {
 }
 
 /// The library's number for a file.
-fn number(bytes: &[u8]) -> String {
-    let mut opened = Out::new();
-    let no = library::open(&Lent::new(bytes), &mut opened);
-    let more = if no == 0 || opened.is([0; 7]) {
+pub fn number(bytes: &[u8]) -> String {
+    let mut record = Lent::buffer(OPENED_LEN);
+    let no = opened::call(&Lent::new(bytes), &mut record);
+    let more = if no == 0 || record.holds(&[0; OPENED_LEN]) {
         ""
     } else {
         " and a record"
@@ -48,7 +50,7 @@ fn file(blocks: &[Block], keys: &[Vec<u8>]) -> Vec<u8> {
 }
 
 /// A file of two blocks, 0..1 and 1..2 from ordinals 0 and 1 on, with the keys of fewest bytes.
-fn smallest() -> Parts {
+pub fn smallest() -> Parts {
     let parts = Parts::written(&touching(0, &[1, 1], 0, &[1]), &[vec![], vec![0]]);
     assert_eq!(
         (parts.bytes().len(), number(&parts.bytes())),
@@ -166,7 +168,7 @@ fn widths() -> Vec<Difference> {
     let none = smallest().with(|file| file.widths(0, 1, 0)).bytes();
     let wide = smallest().with(|file| file.widths(0, 1, 57)).bytes();
     let panics = "opens it and panics at id 0";
-    let read = if checked() {
+    let read = if overflow_checks() {
         panics
     } else {
         "opens it and gives id 0 as 0..9223372036854775809 from 0"
@@ -285,15 +287,13 @@ fn below() -> Difference {
     let keys = [vec![], vec![0]];
     let bytes = file(&touching(0, &[0, 0], 1, &[1]), &keys);
     let index = Index::open(&bytes);
-    let answer = match rust(|| index.get_and_locate_with_ord(0)) {
+    let answer = match quietly(|| index.get_and_locate_with_ord(0)) {
         None => "panics".to_string(),
         Some((id, _)) => format!("gives id {id}"),
     };
-    let mut record = Out::new();
-    let lent = Lent::new(&bytes);
-    assert_eq!(library::open(&lent, &mut record), 0);
-    let mut found = [Out::new(), Out::new(), Out::new(), Out::new()];
-    let no = library::locate_with_ord(&lent, &record, 0, &mut found);
+    let (lent, mut record) = (Lent::new(&bytes), Lent::buffer(OPENED_LEN));
+    assert_eq!(opened::call(&lent, &mut record), 0);
+    let no = lookups::locate_with_ord(&lent, &record, 0, &mut Out::some());
     difference(
         "D21",
         "ordinal 0 in a file whose first is 1",

@@ -4,8 +4,11 @@ use model::files::by_rule;
 use model::opening::Opened;
 
 use super::Words;
-use crate::opened::{self, File};
-use crate::tally::{Call, Tally};
+use crate::calls::lookups::{
+    GET_BLOCK, GET_BLOCK_WITH_KEY, LOCATE_WITH_KEY, LOCATE_WITH_ORD, SEPARATOR,
+};
+use crate::calls::opened::{self, File, OPEN};
+use crate::tally::Tally;
 
 pub fn run(tally: &mut Tally, lines: &[&str]) {
     let mut file = opened::open(tally, &[]);
@@ -36,7 +39,7 @@ fn open(tally: &mut Tally, words: &mut Words, bytes: &[u8]) -> File {
     let file = opened::open(tally, bytes);
     let got = (file.opening.no(), file.opening.answer().numbers());
     let due = (words.number(), words.numbers());
-    words.hold(tally, Call::Open, got, due);
+    words.hold(tally, &OPEN, got, due);
     file
 }
 
@@ -46,28 +49,28 @@ fn look_up(tally: &mut Tally, file: &File, letter: &str, words: &mut Words) {
         "i" => {
             let got = file.id(tally, words.number());
             let due = (words.number(), words.numbers());
-            words.hold(tally, Call::GetBlock, got, due);
+            words.hold(tally, &GET_BLOCK, got, due);
         }
         "o" => {
             let got = file.ord(tally, words.number());
             let due = (words.number(), words.numbers());
-            words.hold(tally, Call::LocateWithOrd, got, due);
+            words.hold(tally, &LOCATE_WITH_ORD, got, due);
         }
         "k" => {
             let got = file.key(tally, &words.bytes());
             let due = (words.number(), words.numbers());
-            words.hold(tally, Call::LocateWithKey, got, due);
+            words.hold(tally, &LOCATE_WITH_KEY, got, due);
         }
         "a" => {
             let got = file.address(tally, &words.bytes());
             let due = (words.number(), words.numbers());
-            words.hold(tally, Call::GetBlockWithKey, got, due);
+            words.hold(tally, &GET_BLOCK_WITH_KEY, got, due);
         }
         "p" => {
             let got = file.separator(tally, words.number());
             let [found, offset, length] = words.numbers();
             let got = [u64::from(got != [0, 0]), got[0], got[1]];
-            words.hold(tally, Call::Separator, got, [found, offset, length]);
+            words.hold(tally, &SEPARATOR, got, [found, offset, length]);
         }
         "I" => drop(file.id(tally, words.number())),
         "O" => drop(file.ord(tally, words.number())),

@@ -1,9 +1,10 @@
 //! Shortened keys and common prefixes. The other lines are about functions that aren't exported.
 
 use super::Words;
+use crate::calls::building::SHORTEN;
+use crate::calls::keys::{COMMON_PREFIX_LEN, common_prefix_len};
 use crate::cases::keys::one_key;
-use crate::keys::common_prefix_len;
-use crate::tally::{Call, Tally};
+use crate::tally::Tally;
 
 pub fn run(tally: &mut Tally, lines: &[&str]) {
     for line in lines {
@@ -13,13 +14,13 @@ pub fn run(tally: &mut Tally, lines: &[&str]) {
                 let (left, right, short) = (words.bytes(), words.bytes(), words.bytes());
                 let mut builder = one_key(&left, 2, 3);
                 builder.shorten(tally, &right);
-                words.hold(tally, Call::Shorten, builder.areas.entry(0).1, short);
+                words.hold(tally, &SHORTEN, builder.areas.entry(0).1, short);
             }
             "c" => {
                 let (left, right) = (words.bytes(), words.bytes());
                 let got = common_prefix_len(tally, &left, &right);
                 let due = words.number();
-                words.hold(tally, Call::CommonPrefixLen, got, due);
+                words.hold(tally, &COMMON_PREFIX_LEN, got, due);
             }
             _ => {}
         }

@@ -9,39 +9,41 @@ mod stores;
 use std::fs;
 use std::path::Path;
 
-use crate::tally::{Call, Tally};
+use crate::calls::Call;
+use crate::tally::Tally;
 
 /// Runs every line of the lists that is a call of an exported function.
 pub fn run(tally: &mut Tally, root: &Path) {
-    tally.replay(true);
     let read = |list: &str| {
         let place = root.join("crates").join(list).join("stdin");
         fs::read_to_string(&place).unwrap_or_else(|why| panic!("{}: {why}", place.display()))
     };
-    for (list, replay) in [
-        ("leaf_vectors", leaves::run as fn(&mut Tally, &[&str])),
-        ("store_vectors", stores::run),
-        ("builder_vectors", builders::run),
-        ("index_vectors", indexes::run),
-        ("pattern_vectors", patterns::run),
+    for (section, list, replay) in [
+        (
+            "stored: leaves",
+            "leaf_vectors",
+            leaves::run as fn(&mut Tally, &[&str]),
+        ),
+        ("stored: stores", "store_vectors", stores::run),
+        ("stored: builders", "builder_vectors", builders::run),
+        ("stored: indexes", "index_vectors", indexes::run),
+        ("stored: patterns", "pattern_vectors", patterns::run),
     ] {
-        tally.section(&format!("stored: {list}"));
+        tally.section(section);
         let text = read(list);
         let lines: Vec<&str> = text.lines().filter(|line| !line.starts_with('#')).collect();
         replay(tally, &lines);
     }
-    tally.end_section();
-    tally.replay(false);
 }
 
-/// The parts of a line behind its letter.
+/// The parts of a line after its letter.
 struct Words<'a> {
     line: &'a str,
     words: std::str::Split<'a, char>,
 }
 
 impl<'a> Words<'a> {
-    /// The letter, and what is behind it.
+    /// The letter, and what is after it.
     fn new(line: &'a str) -> (&'a str, Words<'a>) {
         let mut words = line.split(' ');
         let letter = words.next().expect("a letter");
@@ -70,10 +72,8 @@ impl<'a> Words<'a> {
         (0..digits.len() / 2).map(byte).collect()
     }
 
-    /// Fails the last case unless its answer is the stored one.
-    fn hold<T: PartialEq>(&self, tally: &mut Tally, call: Call, got: T, stored: T) {
-        if got != stored {
-            tally.unlike(call, &self.line[..self.line.len().min(300)]);
-        }
+    /// The last call's answer must be the stored one.
+    fn hold<T: PartialEq>(&self, tally: &mut Tally, call: &'static Call, got: T, stored: T) {
+        tally.stored(call, got == stored, &self.line[..self.line.len().min(300)]);
     }
 }

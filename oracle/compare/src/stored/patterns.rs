@@ -3,9 +3,10 @@
 use model::opening::Opened;
 
 use super::Words;
-use crate::opened::{self, File};
-use crate::patterns::Pattern;
-use crate::tally::{Call, Tally};
+use crate::calls::intervals::{CAN_BLOCK_MATCH, EXAMPLE, Pattern};
+use crate::calls::listing::LIST;
+use crate::calls::opened::{self, File, OPEN};
+use crate::tally::Tally;
 
 pub fn run(tally: &mut Tally, lines: &[&str]) {
     let mut pattern = Pattern::new(&[]);
@@ -19,7 +20,7 @@ pub fn run(tally: &mut Tally, lines: &[&str]) {
             "f" => {
                 file = opened::open(tally, &words.bytes());
                 let (got, due) = (file.opening.answer().n, words.number());
-                words.hold(tally, Call::Open, got, due);
+                words.hold(tally, &OPEN, got, due);
             }
             "m" => file.set_record(Opened::of(words.numbers())),
             "b" | "e" => interval(tally, &pattern, letter, &mut words),
@@ -80,19 +81,19 @@ fn interval(tally: &mut Tally, pattern: &Pattern, letter: &str, words: &mut Word
     if letter == "b" {
         let got = pattern.block(tally, start, &given, &end);
         let due = (words.number(), words.number());
-        return words.hold(tally, Call::CanBlockMatch, got, due);
+        return words.hold(tally, &CAN_BLOCK_MATCH, got, due);
     }
     let got = pattern.example(tally, start, &given, &end, words.number() as usize);
     let due = words.number();
-    words.hold(tally, Call::Example, got, due);
+    words.hold(tally, &EXAMPLE, got, due);
 }
 
 fn list(tally: &mut Tally, file: &File, pattern: &Pattern, letter: &str, words: &mut Words) {
     let room = words.number() as usize;
-    let (no, count, mut marks) = file.list(tally, pattern.lent(), pattern.taken(), room);
+    let (no, count, mut marks) = file.list(tally, pattern, room);
     if letter == "l" {
         let due = (words.number(), words.number(), words.bytes());
         marks.truncate(due.2.len());
-        words.hold(tally, Call::List, (no, count, marks), due);
+        words.hold(tally, &LIST, (no, count, marks), due);
     }
 }

@@ -5,9 +5,10 @@ use model::files::File as Parts;
 use model::sums::fnv;
 
 use super::Words;
-use crate::opened::{self, File};
-use crate::stores::store;
-use crate::tally::{Call, Tally};
+use crate::calls::lookups::{GET_BLOCK, LOCATE_WITH_ORD};
+use crate::calls::opened::{self, File};
+use crate::calls::stores::{STORE, store};
+use crate::tally::Tally;
 
 pub fn run(tally: &mut Tally, lines: &[&str]) {
     for line in lines {
@@ -20,17 +21,12 @@ pub fn run(tally: &mut Tally, lines: &[&str]) {
                     .collect();
                 let got = store(tally, &blocks, &[0]);
                 let due = words.bytes();
-                words.hold(tally, Call::Store, got, due);
+                words.hold(tally, &STORE, got, due);
             }
             "h" => {
                 let [seed, count, length, hash] = words.numbers();
                 let got = store(tally, &by_rule(seed, count), &[0]);
-                words.hold(
-                    tally,
-                    Call::Store,
-                    (got.len() as u64, fnv(&got)),
-                    (length, hash),
-                );
+                words.hold(tally, &STORE, (got.len() as u64, fnv(&got)), (length, hash));
             }
             _ => look_up(tally, letter, &mut words),
         }
@@ -48,15 +44,15 @@ fn look_up(tally: &mut Tally, letter: &str, words: &mut Words) {
     match letter {
         "i" => {
             let (got, due) = (file.id(tally, asked), (0, words.numbers()));
-            words.hold(tally, Call::GetBlock, got, due);
+            words.hold(tally, &GET_BLOCK, got, due);
         }
         "u" => {
             let got = file.id(tally, asked);
-            words.hold(tally, Call::GetBlock, got, (17, [0; 3]));
+            words.hold(tally, &GET_BLOCK, got, (17, [0; 3]));
         }
         "o" => {
             let (got, due) = (file.ord(tally, asked), (0, words.numbers()));
-            words.hold(tally, Call::LocateWithOrd, got, due);
+            words.hold(tally, &LOCATE_WITH_ORD, got, due);
         }
         other => panic!("{other} isn't known"),
     }

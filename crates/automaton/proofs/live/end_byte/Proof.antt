@@ -3,7 +3,7 @@ use Prim.Native.Nat.{_+_, _-_, _*_, _%_, _≤_}
 use mathlib.Core.Path.{_≡_, sym, subst}
 use native.Mathlib.Omega.{arith}
 use borrow.Author.Needs.{needs}
-use Rattle.serialize.specs.Digits.{Below}
+use Rattle.serialize.specs.Digits.{DigitsBelow}
 use Rattle.automaton.specs.Table.{states}
 use Rattle.automaton.proofs.Eights.{Blank, blank-new}
 use Rattle.automaton.proofs.LiveBytes.{Nowhere, Dead, all-both, eight-closed, eight-passed, end-none, end-in}
@@ -68,7 +68,7 @@ loop-holds c =
     let p = c .before .before .before .before .before .pre in
     let row = 1 + states (a .table .now) + a .state * 256 in
     let e = c .before .before .end-of-eight .ensures in
-    let small : Below 8 (a .table .now) = λ i. omega (arith, c .before .before .before .before .shared-slice-known .given i) in
+    let small : DigitsBelow 8 (a .table .now) = λ i. omega (arith, c .before .before .before .before .shared-slice-known .given i) in
     let d = blank-new (a .table .now) small (a .reach) (row + 248) (c .deserialize-u64 .result) (c .deserialize-u64 .ensures) (λ j h. e .0 j h (omega arith)) in
     (omega arith, omega arith, d, eight-passed (p .0) (p .1) (a .state) (p .2) (row + 248) 248 (omega arith) (omega arith) small (c .deserialize-u64 .result) (c .deserialize-u64 .ensures) d)
 
@@ -118,7 +118,7 @@ loop-again c =
     let l = c .before .before .before .before .before .loop in
     let row = 1 + states (a .table .now) + a .state * 256 in
     let e = c .before .end-of-eight2 .ensures in
-    let small : Below 8 (a .table .now) = λ i. omega (arith, c .before .before .before .before .before .before .before .before .before .before .shared-slice-known .given i) in
+    let small : DigitsBelow 8 (a .table .now) = λ i. omega (arith, c .before .before .before .before .before .before .before .before .before .before .shared-slice-known .given i) in
     let eight = c .before .before .before .deserialize-u642 in
     let d : Blank (a .reach) (eight .result) = blank-new (a .table .now) small (a .reach) (row + (l .b - 8)) (eight .result) (eight .ensures) (λ j h. e .0 j h (omega arith)) in
     (omega arith, omega arith, d, all-both (Nowhere (a .table .now) (a .state)) (l .b - 8) (l .b - 8 + 8) 256 (eight-passed (p .0) (p .1) (a .state) (p .2) (row + (l .b - 8)) (l .b - 8) (omega arith) (omega arith) small (eight .result) (eight .ensures) d) (λ k h. l .inv .3 k (omega arith)))
@@ -132,7 +132,7 @@ loop-again-2 c =
     let p = c .before .before .before .before .before .before .before .before .before .pre in
     let l = c .before .before .before .loop in
     let row = 1 + states (a .table .now) + a .state * 256 in
-    let small : Below 8 (a .table .now) = λ i. omega (arith, c .before .before .before .before .before .before .before .before .shared-slice-known .given i) in
+    let small : DigitsBelow 8 (a .table .now) = λ i. omega (arith, c .before .before .before .before .before .before .before .before .shared-slice-known .given i) in
     let eight = c .before .deserialize-u642 in
     let d : Blank (a .reach) (eight .result) = subst (Blank (a .reach)) (sym (c .if2 .left)) (l .inv .2) in
     (omega arith, omega arith, l .inv .2, all-both (Nowhere (a .table .now) (a .state)) (l .b - 8) (l .b - 8 + 8) 256 (eight-passed (p .0) (p .1) (a .state) (p .2) (row + (l .b - 8)) (l .b - 8) (omega arith) (omega arith) small (eight .result) (eight .ensures) d) (λ k h. l .inv .3 k (omega arith)))

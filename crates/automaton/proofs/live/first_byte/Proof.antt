@@ -4,7 +4,7 @@ use mathlib.Core.Path.{_≡_, sym, _∙_, subst}
 use mathlib.Core.Logic.{⊎-elim}
 use native.Mathlib.Omega.{arith}
 use borrow.Author.Needs.{needs}
-use Rattle.serialize.specs.Digits.{Below}
+use Rattle.serialize.specs.Digits.{DigitsBelow}
 use Rattle.automaton.specs.Table.{states}
 use Rattle.automaton.proofs.Eights.{Blank, blank-new}
 use Rattle.automaton.proofs.LiveBytes.{Nowhere, Dead, all-both, eight-closed, eight-passed, first-at, first-in}
@@ -60,7 +60,7 @@ loop-holds c =
     let p = c .before .before .before .before .before .pre in
     let row = 1 + states (a .table .now) + a .state * 256 in
     let e = c .before .before .first-of-eight .ensures in
-    let small : Below 8 (a .table .now) = λ i. omega (arith, c .before .before .before .before .shared-slice-known .given i) in
+    let small : DigitsBelow 8 (a .table .now) = λ i. omega (arith, c .before .before .before .before .shared-slice-known .given i) in
     let d = blank-new (a .table .now) small (a .reach) row (c .deserialize-u64 .result) (c .deserialize-u64 .ensures) (λ j h. e .0 j h (omega arith)) in
     (omega arith, omega arith, d, eight-passed (p .0) (p .1) (a .state) (p .2) row 0 (omega arith) (omega arith) small (c .deserialize-u64 .result) (c .deserialize-u64 .ensures) d)
 
@@ -109,7 +109,7 @@ loop-again c =
     let p = c .before .before .before .before .before .before .before .before .before .pre in
     let l = c .before .before .before .loop in
     let row = 1 + states (a .table .now) + a .state * 256 in
-    let small : Below 8 (a .table .now) = λ i. omega (arith, c .before .before .before .before .before .before .before .before .shared-slice-known .given i) in
+    let small : DigitsBelow 8 (a .table .now) = λ i. omega (arith, c .before .before .before .before .before .before .before .before .shared-slice-known .given i) in
     let eight = c .before .deserialize-u642 in
     let d : Blank (a .reach) (eight .result) =
     ⊎-elim

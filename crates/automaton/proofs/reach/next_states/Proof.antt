@@ -5,7 +5,7 @@ use mathlib.Core.Logic.{⊎-elim}
 use native.Mathlib.Omega.{arith}
 use borrow.Author.Needs.{needs}
 use lib.ListN.{getD}
-use Rattle.serialize.specs.Digits.{Below}
+use Rattle.serialize.specs.Digits.{DigitsBelow}
 use Rattle.automaton.proofs.Exact.{when-true}
 use Rattle.automaton.proofs.Built.{Holds}
 use Rattle.automaton.proofs.Eights.{Held, held-first, held-skip, held-repeats, held-add, place}
@@ -18,7 +18,7 @@ Inv-loop table at wanted last₀ word₀ b₀ last word b = Held table at b last
 abbrev μ-loop : tie.MeasureT-loop
 μ-loop table at wanted last₀ word₀ b₀ last word b = 256 - b
 
-bytes : (c : tie.After-shared-slice-known Inv-loop μ-loop) → Below 8 (c .before .args .table .now)
+bytes : (c : tie.After-shared-slice-known Inv-loop μ-loop) → DigitsBelow 8 (c .before .args .table .now)
 bytes c i = omega (arith, c .shared-slice-known .given i)
 
 deserialize-u64-requires : tie.Need-deserialize-u64-requires Inv-loop μ-loop

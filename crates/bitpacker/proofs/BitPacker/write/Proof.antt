@@ -8,10 +8,10 @@ use native.Mathlib.Omega.{arith}
 use lib.Bits.{bitOr}
 use lib.Pow.{pow-mono}
 use lib.Seq.{sets}
-use Rattle.serialize.specs.Digits.{digits, leBytes}
+use Rattle.serialize.specs.Digits.{digitsOf, leBytes}
 use Rattle.bitpacker.specs.declared.BitPacker.{BitPacker}
 use Rattle.bitpacker.specs.Packer.{Waiting, joinedTo, wordsOf, leaving, packedWith}
-use Rattle.bitpacker.proofs.Words.{low-digits, or-word, joined-lt, joined-left}
+use Rattle.bitpacker.proofs.Words.{low-digitsOf, or-word, joined-lt, joined-left}
 use Rattle.bitpacker.proofs.BitPacker.write.Statement.{statement}
 use Rattle.bitpacker.proofs.BitPacker.write.Tie as tie
 
@@ -36,7 +36,7 @@ module _ (p : BitPacker) (v n : ℕ) (w : Waiting p) (small : v < 2 ^ n) where
       (omega arith)
 
   kept-bytes : (out : List ℕ) → p .filled + n < 64 → out ≡ sets out (p .written) (leaving p v n)
-  unfolding leaving digits
+  unfolding leaving digitsOf
   kept-bytes out h =
       let e : wordsOf p n ≡ 0 = omega arith in
       rw e refl
@@ -53,7 +53,7 @@ module _ (p : BitPacker) (v n : ℕ) (w : Waiting p) (small : v < 2 ^ n) where
   unfolding leaving
   left-bytes h k =
       let e : wordsOf p n ≡ 1 = omega arith in
-      ap (leBytes 8) (or-word (p .buffer) v (p .filled) (w .low) (w .few)) ∙ low-digits 8 8 (joinedTo p v) ∙ sym (rw e refl)
+      ap (leBytes 8) (or-word (p .buffer) v (p .filled) (w .low) (w .few)) ∙ low-digitsOf 8 8 (joinedTo p v) ∙ sym (rw e refl)
 
 add-total : tie.Need-add-total
 add-total c = search needs

@@ -1,11 +1,11 @@
 -- `block_lines::put::put_line` meets its contract: after each part the output's front is the line up to there.
 use borrow.Author.Needs.{needs}
-use mathlib.Core.Path.{refl, _∙_}
+use mathlib.Core.Path.{_∙_}
 use mathlib.Core.List.{[], _∷_}
-use Prim.Native.Nat.{_+_, _<_}
+use Prim.Native.Nat.{_<_}
 use native.Mathlib.Nat.{zero-add}
 use native.Mathlib.Omega.{arith}
-use lib.ListN.{length, set, length-set}
+use lib.ListN.{length}
 use Rattle.block_lines.specs.Lines.{decimal, lineOf}
 use Rattle.block_lines.proofs.Written.{Wrote, wrote-next, wrote-length, to-start, to-end, to-ordinal, to-separator, parts-line, Reach, reach, separator-reach}
 use Rattle.block_lines.proofs.put.put_line.Statement.{statement}
@@ -48,11 +48,12 @@ wrote-4 c = wrote-next (wrote-3 (c .before .before .before .before)) _ _ _ (c .p
 wrote-5 : (c : tie.After-put-separator) → let a = from-5 c .args in Wrote (a .out .now) (c .put-separator .last .0) (c .put-separator .result) (to-separator (a .id) (a .block) (a .separator .now))
 wrote-5 c = wrote-next (wrote-4 (c .before .before .before .before)) _ _ _ (c .put-separator .ensures)
 
-all : (c : tie.After-put-separator) → let a = from-5 c .args in
-    Wrote (a .out .now) (set (c .put-separator .last .0) (c .put-separator .result) 10) (c .put-separator .result + 1) (lineOf (a .id) (a .block) (a .separator .now))
+all : (c : tie.After-put-end) → let a = from-5 (c .before .before .before .before) .args in
+    Wrote (a .out .now) (c .put-end .last .0) (c .put-end .result) (lineOf (a .id) (a .block) (a .separator .now))
 all c =
-    let a = from-5 c .args in
-    rw (parts-line (a .id) (a .block) (a .separator .now)) at (wrote-next (wrote-5 c) (set (c .put-separator .last .0) (c .put-separator .result) 10) (10 ∷ []) (c .put-separator .result + 1) (refl, refl))
+    let s = c .before .before .before .before in
+    let a = from-5 s .args in
+    rw (parts-line (a .id) (a .block) (a .separator .now)) at (wrote-next (wrote-5 s) (c .put-end .last .0) (10 ∷ []) (c .put-end .result) (c .put-end .ensures))
 
 put-decimal-requires : tie.Need-put-decimal-requires
 put-decimal-requires c κs = search needs
@@ -83,14 +84,11 @@ room c =
     let s = from-5 c in
     omega (arith, wrote-5 c .end, wrote-length (wrote-5 c), separator-reach (s .args .id) (s .args .block) (s .pre .0) (s .pre .1) (s .args .separator .now) (s .pre .2), s .pre .3)
 
-slice-write-out : tie.Need-slice-write-out
-slice-write-out c = room (c .before .before)
-
-add-result : tie.Need-add-result
-add-result c = omega (arith, room (c .before .before))
+put-end-requires : tie.Need-put-end-requires
+put-end-requires c κs = room (c .before .before .before)
 
 same-length : tie.Need-same-length
-same-length c = simp length-set (wrote-length (wrote-5 (c .before .before)))
+same-length c = wrote-length (all (c .before .before))
 
 returns : tie.Need-returns
 returns c = let w = all (c .before .before) in (w .end, w .stored)
@@ -104,7 +102,6 @@ put-line-spec =
     put-number-requires-2
     put-number-requires-3
     put-separator-requires
-    slice-write-out
-    add-result
+    put-end-requires
     same-length
     returns)

@@ -1,46 +1,33 @@
--- `builder::SSTableIndexBuilder::shorten_last_block_key_given_next_key` meets its contract: rows 1, 2 and 6 in their order, then the shortening.
+-- `shorten_last_block_key_given_next_key` meets its contract: rows 1, 2 and 6 in their order, then the shortening.
 use borrow.Author.Needs.{needs}
-use borrow.Author.Tests.{lt-ltb, le-ltb}
-use Prim.Native.Nat.{ℕ, _≤_, _<_}
 use mathlib.Core.Path.{_≡_, sym, _∙_}
-use mathlib.Core.List.{List}
-use mathlib.Core.Bool.{true, false}
+use mathlib.Core.Bool.{false}
 use native.Mathlib.Omega.{arith}
-use lib.ListN.{length}
 use Rattle.keys.proofs.Order.{commonPrefixLen-left}
-use Rattle.builder.specs.Area.{View, viewOf}
-use Rattle.builder.specs.Rows.{areaBad, AreaOk, keyLong, keyBad, shortenNo}
+use Rattle.builder.specs.Rows.{areaBad, AreaOk}
+use Rattle.builder.specs.Area.{viewOf}
 use Rattle.builder.proofs.Views.{area-ok}
-use Rattle.builder.proofs.Numbers.{shorten-refused, shorten-taken}
+use Rattle.builder.proofs.Numbers.{
+  shorten-area,
+  shorten-key,
+  shorten-not-above,
+  shorten-none,
+  shorten-refused,
+  shorten-taken,
+}
 use Rattle.builder.proofs.SSTableIndexBuilder.shorten_last_block_key_given_next_key.Statement.{
   statement,
 }
 use Rattle.builder.proofs.SSTableIndexBuilder.shorten_last_block_key_given_next_key.Tie as tie
 
--- the first row that is hit
-module _ (v : View) (next : List ℕ) where
-  row-one : areaBad v ≡ true → 1 ≡ shortenNo v next
-  unfolding shortenNo
-  row-one e = simp e
-
-  module _ (area : areaBad v ≡ false) where
-    row-two : 1024 < length next → 2 ≡ shortenNo v next
-    unfolding shortenNo keyLong
-    row-two h = simp (area, lt-ltb 1024 (length next) h)
-
-    module _ (short : length next ≤ 1024) where
-      row-six : keyBad v next ≡ true → 6 ≡ shortenNo v next
-      unfolding shortenNo keyLong
-      row-six e = simp (area, le-ltb 1024 (length next) short, e)
-
-      no-row : keyBad v next ≡ false → shortenNo v next ≡ 0
-      unfolding shortenNo keyLong
-      no-row e = simp (area, le-ltb 1024 (length next) short, e)
-
-good : (c : tie.Else1) → let a = c .before .before .before .before .before .before .before .args in areaBad (viewOf (a .self) (a .blocks .now) (a .keys .now)) ≡ false
+good : (c : tie.Else1)
+    → let a = c .before .before .before .before .before .before .before .args in
+    areaBad (viewOf (a .self) (a .blocks .now) (a .keys .now)) ≡ false
 good c = sym (c .before .area-bad .ensures) ∙ c .if1 .left
 
-ok : (c : tie.Else1) → let a = c .before .before .before .before .before .before .before .args in AreaOk (viewOf (a .self) (a .blocks .now) (a .keys .now))
+ok : (c : tie.Else1)
+    → let a = c .before .before .before .before .before .before .before .args in
+    AreaOk (viewOf (a .self) (a .blocks .now) (a .keys .now))
 ok c = area-ok _ (good c)
 
 area-bad-requires : tie.Need-area-bad-requires
@@ -55,7 +42,11 @@ same-length-2 c = search needs
 returns : tie.Need-returns
 returns c =
     let a = c .before .before .before .before .before .before .before .args in
-    shorten-refused (a .self) (a .blocks .now) (a .keys .now) (a .next-key .now) 1 (row-one _ _ (sym (c .before .area-bad .ensures) ∙ c .if1 .taken)) (λ e. omega arith)
+    shorten-refused (a .self) (a .blocks .now) (a .keys .now) (a .next-key .now) 1
+    (shorten-area _ _ (sym (c .before .area-bad .ensures) ∙ c .if1 .taken)) (λ e. omega arith)
+
+key-no-requires : tie.Need-key-no-requires
+key-no-requires c κs = search needs
 
 same-length-3 : tie.Need-same-length-3
 same-length-3 c = search needs
@@ -65,16 +56,17 @@ same-length-4 c = search needs
 
 returns-2 : tie.Need-returns-2
 returns-2 c =
-    let a = c .before .before .before .before .before .before .before .before .args in
-    shorten-refused (a .self) (a .blocks .now) (a .keys .now) (a .next-key .now) 2 (row-two _ _ (good (c .before)) (c .if2 .taken)) (λ e. omega arith)
+    let a = c .before .before .before .before .before .before .before .before .before .args in
+    shorten-refused (a .self) (a .blocks .now) (a .keys .now) (a .next-key .now) (c .before .key-no .result)
+    (shorten-key _ _ (good (c .before .before)) _ (c .before .key-no .ensures) (c .if2 .taken)) (c .if2 .taken)
 
 common-len-requires : tie.Need-common-len-requires
-common-len-requires c κs = ok (c .before .before .before)
+common-len-requires c κs = ok (c .before .before .before .before)
 
 key-bad-behind-requires : tie.Need-key-bad-behind-requires
 key-bad-behind-requires c κs =
     let d = c .before .before in
-    (ok (d .before .before .before .before), d .common-len .ensures)
+    (ok (d .before .before .before .before .before), d .common-len .ensures)
 
 same-length-5 : tie.Need-same-length-5
 same-length-5 c = search needs
@@ -85,17 +77,23 @@ same-length-6 c = search needs
 returns-3 : tie.Need-returns-3
 returns-3 c =
     let d = c .before .before .before .before .before .before .before in
-    let a = d .before .before .before .before .before .before .before .before .args in
+    let a = d .before .before .before .before .before .before .before .before .before .args in
     shorten-refused (a .self) (a .blocks .now) (a .keys .now) (a .next-key .now) 6
-    (row-six _ _ (good (d .before)) (d .if2 .left) (sym (c .before .key-bad-behind .ensures) ∙ c .if3 .taken)) (λ e. omega arith)
+    (shorten-not-above _ _ (good (d .before .before)) _ (d .before .key-no .ensures) (d .if2 .left)
+    (sym (c .before .key-bad-behind .ensures) ∙ c .if3 .taken))
+    (λ e. omega arith)
 
 shorten-last-requires : tie.Need-shorten-last-requires
 shorten-last-requires c κs =
     let f = c .before .before .before .before .before .before in
     let d = f .before .before .before in
-    let a = d .before .before .before .before .before .before .before .before .args in (
-      ok (d .before),
-      omega (arith, f .common-len .ensures, commonPrefixLen-left (viewOf (a .self) (a .blocks .now) (a .keys .now) .lastKey) (a .next-key .now)),
+    let a = d .before .before .before .before .before .before .before .before .before .args in (
+      ok (d .before .before),
+      omega (
+        arith,
+        f .common-len .ensures,
+        commonPrefixLen-left (viewOf (a .self) (a .blocks .now) (a .keys .now) .lastKey) (a .next-key .now),
+      ),
     )
 
 same-length-7 : tie.Need-same-length-7
@@ -110,10 +108,12 @@ returns-4 c =
     let e = c .before .before .before .before .before .before .before in
     let f = e .before .before .before .before in
     let d = f .before .before .before in
-    let a = d .before .before .before .before .before .before .before .before .args in
+    let a = d .before .before .before .before .before .before .before .before .before .args in
     let left = call .ensures (a .next-key .now) (f .common-len .ensures) in
-    let zero = no-row _ _ (good (d .before)) (d .if2 .left) (sym (e .before .key-bad-behind .ensures) ∙ e .if3 .left) in
-    shorten-taken (a .self) (a .blocks .now) (a .keys .now) (a .next-key .now) _ _ zero (left .0) (left .1)
+    let none =
+    shorten-none _ _ (good (d .before .before)) _ (d .before .key-no .ensures) (d .if2 .left)
+    (sym (e .before .key-bad-behind .ensures) ∙ e .if3 .left) in
+    (shorten-taken (a .self) (a .blocks .now) (a .keys .now) (a .next-key .now) _ _ none (left .0) (left .1), tt)
 
 pub shorten-last-block-key-given-next-key-spec : {M : Type 1} → statement M
 shorten-last-block-key-given-next-key-spec =
@@ -123,6 +123,7 @@ shorten-last-block-key-given-next-key-spec =
     same-length
     same-length-2
     returns
+    key-no-requires
     same-length-3
     same-length-4
     returns-2

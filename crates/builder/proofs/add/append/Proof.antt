@@ -1,4 +1,4 @@
--- `builder::add::append` meets its contract: five stores are one run, and a copy into the end of the key area is a run behind the last key.
+-- `builder::add::append` meets its contract: five stores are one run, and a copy into the end of the key area is a run after the last key.
 use borrow.Author.Needs.{needs}
 use Prim.Native.Nat.{ℕ, _+_, _-_, _≤_}
 use mathlib.Core.Path.{_≡_, _∙_}
@@ -90,9 +90,12 @@ same-length-2 c = search needs
 
 returns : tie.Need-returns
 returns c =
-    let a = c .before .before .before .before .before .before .before .before .before .before .before .args in
-    let k = c .before .before .before .before .before .next-key .ensures in
-    (rw (← k) (simp towards-suc), rw (← k) (copied (a .keys .now) (a .key .now) (c .before .before .before .before .before .next-key .result) _ (omega (arith, c .before .before .before .before .before .before .before .before .before .before .before .pre .2)) (c .before .before .copy .ensures .1)))
+    let s = c .before .before .before .before .before .before .before .before .before .before .before in
+    let next = c .before .before .before .before .before .next-key in (
+      rw (← next .ensures) (simp towards-suc),
+      rw (← next .ensures)
+          (copied (s .args .keys .now) (s .args .key .now) (next .result) _ (omega (arith, s .pre .2)) (c .before .before .copy .ensures .1)),
+    )
 
 pub append-spec : {M : Type 1} → statement M
 append-spec =

@@ -4,39 +4,39 @@ use Prim.Native.Nat.{_+_, _≤_}
 use native.Mathlib.Nat.{add-sub-cancel-left}
 use native.Mathlib.Omega.{arith}
 use lib.ListN.{length}
-use Rattle.builder.specs.Area.{areaKeyOffset, areaKeyLen, areaView}
-use Rattle.builder.proofs.Row8.{next-one}
+use Rattle.builder.specs.Area.{areaPlace, areaView}
+use Rattle.builder.proofs.Row8.{place-one}
 use Rattle.builder.proofs.finish.rule_bad.Statement.{statement}
 use Rattle.builder.proofs.finish.rule_bad.Tie as tie
 
 -- key i ends inside the key area
-inside : (c : tie.Start) → let a = c .args in areaKeyOffset (a .blocks .now) (a .i) + areaKeyLen (a .blocks .now) (a .i) ≤ length (a .keys .now)
-unfolding areaView
-inside c = omega (arith, c .pre .1 .within, next-one (c .args .blocks .now) (c .args .keys .now) (c .args .i))
+inside : (c : tie.Start)
+    → let p = areaPlace (c .args .blocks .now) (c .args .i) in p .offset + p .len ≤ length (c .args .keys .now)
+inside c = place-one (c .args .blocks .now) (c .args .keys .now) (c .args .i) (c .pre .1) .within
 
 mul-at : tie.Need-mul-at
 unfolding areaView
 mul-at c = search needs
 
-mul-t8 : tie.Need-mul-t8
+mul-t9 : tie.Need-mul-t9
 unfolding areaView
-mul-t8 c = search needs
+mul-t9 c = search needs
 
-shared-slice-read-t10 : tie.Need-shared-slice-read-t10
+shared-slice-read-t11 : tie.Need-shared-slice-read-t11
 unfolding areaView
-shared-slice-read-t10 c = search needs
+shared-slice-read-t11 c = search needs
 
-add-t11 : tie.Need-add-t11
+add-t12 : tie.Need-add-t12
 unfolding areaView
-add-t11 c = search needs
+add-t12 c = search needs
 
-mul-t12 : tie.Need-mul-t12
+mul-t13 : tie.Need-mul-t13
 unfolding areaView
-mul-t12 c = search needs
+mul-t13 c = search needs
 
-shared-slice-read-t14 : tie.Need-shared-slice-read-t14
+shared-slice-read-t15 : tie.Need-shared-slice-read-t15
 unfolding areaView
-shared-slice-read-t14 c = search needs
+shared-slice-read-t15 c = search needs
 
 add-from : tie.Need-add-from
 unfolding areaView
@@ -77,31 +77,34 @@ shared-slice-read-end c = search needs
 add-end-2 : tie.Need-add-end-2
 add-end-2 c = omega (arith, inside (c .before .before .before .before .before .before .before))
 
-sub-block-no : tie.Need-sub-block-no
-sub-block-no c = search needs
+sub-key : tie.Need-sub-key
+sub-key c = search needs
 
-part-block-no-start : tie.Need-part-block-no-start
-part-block-no-start c = search needs
+part-key-start : tie.Need-part-key-start
+part-key-start c = search needs
 
-part-block-no-end : tie.Need-part-block-no-end
-part-block-no-end c = omega (arith, inside (c .before .before .before .before .before .before .before))
+part-key-end : tie.Need-part-key-end
+part-key-end c = omega (arith, inside (c .before .before .before .before .before .before .before))
+
+new-requires : tie.Need-new-requires
+new-requires c κs = search needs
 
 block-no-requires : tie.Need-block-no-requires
-block-no-requires c κs = search needs
+block-no-requires c κs = rw (c .new .ensures) (c .before .before .before .before .before .before .before .before .before .pre .0)
 
 returns : tie.Need-returns
-returns c = simp (c .block-no .ensures, add-sub-cancel-left)
+returns c = simp (c .block-no .ensures, c .before .new .ensures, add-sub-cancel-left)
 
 pub rule-bad-spec : {M : Type 1} → statement M
 rule-bad-spec =
     tie.close
     (tie.spec
     mul-at
-    mul-t8
-    shared-slice-read-t10
-    add-t11
-    mul-t12
-    shared-slice-read-t14
+    mul-t9
+    shared-slice-read-t11
+    add-t12
+    mul-t13
+    shared-slice-read-t15
     add-from
     mul-from
     shared-slice-read-from
@@ -112,8 +115,9 @@ rule-bad-spec =
     mul-end
     shared-slice-read-end
     add-end-2
-    sub-block-no
-    part-block-no-start
-    part-block-no-end
+    sub-key
+    part-key-start
+    part-key-end
+    new-requires
     block-no-requires
     returns)

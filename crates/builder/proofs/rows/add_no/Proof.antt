@@ -9,10 +9,14 @@ use Rattle.builder.proofs.Numbers.{add-area, add-block, add-room, add-n
 use Rattle.builder.proofs.rows.add_no.Statement.{statement}
 use Rattle.builder.proofs.rows.add_no.Tie as tie
 
-good : (c : tie.Else1) → let a = c .before .before .before .before .before .args in areaBad (viewOf (a .builder) (a .blocks .now) (a .keys .now)) ≡ false
+good : (c : tie.Else1)
+    → let a = c .before .before .before .before .before .args in
+    areaBad (viewOf (a .builder) (a .blocks .now) (a .keys .now)) ≡ false
 good c = sym (c .before .area-bad .ensures) ∙ c .if1 .left
 
-ok : (c : tie.Else1) → let a = c .before .before .before .before .before .args in AreaOk (viewOf (a .builder) (a .blocks .now) (a .keys .now))
+ok : (c : tie.Else1)
+    → let a = c .before .before .before .before .before .args in
+    AreaOk (viewOf (a .builder) (a .blocks .now) (a .keys .now))
 ok c = area-ok _ (good c)
 
 area-bad-requires : tie.Need-area-bad-requires
@@ -32,11 +36,13 @@ room-bad-requires c κs = ok (c .before .before)
 
 returns-3 : tie.Need-returns-3
 returns-3 c =
-    add-room _ _ _ (good (c .before .before .before .before)) _ (c .before .before .before .block-no .ensures) (c .before .before .if2 .left) (sym (c .before .room-bad .ensures) ∙ c .if3 .taken)
+    add-room _ _ _ (good (c .before .before .before .before)) _ (c .before .before .before .block-no .ensures)
+    (c .before .before .if2 .left) (sym (c .before .room-bad .ensures) ∙ c .if3 .taken)
 
 returns-4 : tie.Need-returns-4
 returns-4 c =
-    add-none _ _ _ (good (c .before .before .before .before)) _ (c .before .before .before .block-no .ensures) (c .before .before .if2 .left) (sym (c .before .room-bad .ensures) ∙ c .if3 .left)
+    add-none _ _ _ (good (c .before .before .before .before)) _ (c .before .before .before .block-no .ensures)
+    (c .before .before .if2 .left) (sym (c .before .room-bad .ensures) ∙ c .if3 .left)
 
 pub add-no-spec : {M : Type 1} → statement M
 add-no-spec =

@@ -1,4 +1,4 @@
--- `builder::rows::key_bad_behind` meets its contract: row 6 asks only behind a block.
+-- `builder::rows::key_bad_behind` meets its contract: row 6 asks only after a block.
 use borrow.Author.Needs.{needs}
 use borrow.Author.Tests.{lt-ltb, le-ltb}
 use mathlib.Core.Path.{_≡_, sym, ap, _∙_}
@@ -7,13 +7,15 @@ use mathlib.Core.Bool.{Bool, not}
 use Prim.Native.Nat.{ℕ}
 use native.Mathlib.Omega.{arith}
 use Rattle.keys.specs.Order.{less, commonPrefixLen}
-use Rattle.builder.specs.Area.{View, areaView, viewOf}
+use Rattle.builder.specs.View.{View}
 use Rattle.builder.specs.Rows.{keyBad}
+use Rattle.builder.specs.Area.{areaView, viewOf}
 use Rattle.builder.proofs.rows.key_bad_behind.Statement.{statement}
 use Rattle.builder.proofs.rows.key_bad_behind.Tie as tie
 
 -- with a block before, whose key is `last`
-behind-block : (v : View) (key last : List ℕ) (t : Bool) → (v .n ≡ 0 → ⊥) → last ≡ v .lastKey → t ≡ less last key → not t ≡ keyBad v key
+behind-block : (v : View) (key last : List ℕ) (t : Bool) → (v .n ≡ 0 → ⊥)
+    → last ≡ v .lastKey → t ≡ less last key → not t ≡ keyBad v key
 unfolding keyBad
 behind-block v key last t h w e = rw (lt-ltb 0 (v .n) (omega arith), e, w)
 
@@ -29,7 +31,9 @@ lt-behind-requires c κs =
     let s = c .before .before .before .before .before .before in
     s .pre .1 ∙ ap (λ (last : List ℕ). commonPrefixLen last (s .args .key .now)) (sym (c .last-key .ensures))
 
-some : (c : tie.Else1) → let a = c .before .before .before .before .before .args in viewOf (a .builder) (a .blocks .now) (a .keys .now) .n ≡ 0 → ⊥
+some : (c : tie.Else1)
+    → let a = c .before .before .before .before .before .args in
+    viewOf (a .builder) (a .blocks .now) (a .keys .now) .n ≡ 0 → ⊥
 unfolding areaView
 some c = c .if1 .left
 

@@ -1,12 +1,22 @@
 -- `builder::rows::last_key` meets its contract: the part of the key area is the last separator.
 use borrow.Author.Needs.{needs}
 use borrow.Author.Tests.{eq-eqb}
+use Prim.Native.Nat.{_+_, _-_, _≤_}
 use native.Mathlib.Nat.{add-sub-cancel-left}
 use native.Mathlib.Omega.{arith}
-use Rattle.builder.specs.Area.{areaView}
-use Rattle.builder.proofs.Views.{next-some, key-some}
+use lib.ListN.{length}
+use Rattle.builder.specs.Area.{areaPlace, areaView}
+use Rattle.builder.proofs.Views.{last-place, key-some}
 use Rattle.builder.proofs.rows.last_key.Statement.{statement}
 use Rattle.builder.proofs.rows.last_key.Tie as tie
+
+-- the last key ends inside the key area
+inside : (c : tie.Else1)
+    → let p = areaPlace (c .before .args .blocks .now) (c .before .args .builder .n - 1) in
+    p .offset + p .len ≤ length (c .before .args .keys .now)
+inside c =
+    let a = c .before .args in
+    last-place (a .builder .n) (a .blocks .now) (a .keys .now) (c .before .pre) (c .if1 .left) .within
 
 slice-aggregate-result : tie.Need-slice-aggregate-result
 slice-aggregate-result c = search needs
@@ -47,11 +57,7 @@ unfolding areaView
 shared-slice-read-end c = search needs
 
 add-end-2 : tie.Need-add-end-2
-unfolding areaView
-add-end-2 c =
-    let b = c .before .before in
-    let a = b .before .args in
-    omega (arith, next-some (a .builder .n) (a .blocks .now) (a .keys .now) (b .if1 .left))
+add-end-2 c = omega (arith, inside (c .before .before))
 
 sub-result : tie.Need-sub-result
 sub-result c = search needs
@@ -60,11 +66,7 @@ part-result-start : tie.Need-part-result-start
 part-result-start c = search needs
 
 part-result-end : tie.Need-part-result-end
-unfolding areaView
-part-result-end c =
-    let b = c .before .before in
-    let a = b .before .args in
-    omega (arith, next-some (a .builder .n) (a .blocks .now) (a .keys .now) (b .if1 .left))
+part-result-end c = omega (arith, inside (c .before .before))
 
 returns-2 : tie.Need-returns-2
 returns-2 c =

@@ -1,11 +1,21 @@
 -- `builder::rows::next_key` meets its contract: the last key ends within the key area, so the sum doesn't wrap.
 use borrow.Author.Needs.{needs}
+use Prim.Native.Nat.{_+_, _-_, _≤_}
 use mathlib.Core.Path.{sym}
 use native.Mathlib.Omega.{arith}
-use Rattle.builder.specs.Area.{areaView}
-use Rattle.builder.proofs.Views.{next-none, next-some}
+use lib.ListN.{length}
+use Rattle.builder.specs.Area.{areaPlace, areaView}
+use Rattle.builder.proofs.Views.{next-none, next-some, last-place}
 use Rattle.builder.proofs.rows.next_key.Statement.{statement}
 use Rattle.builder.proofs.rows.next_key.Tie as tie
+
+-- the last key ends inside the key area
+inside : (c : tie.Else1)
+    → let p = areaPlace (c .before .args .blocks .now) (c .before .args .builder .n - 1) in
+    p .offset + p .len ≤ length (c .before .args .keys .now)
+inside c =
+    let a = c .before .args in
+    last-place (a .builder .n) (a .blocks .now) (a .keys .now) (c .before .pre) (c .if1 .left) .within
 
 returns : tie.Need-returns
 returns c =
@@ -44,11 +54,7 @@ unfolding areaView
 shared-slice-read-result-2 c = search needs
 
 add-result-3 : tie.Need-add-result-3
-unfolding areaView
-add-result-3 c =
-    let b = c .before .before in
-    let a = b .before .args in
-    omega (arith, next-some (a .builder .n) (a .blocks .now) (a .keys .now) (b .if1 .left))
+add-result-3 c = omega (arith, inside (c .before .before))
 
 returns-2 : tie.Need-returns-2
 returns-2 c =

@@ -1,12 +1,22 @@
 -- `builder::rows::room_bad` meets its contract.
 use borrow.Author.Needs.{needs}
 use borrow.Author.Tests.{lt-ltb, eq-eqb, ne-eqb}
+use Prim.Native.Nat.{_≤_}
 use native.Mathlib.Omega.{arith}
-use Rattle.builder.specs.Area.{areaView}
+use lib.ListN.{length}
 use Rattle.builder.specs.Rows.{roomBad}
-use Rattle.builder.proofs.Views.{room-keys}
+use Rattle.builder.specs.Area.{areaView}
+use Rattle.builder.proofs.Views.{next-within, room-keys}
 use Rattle.builder.proofs.rows.room_bad.Statement.{statement}
 use Rattle.builder.proofs.rows.room_bad.Tie as tie
+
+-- the next key starts inside the key area
+within : (c : tie.After-next-key)
+    → c .next-key .result ≤ length (c .before .before .before .before .before .before .args .keys .now)
+within c =
+    let s = c .before .before .before .before .before .before in
+    let a = s .args in
+    omega (arith, c .next-key .ensures, next-within (a .builder .n) (a .blocks .now) (a .keys .now) (s .pre))
 
 returns : tie.Need-returns
 unfolding roomBad areaView
@@ -28,15 +38,15 @@ next-key-requires : tie.Need-next-key-requires
 next-key-requires c κs = search needs
 
 sub-result : tie.Need-sub-result
-unfolding areaView
-sub-result c = search needs
+sub-result c = omega (arith, within c)
 
 returns-3 : tie.Need-returns-3
 unfolding areaView
 returns-3 c =
     let s = c .before .before .before .before .before .before in
     let a = s .args in
-    room-keys (areaView (a .builder .n) (a .blocks .now) (a .keys .now)) (a .key .now) (c .next-key .result) (c .before .before .if1 .left) (c .before .if2 .left) (c .next-key .ensures) (omega arith)
+    room-keys (areaView (a .builder .n) (a .blocks .now) (a .keys .now)) (a .key .now) (c .next-key .result)
+    (c .before .before .if1 .left) (c .before .if2 .left) (c .next-key .ensures) (within c)
 
 pub room-bad-spec : {M : Type 1} → statement M
 room-bad-spec =

@@ -1,4 +1,4 @@
--- `builder::shorten::shorten_last` meets its contract: the last key lies within the key area.
+-- `builder::shorten::shorten_last` meets its contract: the last separator lies within the key area.
 use borrow.Author.Needs.{needs}
 use borrow.Author.Tests.{eq-eqb, ne-eqb}
 use Prim.Native.Nat.{ℕ, _-_, _≤_}
@@ -7,17 +7,18 @@ use mathlib.Core.List.{List}
 use native.Mathlib.Omega.{arith}
 use lib.ListN.{length, set, drop, length-take}
 use Rattle.keys.specs.Order.{commonPrefixLen}
-use Rattle.builder.specs.Area.{areaView, areaKey, areaKeyOffset, areaKeyLen}
+use Rattle.builder.specs.Area.{areaPlace, areaKey, areaView}
 use Rattle.builder.specs.Calls.{shortBlocks, shortKeys}
-use Rattle.builder.proofs.Views.{next-some, key-some}
+use Rattle.builder.proofs.Views.{last-place, key-some}
 use Rattle.builder.proofs.shorten.shorten_last.Statement.{statement}
 use Rattle.builder.proofs.shorten.shorten_last.Tie as tie
 
 -- the common prefix isn't longer than the last key
-within-key : (n : ℕ) (B K : List ℕ) (common : ℕ) → (n ≡ 0 → ⊥) → common ≤ length (areaView n B K .lastKey) → common ≤ areaKeyLen B (n - 1)
+within-key : (n : ℕ) (B K : List ℕ) (common : ℕ) → (n ≡ 0 → ⊥) → common ≤ length (areaView n B K .lastKey)
+    → common ≤ areaPlace B (n - 1) .len
 within-key n B K common some h =
     let g : common ≤ length (areaKey B K (n - 1)) = rw (key-some n B K some) at h in
-    omega (arith, length-take (areaKeyLen B (n - 1)) (drop (areaKeyOffset B (n - 1)) K))
+    omega (arith, length-take (areaPlace B (n - 1) .len) (drop (areaPlace B (n - 1) .offset) K))
 
 returns : tie.Need-returns
 unfolding shortBlocks shortKeys
@@ -59,8 +60,9 @@ unfolding areaView
 shorter-str-behind-requires c κs =
     let b = c .before .before .before in
     let s = b .before .before .before in
-    let a = s .args in (
-      omega (arith, next-some (a .builder .n) (a .blocks .now) (a .keys .now) (b .if1 .left)),
+    let a = s .args in
+    let k = last-place (a .builder .n) (a .blocks .now) (a .keys .now) (s .pre .0) (b .if1 .left) in (
+      k .within,
       within-key (a .builder .n) (a .blocks .now) (a .keys .now) (a .common) (b .if1 .left) (s .pre .1),
     )
 

@@ -33,7 +33,7 @@ common-prefix-len-requires c κs = search needs
 returns : tie.Need-returns
 returns c =
     let a = c .before .before .before .before .before .before .args in
-    (λ z. (refl, common-none (a .table .now) 0 (a .start-key .now) (a .end-key .now) (c .before .common-prefix-len .ensures) (omega arith)), λ h. absurd (omega arith))
+    record { none = λ z. (refl, common-none (a .table .now) 0 (a .start-key .now) (a .end-key .now) (c .before .common-prefix-len .ensures) (omega arith)); some = λ h. absurd (omega arith) }
 
 accept-prefix-requires : tie.Need-accept-prefix-requires
 accept-prefix-requires c κs = (c .before .before .before .before .before .before .pre .0, omega (arith, end-longer c))
@@ -54,13 +54,14 @@ returns-2 c =
     let a = n .before .before .before .before .before .args in
     let e = n .common-prefix-len .ensures in
     let end = a .end-key .now in
-    let ha : length (a .start-key .now) ≤ n .common-prefix-len .result = omega (arith, c .before .before .before .before .if2 .taken) in (
-      λ z. (w .ensures .0 z .0, prefix-none (a .start-key .now) end e ha (w .ensures .0 z .1)),
-      λ h. (
-        omega (arith, w .ensures .1 h .0),
-        found-map (λ v. (take (n .common-prefix-len .result) end ++ (0 ∷ [])) ≼ v) (λ v. v ≼ end) (λ v. a .start-key .now ≺ v) (λ v. v ≼ end) refl (prefix-found (a .start-key .now) end e ha) (w .ensures .1 h .1),
-      ),
-    )
+    let ha : length (a .start-key .now) ≤ n .common-prefix-len .result = omega (arith, c .before .before .before .before .if2 .taken) in
+    record {
+      none = λ z. (w .ensures .none z .0, prefix-none (a .start-key .now) end e ha (w .ensures .none z .1));
+      some = λ h. (
+        omega (arith, w .ensures .some h .0),
+        found-map (λ v. (take (n .common-prefix-len .result) end ++ (0 ∷ [])) ≼ v) (λ v. v ≼ end) (λ v. a .start-key .now ≺ v) (λ v. v ≼ end) refl (prefix-found (a .start-key .now) end e ha) (w .ensures .some h .1),
+      );
+    }
 
 shared-slice-read-start-range : tie.Need-shared-slice-read-start-range
 shared-slice-read-start-range c = start-longer (c .before)
@@ -73,7 +74,7 @@ returns-3 c =
     let part = c .before .before .before in
     let n = part .before .before .before in
     let a = n .before .before .before .before .before .args in
-    (λ z. (refl, common-above (a .table .now) 0 (a .start-key .now) (a .end-key .now) (n .common-prefix-len .ensures) (start-longer part) (end-longer (part .before .before)) (search needs)), λ h. absurd (omega arith))
+    record { none = λ z. (refl, common-above (a .table .now) 0 (a .start-key .now) (a .end-key .now) (n .common-prefix-len .ensures) (start-longer part) (end-longer (part .before .before)) (search needs)); some = λ h. absurd (omega arith) }
 
 accept-requires : tie.Need-accept-requires
 accept-requires c κs = search needs
@@ -106,14 +107,15 @@ returns-4 c =
     let n = part .before .before .before in
     let a = n .before .before .before .before .before .args in
     let start = a .start-key .now in
-    let f = w .ensures .1 (search needs) in (
-      λ z. absurd (omega arith),
-      λ h. (
+    let f = w .ensures .some (search needs) in
+    record {
+      none = λ z. absurd (omega arith);
+      some = λ h. (
         omega (arith, f .0),
         found-map (λ v. start ≺ v) (λ v. v ≺ (take (n .common-prefix-len .result + 1) start ++ (256 ∷ []))) (λ v. start ≺ v) (λ v. v ≼ a .end-key .now) refl
             (start-found start (a .end-key .now) (n .common-prefix-len .ensures) (start-longer part) (end-longer (part .before .before)) (els .if3 .left)) (f .1),
-      ),
-    )
+      );
+    }
 
 cast-write-range-end : tie.Need-cast-write-range-end
 cast-write-range-end c = omega (arith, c .before .before .before .before .before .before .before .before .shared-slice-known4 .given (c .before .before .before .before .before .before .before .before .before .before .before .before .common-prefix-len .result))
@@ -146,14 +148,15 @@ returns-5 c =
     let end = a .end-key .now in
     let k = n .common-prefix-len .result in
     let e = n .common-prefix-len .ensures in
-    let none = v .write-range-start .ensures .0 (c .before .before .before .before .if4 .left) in (
-      λ z. (w .ensures .0 z .0 ∙ none .0, both-none start end e (start-longer part) (end-longer (part .before .before)) (els .if3 .left) (none .1) (w .ensures .0 z .1)),
-      λ h. (
-        omega (arith, w .ensures .1 h .0),
+    let none = v .write-range-start .ensures .none (c .before .before .before .before .if4 .left) in
+    record {
+      none = λ z. (w .ensures .none z .0 ∙ none .0, both-none start end e (start-longer part) (end-longer (part .before .before)) (els .if3 .left) (none .1) (w .ensures .none z .1));
+      some = λ h. (
+        omega (arith, w .ensures .some h .0),
         found-map (λ x. (take k end ++ ((getD start k 0 + 1) ∷ [])) ≼ x) (λ x. x ≼ end) (λ x. start ≺ x) (λ x. x ≼ end) (none .0)
-            (end-found start end e (start-longer part) (end-longer (part .before .before)) (els .if3 .left)) (w .ensures .1 h .1),
-      ),
-    )
+            (end-found start end e (start-longer part) (end-longer (part .before .before)) (els .if3 .left)) (w .ensures .some h .1),
+      );
+    }
 
 pub write-between-spec : {M : Type 1} → statement M
 write-between-spec =

@@ -8,11 +8,12 @@ use lib.ListN.{length, getD, set, take, length-set}
 use lib.Seq.{sets, length-take-le}
 use Rattle.automaton.specs.Table.{next}
 use Rattle.keys.specs.Order.{_≺_, _≼_}
-use Rattle.automaton.specs.Words.{run, Word}
+use Rattle.automaton.specs.Words.{run, Accepts}
 use Rattle.automaton.specs.Live.{LiveByte}
 use Rattle.automaton.proofs.Strings.{bytes-of}
 use Rattle.example.proofs.Bounds.{leaving-byte}
-use Rattle.example.proofs.Found.{Found, found-leaving}
+use Rattle.example.specs.Walk.{FromByte, UnderByte, InFront}
+use Rattle.example.proofs.Found.{found-leaving}
 use Rattle.example.proofs.walk.write_leaving.Statement.{statement}
 use Rattle.example.proofs.walk.write_leaving.Tie as tie
 
@@ -23,14 +24,15 @@ returns : tie.Need-returns
 returns c =
     let s = c .before .before .before .before .before in
     let a = s .args in
-    let p = take (a .len) (a .key .now) in (
-      λ z. (
+    let p = take (a .len) (a .key .now) in
+    record {
+      none = λ z. (
         refl,
         λ m. c .before .first-byte .ensures .1 (search needs)
-            (subst (λ (q : ℕ). LiveByte (a .table .now) q (a .lo) (a .hi)) (sym (s .pre .0 .3)) (leaving-byte 0 p (m .word) (a .lo) (a .hi) (m .hits) (m .good .0) (m .good .1))),
-      ),
-      λ h. absurd (omega arith),
-    )
+            (subst (λ (q : ℕ). LiveByte (a .table .now) q (a .lo) (a .hi)) (sym (s .pre .0 .3)) (leaving-byte 0 p (m .string) (a .lo) (a .hi) (m .hits) (m .good .0) (m .good .1))),
+      );
+      some = λ h. absurd (omega arith);
+    }
 
 slice-aggregate-copy : tie.Need-slice-aggregate-copy
 slice-aggregate-copy c =
@@ -85,16 +87,17 @@ returns-2 c =
     let byte = acc .before .before .before .before .before .before .before .first-byte in
     let below = acc .before .before .before .before .before .before .if1 .left in
     let to = acc .accept .result in
-    let e : to ≡ next t (run t 0 (take (a .len) (a .key .now))) (byte .result) = acc .accept .ensures .0 ∙ ap (λ (q : ℕ). next t q (byte .result)) (s .pre .0 .3) in (
-      λ z. absurd (omega (arith, tail .ensures .0)),
-      λ h. (
+    let e : to ≡ next t (run t 0 (take (a .len) (a .key .now))) (byte .result) = acc .accept .ensures .0 ∙ ap (λ (q : ℕ). next t q (byte .result)) (s .pre .0 .3) in
+    record {
+      none = λ z. absurd (omega (arith, tail .ensures .0));
+      some = λ h. (
         omega (arith, tail .ensures .0, near-state acc, s .pre .1),
-        subst (λ (r : ℕ). Found t (λ w. (take (a .len) (a .key .now) ++ (a .lo ∷ [])) ≼ w) (λ w. w ≺ (take (a .len) (a .key .now) ++ (a .hi ∷ []))) (a .out .now) (tail .last .1 .1 .1 .0) r) {x = a .len + 1 + getD d to 0} (sym (tail .ensures .0))
+        subst (λ (r : ℕ). InFront t (FromByte (a .key .now) (a .len) (a .lo)) (UnderByte (a .key .now) (a .len) (a .hi)) (a .out .now) (tail .last .1 .1 .1 .0) r) {x = a .len + 1 + getD d to 0} (sym (tail .ensures .0))
             (found-leaving t (a .key .now) (a .out .now) (copy .last .1 .0) (a .len) (s .pre .1 .0) (omega (arith, s .pre .1)) (bytes-of (a .key .now) (λ i. omega (arith, acc .before .before .before .before .before .before .before .before .before .shared-slice-known2 .given i))) (copy .ensures .1)
             (byte .result) (a .lo) (a .hi) (getD d to 0) (byte .ensures .0 below .0) below (omega (arith, s .pre .1 .2))
-            (subst (λ (q : ℕ). Word t q (λ v. (length v ≡ getD d to 0) × (tail .last .1 .1 .1 .0 ≡ sets (set (copy .last .1 .0) (a .len) (byte .result)) (a .len + 1) v))) e (tail .ensures .1))),
-      ),
-    )
+            (subst (λ (q : ℕ). Accepts t q (λ v. (length v ≡ getD d to 0) × (tail .last .1 .1 .1 .0 ≡ sets (set (copy .last .1 .0) (a .len) (byte .result)) (a .len + 1) v))) e (tail .ensures .1))),
+      );
+    }
 
 pub write-leaving-spec : {M : Type 1} → statement M
 write-leaving-spec =

@@ -11,7 +11,8 @@ use Rattle.automaton.specs.Table.{flag, next}
 use Rattle.automaton.specs.Words.{run}
 use Rattle.automaton.proofs.Strings.{bytes-of, bytes-take}
 use Rattle.example.proofs.Shortest.{at-zero, zero-at}
-use Rattle.example.proofs.Found.{Found, found-map, found-front}
+use Rattle.example.specs.Walk.{FromByte, InFront}
+use Rattle.example.proofs.Found.{found-map, found-front}
 use Rattle.example.proofs.Walks.{Upto, upto-start, upto-leaving, upto-front, upto-turn, upto-end, next-state}
 use Rattle.example.proofs.walk.write_range_end.Statement.{statement}
 use Rattle.example.proofs.walk.write_range_end.Tie as tie
@@ -50,14 +51,15 @@ returns c =
     let l = c .before .before .before .before .before .before .before in
     let a = l .before .before .before .before .args in
     let p = take (l .loop .i) (a .key .now) in
-    let f = w .ensures .1 (search needs) in (
-      λ z. absurd (omega arith),
-      λ h. (
+    let f = w .ensures .some (search needs) in
+    record {
+      none = λ z. absurd (omega arith);
+      some = λ h. (
         f .0,
         found-map (λ v. (p ++ (l .loop .low ∷ [])) ≼ v) (λ v. v ≺ (p ++ (getD (a .key .now) (l .loop .i) 0 ∷ []))) (λ v. (take (a .n) (a .key .now) ++ (a .lo ∷ [])) ≼ v) (λ v. v ≼ a .key .now)
             (l .loop .inv .1) (upto-leaving (l .loop .inv .0) (search needs)) (f .1),
-      ),
-    )
+      );
+    }
 
 accept-requires : tie.Need-accept-requires Inv-loop μ-loop
 accept-requires c κs =
@@ -104,16 +106,17 @@ returns-2 c =
     let bytes = bytes-of key (λ i. omega (arith, l .before .before .shared-slice-known2 .given i)) in
     let ends : flag t (run t 0 (take n key)) ≡ 1 = subst (λ (q : ℕ). flag t q ≡ 1) (acc .accept .ensures .0 ∙ next-state (l .loop .inv .0) (test .loop-test .taken)) (at-zero (s .pre .0 .1) (acc .accept .result) (acc .accept .ensures .1) (c .before .before .before .before .before .if2 .taken)) in
     let (lower, upper) = upto-front (l .loop .inv .0) (test .loop-test .taken) in
-    let L : List ℕ → Type 0 = λ v. (take (a .n) key ++ (a .lo ∷ [])) ≼ v in
-    let U : List ℕ → Type 0 = λ v. v ≼ key in (
-      λ z. absurd (omega arith),
-      λ h. (
+    let L : List ℕ → Type 0 = FromByte key (a .n) (a .lo) in
+    let U : List ℕ → Type 0 = λ v. v ≼ key in
+    record {
+      none = λ z. absurd (omega arith);
+      some = λ h. (
         omega (arith, l .loop .inv .0 .place),
-        subst (Found t L U (a .out .now) (copy .last .1 .0)) (sym r)
-            (found-map L U L U (w .ensures .0 (acc .before .if1 .left) .0 ∙ l .loop .inv .1) (λ v x y. (x, y))
+        subst (InFront t L U (a .out .now) (copy .last .1 .0)) (sym r)
+            (found-map L U L U (w .ensures .none (acc .before .if1 .left) .0 ∙ l .loop .inv .1) (λ v x y. (x, y))
             (found-front t key (w .last .1 .1 .1 .1 .1 .1 .1 .0) (copy .last .1 .0) n (omega (arith, test .loop-test .taken)) (omega (arith, w .kept .1 .1 .1 .1 .1 .1 .1 .0, ap length (l .loop .inv .1), s .pre .1)) bytes (copy .ensures .1) {L = L} {U = U} (record { bytes = bytes-take n key bytes; ends = ends }) lower upper)),
-      ),
-    )
+      );
+    }
 
 loop-less : tie.Need-loop-less Inv-loop μ-loop
 loop-less c = search needs
@@ -130,8 +133,8 @@ loop-again c =
     let q = next (a .table .now) (l .loop .at) (getD (a .key .now) (l .loop .i) 0) in
     let kb : getD (a .key .now) (l .loop .i) 0 < 256 = omega (arith, acc .before .before .before .before .before .before .shared-slice-known3 .given (l .loop .i)) in
     let dead : flag (a .table .now) q ≡ 1 → ⊥ = λ e. c .if2 .left (ap (λ (x : ℕ). getD (a .distances .now) x 0) (acc .accept .ensures .0) ∙ zero-at (s .pre .0 .1) q (s .pre .0 .0 .closed (l .loop .at) _ (l .loop .inv .0 .small) kb) e) in (
-      subst (Upto (a .table .now) (a .key .now) (take (a .n) (a .key .now) ++ (a .lo ∷ [])) (l .loop .i + 1) 0) (sym (acc .accept .ensures .0)) (upto-turn (l .loop .inv .0) (test .loop-test .taken) (s .pre .0 .0) kb (w .ensures .0 z .1) dead),
-      w .ensures .0 z .0 ∙ l .loop .inv .1,
+      subst (Upto (a .table .now) (a .key .now) (take (a .n) (a .key .now) ++ (a .lo ∷ [])) (l .loop .i + 1) 0) (sym (acc .accept .ensures .0)) (upto-turn (l .loop .inv .0) (test .loop-test .taken) (s .pre .0 .0) kb (w .ensures .none z .1) dead),
+      w .ensures .none z .0 ∙ l .loop .inv .1,
     )
 
 same-length-3 : tie.Need-same-length-3 Inv-loop μ-loop
@@ -140,7 +143,7 @@ same-length-3 c = ap length (c .before .loop .inv .1)
 returns-3 : tie.Need-returns-3 Inv-loop μ-loop
 returns-3 c =
     let l = c .before .loop in
-    (λ z. (l .inv .1, upto-end (l .inv .0) (search needs)), λ h. absurd (omega arith))
+    record { none = λ z. (l .inv .1, upto-end (l .inv .0) (search needs)); some = λ h. absurd (omega arith) }
 
 pub write-range-end-spec : {M : Type 1} → statement M
 write-range-end-spec =

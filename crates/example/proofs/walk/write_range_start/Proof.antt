@@ -46,14 +46,15 @@ returns c =
     let l = c .before .before .before .before .before .before .before in
     let a = l .before .before .before .before .args in
     let p = take (l .loop .i) (a .key .now) in
-    let f = w .ensures .1 (search needs) in (
-      λ z. absurd (omega arith),
-      λ h. (
+    let f = w .ensures .some (search needs) in
+    record {
+      none = λ z. absurd (omega arith);
+      some = λ h. (
         f .0,
         found-map (λ v. (p ++ ((getD (a .key .now) (l .loop .i) 0 + 1) ∷ [])) ≼ v) (λ v. v ≺ (p ++ (256 ∷ []))) (λ v. a .key .now ≺ v) (λ v. v ≺ (take (a .n) (a .key .now) ++ (256 ∷ [])))
             (l .loop .inv .1) (over-leaving (l .loop .inv .0) (search needs)) (f .1),
-      ),
-    )
+      );
+    }
 
 accept-requires : tie.Need-accept-requires Inv-loop μ-loop
 accept-requires c κs =
@@ -74,8 +75,8 @@ loop-again c =
     let a = s .args in
     let z = c .before .if1 .left in
     let kb : getD (a .key .now) (l .loop .i) 0 < 256 = omega (arith, c .before .before .before .before .before .before .shared-slice-known3 .given (l .loop .i)) in (
-      subst (λ (q : ℕ). Over (a .table .now) (a .key .now) (a .n) (l .loop .i + 1) q) (sym (c .accept .ensures .0)) (over-turn (l .loop .inv .0) (c .before .before .before .before .before .before .before .loop-test .taken) (s .pre .0 .0) kb (w .ensures .0 z .1)),
-      w .ensures .0 z .0 ∙ l .loop .inv .1,
+      subst (λ (q : ℕ). Over (a .table .now) (a .key .now) (a .n) (l .loop .i + 1) q) (sym (c .accept .ensures .0)) (over-turn (l .loop .inv .0) (c .before .before .before .before .before .before .before .loop-test .taken) (s .pre .0 .0) kb (w .ensures .none z .1)),
+      w .ensures .none z .0 ∙ l .loop .inv .1,
     )
 
 write-leaving-requires-2 : tie.Need-write-leaving-requires-2 Inv-loop μ-loop
@@ -92,14 +93,15 @@ returns-2 c =
     let w = c .before .before .write-leaving2 in
     let l = c .before .before .before .before .before in
     let a = l .before .before .before .before .args in
-    let p = take (l .loop .i) (a .key .now) in (
-      λ z. (w .ensures .0 z .0 ∙ l .loop .inv .1, over-end (l .loop .inv .0) (search needs) (w .ensures .0 z .1)),
-      λ h. (
-        w .ensures .1 h .0,
+    let p = take (l .loop .i) (a .key .now) in
+    record {
+      none = λ z. (w .ensures .none z .0 ∙ l .loop .inv .1, over-end (l .loop .inv .0) (search needs) (w .ensures .none z .1));
+      some = λ h. (
+        w .ensures .some h .0,
         found-map (λ v. (p ++ (0 ∷ [])) ≼ v) (λ v. v ≺ (p ++ (256 ∷ []))) (λ v. a .key .now ≺ v) (λ v. v ≺ (take (a .n) (a .key .now) ++ (256 ∷ [])))
-            (l .loop .inv .1) (over-last (l .loop .inv .0) (search needs)) (w .ensures .1 h .1),
-      ),
-    )
+            (l .loop .inv .1) (over-last (l .loop .inv .0) (search needs)) (w .ensures .some h .1),
+      );
+    }
 
 pub write-range-start-spec : {M : Type 1} → statement M
 write-range-start-spec =

@@ -7,7 +7,7 @@ use native.Mathlib.Omega.{arith}
 use lib.ListN.{length, length-append}
 use lib.Seq.{sets}
 use Rattle.serialize.specs.Digits.{leBytes}
-use Rattle.serialize.proofs.Digits.{length-digits}
+use Rattle.serialize.proofs.Digits.{length-digitsOf}
 use Rattle.serialize.proofs.Stores.{sets-append}
 use Rattle.group.specs.Meta.{metaBytes}
 use Rattle.group.proofs.meta.serialize.Statement.{statement}
@@ -19,13 +19,13 @@ record Wrote (d : List ℕ) (at : ℕ) (w e : List ℕ) (n : ℕ) : Type 0 where
   long : length w ≡ n
 
 first : {d e : List ℕ} (at w v : ℕ) → e ≡ sets d at (leBytes w v) → Wrote d at (leBytes w v) e w
-first at w v e = record { same = e; long = length-digits 8 w v }
+first at w v e = record { same = e; long = length-digitsOf 8 w v }
 
 -- a store behind those before it
 next : {d p e f : List ℕ} {at n : ℕ} → Wrote d at p e n → (w v : ℕ) → f ≡ sets e (at + n) (leBytes w v) → Wrote d at (p ++ leBytes w v) f (n + w)
 next {d} {p} {e} {f} {at} k w v q = record {
   same = q ∙ rw (k .same, ← (k .long)) (sets-append d p (leBytes w v) at);
-  long = simp (length-append, length-digits) (ap (λ n. n + w) (k .long));
+  long = simp (length-append, length-digitsOf) (ap (λ n. n + w) (k .long));
 }
 
 serialize-u64-requires : tie.Need-serialize-u64-requires

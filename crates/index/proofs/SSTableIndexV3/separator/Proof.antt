@@ -6,6 +6,7 @@ use native.Mathlib.Nat.{add-sub-cancel-left}
 use native.Mathlib.Omega.{arith}
 use lib.ListN.{length}
 use Rattle.index.specs.declared.Place.the-variants.{Part}
+use Rattle.index.specs.Opening.{groupOf}
 use Rattle.index.specs.Lookups.{placeDef}
 use Rattle.index.proofs.Places.{place-inside}
 use Rattle.index.proofs.SSTableIndexV3.separator.Statement.{statement}
@@ -27,13 +28,13 @@ returns : tie.Need-returns
 returns c = let t = c .before in rw (sym (t .before .before .separator-place .ensures) ∙ t .enum-told .given .1)
 
 -- the place is a part
-placed : (c : tie.After-offset) → placeDef 128 (c .before .before .before .before .args .self) (c .before .before .before .before .args .«data» .now) (c .before .before .before .before .args .block-id) ≡ Part (c .offset .given .0 .0) (c .offset .given .0 .1 .0)
+placed : (c : tie.After-offset) → placeDef (c .before .before .before .before .args .self) (c .before .before .before .before .args .«data» .now) (c .before .before .before .before .args .block-id) ≡ Part (c .offset .given .0 .0) (c .offset .given .0 .1 .0)
 placed c = sym (c .before .before .separator-place .ensures) ∙ c .offset .given .1
 
 inside : (c : tie.After-offset) → c .offset .given .0 .0 + c .offset .given .0 .1 .0 ≤ length (c .before .before .before .before .args .«data» .now)
 inside c =
     let a = c .before .before .before .before .args in
-    place-inside 128 (a .self) (a .«data» .now) (a .block-id) _ _ (placed c)
+    place-inside (groupOf (a .self)) (a .self) (a .«data» .now) (a .block-id) _ _ (placed c)
 
 add-end : tie.Need-add-end
 add-end c = omega (arith, inside (c .before))

@@ -8,8 +8,8 @@ use native.Mathlib.Omega.{arith}
 use lib.ListN.{length}
 use Rattle.store.specs.Check.{storeNo}
 use Rattle.directory.proofs.Rules.{DirectoryOk}
-use Rattle.index.specs.Parts.{directoryPart, recordsPart, addrsPart, countIn}
-use Rattle.index.specs.Opening.{recordsBad, openNo}
+use Rattle.index.specs.Parts.{directoryPart, groupRecordsPart, addrsPart, countIn}
+use Rattle.index.specs.Opening.{groupRecordsBad, openNo}
 use Rattle.index.specs.declared.Loaded.the-variants.{Opened}
 use Rattle.index.proofs.OpeningRows.{FooterOk, footer-ok, directory-ok, count-front, records-ok, addrs-inside, metas-part, addrs-part, metas-enough, opened-is, open-records, open-store, open-refused, open-taken}
 use Rattle.index.proofs.load.load_store.Statement.{statement}
@@ -51,7 +51,7 @@ deserialize-u64-requires : tie.Need-deserialize-u64-requires
 deserialize-u64-requires c κs = omega (arith, footer (c .before .before .before .before) .inside)
 
 -- row 14 isn't hit
-good : (c : tie.Else1) → let a = c .before .before .before .before .args in recordsBad (a .group-len) (a .«data» .now) ≡ false
+good : (c : tie.Else1) → let a = c .before .before .before .before .args in groupRecordsBad (a .group-len) (a .«data» .now) ≡ false
 good c = sym (c .before .records-bad .ensures) ∙ c .if1 .left
 
 inside : (c : tie.After-deserialize-u64) → let a = c .before .before .before .before .before .args in
@@ -117,7 +117,7 @@ number c =
     c .store-no .ensures
     ∙ ap₂ (λ (r l : List ℕ). storeNo L r l (n .deserialize-u32 .result)) (metas-part L f d m (footer s) (s .pre .2) records (read .deserialize-u64 .ensures))
     (addrs-part L f d m (footer s) (s .pre .2) records (read .deserialize-u64 .ensures))
-    ∙ ap (storeNo L (recordsPart f) (addrsPart f)) (count n)
+    ∙ ap (storeNo L (groupRecordsPart f) (addrsPart f)) (count n)
     ∙ open-store L f (s .pre .1) (s .pre .3) (good (read .before))
 
 returns-2 : tie.Need-returns-2

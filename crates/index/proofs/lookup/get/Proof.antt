@@ -1,6 +1,6 @@
 -- `index::lookup::get` meets its contract: the store's own lookup, over the parts that the record names.
 use borrow.Author.Needs.{needs}
-use Rattle.index.proofs.OpenFacts.{opens-facts}
+use Rattle.index.proofs.OpenFacts.{opens-facts-by}
 use Rattle.index.proofs.Answered.{enough-records, got-as}
 use Rattle.index.proofs.lookup.get.Statement.{statement}
 use Rattle.index.proofs.lookup.get.Tie as tie
@@ -21,7 +21,7 @@ returns c =
     let s = c .before .before .before .before in
     let a = s .args in
     λ o.
-    got-as (a .group-len) (a .«data» .now) (a .opened) (opens-facts (a .group-len) (a .«data» .now) (a .opened) (s .pre .0) o) _ _
+    got-as (a .group-len) (a .«data» .now) (a .opened) (opens-facts-by (a .group-len) (a .«data» .now) (a .opened) (s .pre .0) o) _ _
     (c .before .before .part .ensures) (c .before .part2 .ensures) (a .id) _ (s .pre .2) (c .block .ensures)
 
 pub get-spec : {M : Type 1} → statement M

@@ -1,73 +1,103 @@
--- `index::lookup::locate_with_ord` meets its contract: what the store finds, read through the table's numbers.
+-- `index::lookup::locate_with_ord` meets its contract: the record's own test, then what the store finds.
 use borrow.Author.Needs.{needs}
-use mathlib.Core.Path.{refl}
+use mathlib.Core.Path.{refl, sym, _∙_}
 use mathlib.Core.Logic.{inl, inr}
+use lib.ListN.{length}
 use native.Mathlib.Omega.{arith}
-use Rattle.store.specs.Read.{LocatedIn, LocatedAs}
+use Rattle.store.specs.Read.{OrdFoundIn, OrdFoundAs}
 use Rattle.index.specs.Parts.{blockIn}
-use Rattle.index.specs.Opening.{Opens}
-use Rattle.index.proofs.OpenFacts.{opens-facts}
-use Rattle.index.proofs.Answered.{enough-records, located-as}
+use Rattle.index.specs.Opening.{OpensBy}
+use Rattle.index.specs.Lookups.{OpenedFits}
+use Rattle.index.proofs.Fits.{opened-fits, bad-unfit}
+use Rattle.index.proofs.OpenFacts.{opens-facts-by}
+use Rattle.index.proofs.Answered.{bad-unopened, enough-records, located-as, ord-refused, ord-below, refuses-above}
 use Rattle.index.proofs.lookup.locate_with_ord.Statement.{statement}
 use Rattle.index.proofs.lookup.locate_with_ord.Tie as tie
 
+-- the record passed its test
+fits : (c : tie.Else1) → let a = c .before .before .before .args in OpenedFits (a .group-len) (a .opened) (length (a .«data» .now))
+fits c = opened-fits _ _ _ (sym (c .before .opened-bad .ensures) ∙ c .if1 .left)
+
+opened-bad-requires : tie.Need-opened-bad-requires
+opened-bad-requires c κs = search needs
+
+returns : tie.Need-returns
+returns c =
+    let s = c .before .before .before in (
+      record {
+        allowed = inr (inr refl, refl, refl);
+        unfit = λ e. refl;
+        exact = λ o. absurd (bad-unopened _ _ _ (s .pre) (sym (c .before .opened-bad .ensures) ∙ c .if1 .taken) o);
+      },
+      omega arith,
+    )
+
 part-requires : tie.Need-part-requires
-part-requires c κs = search needs
+part-requires c κs = fits c .metas
 
 part-requires-2 : tie.Need-part-requires-2
-part-requires-2 c κs = search needs
+part-requires-2 c κs = fits (c .before) .addrs
 
 binary-search-ord-requires : tie.Need-binary-search-ord-requires
 binary-search-ord-requires c κs =
-    let s = c .before .before .before in
-    (s .pre .0, enough-records (s .args .group-len) (s .args .«data» .now) (s .args .opened) _ (s .pre .1) (c .before .part .ensures))
+    let e = c .before .before in
+    let s = e .before .before .before in
+    (s .pre, enough-records (s .args .group-len) (s .args .«data» .now) (s .args .opened) _ (fits e) (c .before .part .ensures))
 
 -- with one opening the store finds what the definition says
-located : (c : tie.After-binary-search-ord) → Opens (c .before .before .before .before .args .group-len) (c .before .before .before .before .args .«data» .now) (c .before .before .before .before .args .opened)
-    → LocatedAs (blockIn (c .before .before .before .before .args .group-len) (c .before .before .before .before .args .«data» .now)) (c .before .before .before .before .args .opened .n) (c .before .before .before .before .args .ord) (c .binary-search-ord .result)
+located : (c : tie.After-binary-search-ord) → let a = c .before .before .before .before .before .before .args in
+    OpensBy (a .group-len) (a .«data» .now) (a .opened)
+    → OrdFoundAs (blockIn (a .group-len) (a .«data» .now)) (a .opened .n) (a .ord) (c .binary-search-ord .result)
 located c o =
-    let s = c .before .before .before .before in
+    let s = c .before .before .before .before .before .before in
     let a = s .args in
-    located-as (a .group-len) (a .«data» .now) (a .opened) (opens-facts (a .group-len) (a .«data» .now) (a .opened) (s .pre .0) o) _ _
+    located-as (a .group-len) (a .«data» .now) (a .opened) (opens-facts-by (a .group-len) (a .«data» .now) (a .opened) (s .pre) o) _ _
     (c .before .before .part .ensures) (c .before .part2 .ensures) (a .ord) _ (c .binary-search-ord .ensures .1)
 
-enum-known-id : tie.Need-enum-known-id
-enum-known-id c = search needs
+enum-known-found : tie.Need-enum-known-found
+enum-known-found c = search needs
 
-enum-told : tie.Need-enum-told
-enum-told c = search needs
-
-enum-told-2 : tie.Need-enum-told-2
-enum-told-2 c = search needs
-
-returns : tie.Need-returns
-unfolding LocatedIn LocatedAs
-returns c =
-    let at = c .before in
-    let b = at .before .before in
-    let in-range = rw (at .id .given .1) at (b .binary-search-ord .ensures .0) in (
-      inl (refl, omega (arith, in-range .0), in-range .1),
-      λ o. let it = rw (at .id .given .1) at (located b o) in inl (refl, it .0, it .1),
-    )
+ord-refusal-requires : tie.Need-ord-refusal-requires
+ord-refusal-requires c κs = search needs
 
 returns-2 : tie.Need-returns-2
-unfolding LocatedAs
-returns-2 c = (inr (inl refl, refl, refl), λ o. inr (refl, refl, refl, rw (c .enum-told .given .1) at (located (c .before .before) o)))
+returns-2 c =
+    let other = c .before .match .keys2 in
+    let b = c .before .before in
+    let r = b .binary-search-ord .result in
+    let refused = ord-refused r _ (c .ord-refusal .ensures) other in (
+      record {
+        allowed = inr (refused, refl, refl);
+        unfit = λ e. absurd (bad-unfit _ _ _ e (fits (b .before .before .before)));
+        exact = λ o. let it = ord-below _ _ _ r _ (c .ord-refusal .ensures) other (located b o) in inr (it .0, refl, refl, it .1);
+      },
+      refuses-above 18 _ (omega arith) refused,
+    )
 
 returns-3 : tie.Need-returns-3
-unfolding LocatedAs
-returns-3 c = (inr (inr refl, refl, refl), λ o. absurd (rw (c .enum-told2 .given .1) at (located (c .before .before) o)))
+unfolding OrdFoundIn OrdFoundAs
+returns-3 c =
+    let at = c .before .found .given .1 in
+    let b = c .before .before .before in
+    let in-range = rw at at (b .binary-search-ord .ensures .0) in (
+      record {
+        allowed = inl (refl, omega (arith, in-range .0), in-range .1);
+        unfit = λ e. absurd (bad-unfit _ _ _ e (fits (b .before .before .before)));
+        exact = λ o. let it = rw at at (located b o) in inl (refl, it .0, it .1);
+      },
+      search needs,
+    )
 
 pub locate-with-ord-spec : {M : Type 1} → statement M
 locate-with-ord-spec =
     tie.close
     (tie.spec
+    opened-bad-requires
+    returns
     part-requires
     part-requires-2
     binary-search-ord-requires
-    enum-known-id
-    enum-told
-    enum-told-2
-    returns
+    enum-known-found
+    ord-refusal-requires
     returns-2
     returns-3)

@@ -1,4 +1,4 @@
--- `index::lookup::opened_bad` meets its contract: a test that is hit is a fact that the record lacks, and with the others passed the last decides.
+-- `index::lookup::opened_bad` meets its contract: a test that is hit is a fact that the record lacks, and else the last decides.
 use borrow.Author.Needs.{needs}
 use mathlib.Core.Path.{_≡_, sym, _∙_, ap}
 use mathlib.Core.Bool.{Bool, true, false, true≢false}

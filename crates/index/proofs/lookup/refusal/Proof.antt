@@ -1,8 +1,5 @@
 -- `index::lookup::refusal` meets its contract: an arm for each answer.
 use borrow.Author.Needs.{needs}
-use mathlib.Core.Path.{refl}
-use mathlib.Core.Logic.{inl, inr}
-use Rattle.index.proofs.Answered.{above-outside, at-not}
 use Rattle.index.proofs.lookup.refusal.Statement.{statement}
 use Rattle.index.proofs.lookup.refusal.Tie as tie
 
@@ -16,13 +13,13 @@ enum-told-3 : tie.Need-enum-told-3
 enum-told-3 c = search needs
 
 returns : tie.Need-returns
-returns c = (λ e. absurd (at-not _ _ (c .enum-told .given .1) (inl e)), λ e. absurd (at-not _ _ (c .enum-told .given .1) (inr e)))
+returns c = rw (c .enum-told .given .1)
 
 returns-2 : tie.Need-returns-2
-returns-2 c = (λ e. refl, λ e. absurd (above-outside _ (c .enum-told2 .given .1) e))
+returns-2 c = rw (c .enum-told2 .given .1)
 
 returns-3 : tie.Need-returns-3
-returns-3 c = (λ e. absurd (above-outside _ e (c .enum-told3 .given .1)), λ e. refl)
+returns-3 c = rw (c .enum-told3 .given .1)
 
 pub refusal-spec : {M : Type 1} → statement M
 refusal-spec = tie.close (tie.spec enum-told enum-told-2 enum-told-3 returns returns-2 returns-3)

@@ -2,7 +2,7 @@
 use mathlib.Core.Path.{_∙_}
 use native.Mathlib.Omega.{arith}
 use Rattle.replay.proofs.Items.{CallThere, call-there}
-use Rattle.replay.specs.Steps.{leaves}
+use Rattle.replay.specs.Steps.{stateOf}
 use Rattle.replay.proofs.Turns.{is-add, is-shorten}
 use borrow.Author.Needs.{needs}
 use Rattle.replay.proofs.calls.make_call.Statement.{statement}
@@ -48,8 +48,8 @@ returns c =
     let k = d .before .before .before .before in
     let t = k .before in
     let s = t .before .before .before .before .before .before .before in (
-      c .read-answer .ensures .0 (d .add-block .last .1 .0) (d .add-block .last .1 .1 .0) ∙ d .add-block .ensures
-          ∙ is-add _ _ (leaves (s .args .last) (s .args .blocks .now) (s .args .keys .now)) (t .if1 .taken) _ _ (k .string .ensures) (d .before .block .ensures),
+      c .read-answer .ensures .0 (d .add-block .last .1 .0) (d .add-block .last .1 .1 .0) ∙ d .add-block .ensures .0
+          ∙ is-add _ _ (stateOf (s .args .last) (s .args .blocks .now) (s .args .keys .now)) (t .if1 .taken) _ _ (k .string .ensures) (d .before .block .ensures),
       c .read-answer .ensures .1 ∙ rw (t .before .before .call-len .ensures),
     )
 
@@ -79,8 +79,8 @@ returns-2 c =
     let t = k .before in
     let s = t .before .before .before .before .before .before .before in (
       c .read-answer2 .ensures .0 (d .shorten-last-block-key-given-next-key .last .1 .0) (d .shorten-last-block-key-given-next-key .last .1 .1 .0)
-          ∙ d .shorten-last-block-key-given-next-key .ensures
-          ∙ is-shorten _ _ (leaves (s .args .last) (s .args .blocks .now) (s .args .keys .now)) (t .if1 .left) _ (k .string2 .ensures),
+          ∙ d .shorten-last-block-key-given-next-key .ensures .0
+          ∙ is-shorten _ _ (stateOf (s .args .last) (s .args .blocks .now) (s .args .keys .now)) (t .if1 .left) _ (k .string2 .ensures),
       c .read-answer2 .ensures .1 ∙ rw (t .before .before .call-len .ensures),
     )
 

@@ -3,7 +3,7 @@ use Prim.Native.Nat.{_*_}
 use mathlib.Core.Path.{ap, _∙_}
 use native.Mathlib.Omega.{arith}
 use lib.Seq.{sets}
-use Rattle.replay.specs.Asked.{Given}
+use Rattle.replay.specs.Asked.{OpenedAs}
 use Rattle.replay.proofs.Asking.{given-number, opened-asks}
 use borrow.Author.Needs.{needs}
 use Rattle.replay.proofs.questions.open_list.Statement.{statement}
@@ -40,13 +40,13 @@ same-length : tie.Need-same-length
 same-length c = search needs
 
 returns : tie.Need-returns
-returns c = λ k es x.
+returns c = λ k S es x.
     let o = c .before .before .before .before .before .before .before .before .before .before .before in
     let a = c .before .before .before .before .before .before .before .before .before .before .before .before .before .before .before .args in
-    let g : Given k es (a .«data» .now) (o .load .result) = rw (o .load .ensures) x in
-    opened-asks k es _ (a .first) _ (a .answers .now) _ _ (c .before .before .before .before .before .before .before .before .before .before .load-no .ensures ∙ given-number k es (a .«data» .now) (o .load .result) g)
+    let g : OpenedAs k S es (a .«data» .now) (o .load .result) = rw (o .load .ensures) x in
+    opened-asks k S es _ (a .first) _ (a .answers .now) _ _ (c .before .before .before .before .before .before .before .before .before .before .load-no .ensures ∙ given-number k S es (a .«data» .now) (o .load .result) g)
     (c .before .before .before .before .before .before .before .write .ensures ∙ ap (sets (a .answers .now) (5 * a .first)) (c .before .before .before .before .before .before .before .before .before .number .ensures))
-    (rw (c .before .before .before .before .question-count .ensures .0) at (c .before .before .ask-questions .ensures k es g))
+    (rw (c .before .before .before .before .question-count .ensures .0) at (c .before .before .ask-questions .ensures k S es g))
 
 pub open-list-spec : {M : Type 1} → statement M
 open-list-spec =

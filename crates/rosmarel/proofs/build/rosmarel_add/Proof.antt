@@ -1,12 +1,7 @@
--- `rosmarel::build::rosmarel_add` meets its contract: what the builder's add leaves, part by part.
+-- `rosmarel::build::rosmarel_add` meets its contract: what the builder's add answers and leaves.
 use borrow.Author.Needs.{needs}
-use mathlib.Core.Path.{_≡_, ap}
-use Rattle.builder.specs.Calls.{After}
 use Rattle.rosmarel.proofs.build.rosmarel_add.Statement.{statement}
 use Rattle.rosmarel.proofs.build.rosmarel_add.Tie as tie
-
-parts : {a d : After} → a ≡ d → (a .no ≡ d .no) × ((a .builder .n ≡ d .builder .n) × ((a .blocks ≡ d .blocks) × (a .keys ≡ d .keys)))
-parts e = (ap (λ (a : After). a .no) e, (ap (λ (a : After). a .builder .n) e, (ap (λ (a : After). a .blocks) e, ap (λ (a : After). a .keys) e)))
 
 add-block-requires : tie.Need-add-block-requires
 add-block-requires c κs = search needs
@@ -24,7 +19,7 @@ same-length-2 : tie.Need-same-length-2
 same-length-2 c = search needs
 
 returns : tie.Need-returns
-returns c = parts (rw (c .before .next .given .1) at (c .before .before .before .before .before .before .before .add-block .ensures))
+returns c = rw (c .before .next .given .1) at (c .before .before .before .before .before .before .before .add-block .ensures .0)
 
 same-length-3 : tie.Need-same-length-3
 same-length-3 c = search needs
@@ -33,7 +28,7 @@ same-length-4 : tie.Need-same-length-4
 same-length-4 c = search needs
 
 returns-2 : tie.Need-returns-2
-returns-2 c = parts (rw (c .before .no .given .1) at (c .before .before .before .before .before .before .before .add-block .ensures))
+returns-2 c = rw (c .before .no .given .1) at (c .before .before .before .before .before .before .before .add-block .ensures .0)
 
 pub rosmarel-add-spec : {M : Type 1} → statement M
 rosmarel-add-spec =

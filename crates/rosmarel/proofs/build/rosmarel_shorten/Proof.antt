@@ -1,12 +1,8 @@
--- `rosmarel::build::rosmarel_shorten` meets its contract: what the builder's shorten leaves, part by part.
+-- `rosmarel::build::rosmarel_shorten` meets its contract: what the builder's shorten answers and leaves.
 use borrow.Author.Needs.{needs}
-use mathlib.Core.Path.{_≡_, ap}
-use Rattle.builder.specs.Calls.{After}
+use Rattle.rosmarel.proofs.Kept.{shorten-with}
 use Rattle.rosmarel.proofs.build.rosmarel_shorten.Statement.{statement}
 use Rattle.rosmarel.proofs.build.rosmarel_shorten.Tie as tie
-
-parts : {a d : After} → a ≡ d → (a .no ≡ d .no) × (a .blocks ≡ d .blocks) × (a .keys ≡ d .keys)
-parts e = (ap (λ (a : After). a .no) e, ap (λ (a : After). a .blocks) e, ap (λ (a : After). a .keys) e)
 
 shorten-last-block-key-given-next-key-requires :
     tie.Need-shorten-last-block-key-given-next-key-requires
@@ -25,7 +21,7 @@ same-length-2 : tie.Need-same-length-2
 same-length-2 c = search needs
 
 returns : tie.Need-returns
-returns c = parts (rw (c .enum-told .given .1) at (c .before .before .before .before .before .before .shorten-last-block-key-given-next-key .ensures))
+returns c = shorten-with _ _ _ _ _ _ _ _ (rw (c .enum-told .given .1) at (c .before .before .before .before .before .before .shorten-last-block-key-given-next-key .ensures .0))
 
 same-length-3 : tie.Need-same-length-3
 same-length-3 c = search needs
@@ -34,7 +30,7 @@ same-length-4 : tie.Need-same-length-4
 same-length-4 c = search needs
 
 returns-2 : tie.Need-returns-2
-returns-2 c = parts (rw (c .before .no .given .1) at (c .before .before .before .before .before .before .before .shorten-last-block-key-given-next-key .ensures))
+returns-2 c = shorten-with _ _ _ _ _ _ _ _ (rw (c .before .no .given .1) at (c .before .before .before .before .before .before .before .shorten-last-block-key-given-next-key .ensures .0))
 
 pub rosmarel-shorten-spec : {M : Type 1} → statement M
 rosmarel-shorten-spec =

@@ -18,12 +18,12 @@ enum-known-no c = search needs
 returns : tie.Need-returns
 returns c =
     let g = c .before .before .before in
-    rw (g .before .opened-at .ensures, c .before .found .given .1) at (g .get-block-with-key .ensures)
+    rw (g .before .opened-at .ensures, c .before .found .given .1) at (g .get-block-with-key .ensures .0)
 
 returns-2 : tie.Need-returns-2
 returns-2 c =
     let g = c .before .before .before in
-    rw (g .before .opened-at .ensures, c .before .no .given .1) at (g .get-block-with-key .ensures)
+    rw (g .before .opened-at .ensures, c .before .no .given .1) at (g .get-block-with-key .ensures .0)
 
 pub rosmarel-get-block-with-key-spec : {M : Type 1} → statement M
 rosmarel-get-block-with-key-spec =

@@ -1,7 +1,7 @@
 -- `rosmarel::pattern::rosmarel_can_block_match` meets its contract: the answer is 1 for true, 0 for false and for a refusal.
 use borrow.Author.Needs.{needs}
-use mathlib.Core.Path.{sym, _∙_}
-use Rattle.rosmarel.proofs.Question.{taken, refused}
+use native.Mathlib.Omega.{arith}
+use Rattle.rosmarel.proofs.Question.{byte-back, byte-le}
 use Rattle.rosmarel.proofs.pattern.rosmarel_can_block_match.Statement.{statement}
 use Rattle.rosmarel.proofs.pattern.rosmarel_can_block_match.Tie as tie
 
@@ -20,12 +20,12 @@ enum-known-no c = search needs
 returns : tie.Need-returns
 returns c =
     let e = rw (c .before .can .given .1) at (c .before .before .before .can-block-match-automaton .ensures) in
-    (e .0, taken (c .before .can .given .0 .0) (e .1 (sym (e .0))))
+    (rw (byte-back (c .before .can .given .0 .0)) (e .0), byte-le (c .before .can .given .0 .0))
 
 returns-2 : tie.Need-returns-2
 returns-2 c =
     let e = rw (c .before .no .given .1) at (c .before .before .before .can-block-match-automaton .ensures) in
-    (e .0, refused (c .before .no .given .0 .0) (λ z. e .1 (sym (e .0) ∙ z)))
+    (e .0, omega arith)
 
 pub rosmarel-can-block-match-spec : {M : Type 1} → statement M
 rosmarel-can-block-match-spec =

@@ -16,13 +16,13 @@ same-length : tie.Need-same-length
 same-length c = search needs
 
 returns : tie.Need-returns
-returns c = rw (c .before .long .given .1) at (c .before .before .before .before .before .example .ensures)
+returns c = rw (c .before .long .given .1) at (c .before .before .before .before .before .example .ensures .0)
 
 same-length-2 : tie.Need-same-length-2
 same-length-2 c = search needs
 
 returns-2 : tie.Need-returns-2
-returns-2 c = rw (c .before .no .given .1) at (c .before .before .before .before .before .example .ensures)
+returns-2 c = rw (c .before .no .given .1) at (c .before .before .before .before .before .example .ensures .0)
 
 pub rosmarel-example-spec : {M : Type 1} → statement M
 rosmarel-example-spec =

@@ -21,7 +21,7 @@ same-length c = search needs
 returns : tie.Need-returns
 returns c =
     let g = c .before .before .before .before .before in
-    rw (g .before .before .opened-at .ensures, c .before .ones .given .1) at (g .get-block-for-automaton .ensures)
+    rw (g .before .before .opened-at .ensures, c .before .ones .given .1) at (g .get-block-for-automaton .ensures .0)
 
 same-length-2 : tie.Need-same-length-2
 same-length-2 c = search needs
@@ -29,7 +29,7 @@ same-length-2 c = search needs
 returns-2 : tie.Need-returns-2
 returns-2 c =
     let g = c .before .before .before .before .before in
-    rw (g .before .before .opened-at .ensures, c .before .no .given .1) at (g .get-block-for-automaton .ensures)
+    rw (g .before .before .opened-at .ensures, c .before .no .given .1) at (g .get-block-for-automaton .ensures .0)
 
 pub rosmarel-list-spec : {M : Type 1} → statement M
 rosmarel-list-spec =

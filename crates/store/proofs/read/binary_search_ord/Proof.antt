@@ -15,7 +15,7 @@ use Rattle.group.specs.Facts.{Readable}
 use Rattle.group.proofs.Legal.{numbers-ok, numbers-good}
 use Rattle.group.proofs.Reading.{GroupOk}
 use Rattle.store.specs.Store.{groupCount}
-use Rattle.store.specs.Read.{groupMeta, groupLen, storeBlock, metaBad, StoreOk, Last, LocatedIn, LocatedAs}
+use Rattle.store.specs.Read.{groupMeta, groupLen, storeBlock, metaBad, StoreOk, Last, OrdFoundIn, OrdFoundAs}
 use Rattle.store.proofs.Groups.{group-count-le, group-first-lt}
 use Rattle.store.proofs.Lookup.{groups-some, block-of-group, first-of-group, group-kept, part-readable, bad-is, part-is, block-is, last-found}
 use Rattle.store.proofs.read.binary_search_ord.Statement.{statement}
@@ -74,13 +74,13 @@ tested c =
     (a .group-len) (a .n) _ _ (c .before .blocks-in .ensures) (c .meta-bad .ensures)
 
 returns : tie.Need-returns
-unfolding LocatedIn LocatedAs
+unfolding OrdFoundIn OrdFoundAs
 returns c =
     let b = c .before .before .before .before in
     (tt, λ ok. true≢false (sym (c .if1 .taken) ∙ tested (c .before) ∙ ok .groups (b .bisect-groups .result) (there b)))
 
 returns-2 : tie.Need-returns-2
-unfolding LocatedIn LocatedAs
+unfolding OrdFoundIn OrdFoundAs
 returns-2 c =
     let b = c .before .before .before .before .before .before in
     let s = b .before .before .before .before in
@@ -148,7 +148,7 @@ read c =
     ∙ sym (block-of-group (s .args .group-len) (s .args .metas .now) (s .args .addrs .now) (s .pre .0 .some) g (f .bisect-for-ord .result) (omega (arith, inner f)))
 
 returns-3 : tie.Need-returns-3
-unfolding LocatedIn LocatedAs
+unfolding OrdFoundIn OrdFoundAs
 returns-3 c =
     let d = c .before .before in (
       tt,
@@ -162,7 +162,7 @@ add-t13 : tie.Need-add-t13
 add-t13 c = omega (arith, inside (c .before .before .before .before), c .before .before .before .before .before .before .before .before .before .before .before .before .before .before .before .before .pre)
 
 returns-4 : tie.Need-returns-4
-unfolding LocatedIn LocatedAs
+unfolding OrdFoundIn OrdFoundAs
 returns-4 c =
     let d = c .before .before in
     let f = d .before .before in

@@ -7,7 +7,7 @@ use native.Mathlib.Omega.{arith}
 use lib.ListN.{length, getD, drop}
 use lib.Seq.{sets}
 use Rattle.store_slice.specs.Records.{numbersOf}
-use Rattle.store_slice.specs.Numbers.{recordOf}
+use Rattle.store_slice.specs.Numbers.{blockOfNumbers}
 use Rattle.store_slice.proofs.Copied.{length-put}
 use Rattle.store_slice.proofs.Grouped.{groupOf, group-next, group-copied}
 use Rattle.store_slice.proofs.groups.copy_group.Statement.{statement}
@@ -80,7 +80,7 @@ loop-again c =
     let loop = c .before .before .loop in (
       search needs,
       omega (arith, loop .inv .1),
-      length-put (recordOf (getD (start .args .blocks .now) (start .args .first + loop .i) [])) (loop .k) (loop .area) ∙ loop .inv .2,
+      length-put (blockOfNumbers (getD (start .args .blocks .now) (start .args .first + loop .i) [])) (loop .k) (loop .area) ∙ loop .inv .2,
       loop .inv .3 ∙ group-next (start .args .blocks .now) (start .args .first) (start .args .count) (start .pre .0) (loop .i) (loop .k) (loop .area) (omega arith),
     )
 

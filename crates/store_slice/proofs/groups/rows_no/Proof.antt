@@ -6,14 +6,14 @@ use native.Mathlib.Omega.{arith}
 use lib.ListN.{length, drop}
 use Rattle.store_slice.specs.declared.rows.Seen.{Seen}
 use Rattle.store_slice.specs.Records.{seenNone}
-use Rattle.store_slice.specs.Numbers.{recordsOf}
+use Rattle.store_slice.specs.Numbers.{blocksOfNumbers}
 use Rattle.store_slice.proofs.Scan.{seenAll}
 use Rattle.store_slice.proofs.Grouped.{rows-next, rows-all}
 use Rattle.store_slice.proofs.groups.rows_no.Statement.{statement}
 use Rattle.store_slice.proofs.groups.rows_no.Tie as tie
 
 abbrev Inv-loop : tie.InvT-loop
-Inv-loop blocks seen₀ i₀ seen i = (i ≤ length blocks) × (seenAll seenNone (recordsOf blocks) ≡ seenAll seen (drop i (recordsOf blocks)))
+Inv-loop blocks seen₀ i₀ seen i = (i ≤ length blocks) × (seenAll seenNone (blocksOfNumbers blocks) ≡ seenAll seen (drop i (blocksOfNumbers blocks)))
 
 abbrev μ-loop : tie.MeasureT-loop
 μ-loop blocks seen₀ i₀ seen i = length blocks - i
@@ -22,7 +22,7 @@ none-requires : tie.Need-none-requires Inv-loop μ-loop
 none-requires c κs = search needs
 
 loop-holds : tie.Need-loop-holds Inv-loop μ-loop
-loop-holds c = (search needs, ap (λ (s : Seen). seenAll s (recordsOf (c .before .args .blocks .now))) (sym (c .none .ensures)))
+loop-holds c = (search needs, ap (λ (s : Seen). seenAll s (blocksOfNumbers (c .before .args .blocks .now))) (sym (c .none .ensures)))
 
 mul-numbers : tie.Need-mul-numbers Inv-loop μ-loop
 mul-numbers c = search needs

@@ -3,7 +3,7 @@ use borrow.Author.Needs.{needs}
 use Prim.Native.Nat.{ℕ}
 use mathlib.Core.Path.{_≡_, sym, ap, _∙_}
 use native.Mathlib.Omega.{arith}
-use Rattle.store_slice.specs.Numbers.{recordsOf}
+use Rattle.store_slice.specs.Numbers.{blocksOfNumbers}
 use Rattle.store_slice.proofs.Answer.{stored-refused, short-answer, whole-answer}
 use Rattle.store_slice.proofs.Grouped.{area-store, groups-of-128, few-bytes, length-all}
 use Rattle.store_slice.proofs.groups.serialize_numbers.Statement.{statement}
@@ -19,7 +19,7 @@ rows-no-requires c κs = search needs
 returns : tie.Need-returns
 returns c =
     let start = c .before .before .before in
-    stored-refused (recordsOf (start .args .blocks .now)) (start .args .out .now) _ (sym (c .before .rows-no .ensures)) (λ e. omega arith)
+    stored-refused (blocksOfNumbers (start .args .blocks .now)) (start .args .out .now) _ (sym (c .before .rows-no .ensures)) (λ e. omega arith)
 
 group-count-requires : tie.Need-group-count-requires
 group-count-requires c κs =
@@ -45,7 +45,7 @@ returns-2 : tie.Need-returns-2
 returns-2 c =
     let start = c .before .before .before .before .before .before .before in
     let xs = start .args .blocks .now in
-    short-answer (recordsOf xs) (start .args .out .now) (none-hit (c .before .before .before .before .before .rows-no .ensures) (omega arith))
+    short-answer (blocksOfNumbers xs) (start .args .out .now) (none-hit (c .before .before .before .before .before .rows-no .ensures) (omega arith))
     (omega (arith, length-all xs, c .before .addrs-len .ensures .1))
 
 write-groups-requires : tie.Need-write-groups-requires
@@ -65,7 +65,7 @@ returns-3 c =
     let put = c .before .before .write-groups .ensures in
     let sized = c .before .before .before .before .before .before .addrs-len .ensures .1 in
     let none = none-hit (c .before .before .before .before .before .before .before .before .before .before .rows-no .ensures) (omega arith) in
-    let whole = whole-answer (recordsOf xs) (start .args .out .now) none (omega (arith, length-all xs, sized)) in
+    let whole = whole-answer (blocksOfNumbers xs) (start .args .out .now) none (omega (arith, length-all xs, sized)) in
     (ap (λ (l : ℕ). record { no = 0; len = l }) (put .0) ∙ whole .0, put .1 ∙ whole .1)
 
 pub serialize-numbers-spec : {M : Type 1} → statement M

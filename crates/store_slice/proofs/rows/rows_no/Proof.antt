@@ -53,7 +53,7 @@ use Rattle.group.specs.Blocks.{blockOf}
 use Rattle.group.proofs.BlockAddr as B
 use Rattle.group.proofs.BlockAddr.Laws as B′
 use Rattle.store_slice.specs.declared.rows.Seen.{Seen}
-use Rattle.store_slice.specs.Slice.{recordsNo}
+use Rattle.store_slice.specs.Slice.{blockListNo}
 use Rattle.store_slice.specs.Records.{seenWith, seenNone, seenNo}
 use Rattle.store_slice.proofs.Scan.{seenAll, seen-next, seen-last, seen-no}
 use Rattle.store_slice.proofs.rows.Seen as S
@@ -172,7 +172,7 @@ module _ {M : Type 1} (𝓤 : URA M) (H : Heap 𝓤) (A : Atoms 𝓤) (W : Given
   abbrev AtExit : ℕ → Val → List (Item 𝓤)
   AtExit r v = ‵ (flft κ q) ∷ ‵ (u32 .own r (v ∷ [])) ∷ Kept
 
-  exits : (r : ℕ) (v : Val) → Room B.the-row n → r ≡ recordsNo ys → ent 𝓤 (⋆ 𝓤 H A (AtExit r v)) (Post v)
+  exits : (r : ℕ) (v : Val) → Room B.the-row n → r ≡ blockListNo ys → ent 𝓤 (⋆ 𝓤 H A (AtExit r v)) (Post v)
   exits r v gn e =
       qed W (AtExit r v) ∵
       suffices ! _ (ends-at 𝓤 H A f.ended stayed (f.clauses 𝓤 H A mem run) W bound v r (tt, tt) (tt, tt)) $ says ! e $
@@ -255,7 +255,7 @@ module _ {M : Type 1} (𝓤 : URA M) (H : Heap 𝓤) (A : Atoms 𝓤) (W : Given
             fit-n = omega (arith, small, gn .0)
 
         -- the turn that leaves the loop, and the rest of the body
-        ends : (s : Seen) (w : Val) (X : SProp 𝓤) → Is S.the-row s (w ∷ []) → seenNo s n ≡ recordsNo ys → ent 𝓤 (⋆ 𝓤 H A (At n w)) (Wp 𝓤 H C Λ En mir.turn-1 (afterTurn 𝓤 H X Left))
+        ends : (s : Seen) (w : Val) (X : SProp 𝓤) → Is S.the-row s (w ∷ []) → seenNo s n ≡ blockListNo ys → ent 𝓤 (⋆ 𝓤 H A (At n w)) (Wp 𝓤 H C Λ En mir.turn-1 (afterTurn 𝓤 H X Left))
         unfolding afterTurn
         ends s w X is all =
             qed W (At n w) ∵ exec ! C Λ En mir.turn-1 (anyQ (afterTurn 𝓤 H X Left)) $

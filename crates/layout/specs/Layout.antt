@@ -1,0 +1,22 @@
+-- Lengths and limits of the layouts (document 01, "Records" and the table's rows 1, 2, 7 and 12), each in one place.
+use Prim.Native.Nat.{ℕ}
+
+-- the most blocks that an index has
+abbrev pub maxBlocks : ℕ
+maxBlocks = 65536
+
+-- the blocks of a group; the last group may have fewer
+abbrev pub storeBlockLen : ℕ
+storeBlockLen = 128
+
+-- the bytes of a group record
+abbrev pub metaLen : ℕ
+metaLen = 36
+
+-- the bytes of a key's pair in the directory
+abbrev pub pairLen : ℕ
+pairLen = 8
+
+-- the most bytes of a key
+abbrev pub maxKeyLen : ℕ
+maxKeyLen = 1024

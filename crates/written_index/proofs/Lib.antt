@@ -1,0 +1,4 @@
+pub mod IndexRead
+pub mod Joined
+pub mod ListingRead
+pub mod OpeningJoined
