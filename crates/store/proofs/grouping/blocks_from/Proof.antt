@@ -1,7 +1,7 @@
--- `store::write::blocks_from` meets its contract: a full group, or what is left.
+-- `store::grouping::blocks_from` meets its contract: a full group, or what is left.
 use native.Mathlib.Omega.{arith}
-use Rattle.store.proofs.write.blocks_from.Statement.{statement}
-use Rattle.store.proofs.write.blocks_from.Tie as tie
+use Rattle.store.proofs.grouping.blocks_from.Statement.{statement}
+use Rattle.store.proofs.grouping.blocks_from.Tie as tie
 
 sub-left : tie.Need-sub-left
 sub-left c = omega arith
