@@ -1,3 +1,4 @@
 pub mod Slice
 pub mod Records
 pub mod Numbers
+pub mod Writer

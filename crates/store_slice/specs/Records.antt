@@ -29,6 +29,11 @@ seenNone = record {
   «ordinal_bad» = false;
 }
 
+-- all of them, one after the other
+unfoldable pub seenAll : Seen → List BlockAddr → Seen
+seenAll s [] = s
+seenAll s (b ∷ bs) = seenAll (seenWith s b) bs
+
 -- the first row that was hit by n records
 unfoldable pub seenNo : Seen → ℕ → ℕ
 seenNo s n = cond (s .«numbers_bad») 3 (cond (s .«join_bad») 4 (cond (s .«ordinal_bad») 5 (cond (ltb maxBlocks n) 7 0)))
