@@ -13,6 +13,9 @@ ghost use Rattle.builder.specs.Finish.{finishOf, FinishedCased, finishDe
 use group::BlockAddr;
 use layout::STORE_BLOCK_LEN;
 
+// As many blocks make 8 groups at most: their plans take a small area, so that a short list doesn't clear the large one.
+const FEW_BLOCKS: usize = 1_024;
+
 pub struct SSTableIndexBuilder {
     pub n: usize,
 }
@@ -107,15 +110,12 @@ impl SSTableIndexBuilder {
         if no != 0 {
             return Finished::Unwritten(no, self);
         }
-        let total = finish::index_len(self, blocks, keys, STORE_BLOCK_LEN);
-        if out.len() < total {
-            return Finished::Unwritten(refusals::OUT_SHORT, self);
+        if self.n <= FEW_BLOCKS {
+            let mut kept = [0u64; 16];
+            return finish::finish_with(self, blocks, keys, STORE_BLOCK_LEN, &mut kept, out);
         }
-        if self.n < 2 {
-            return Finished::Written(self, 0, 0);
-        }
-        let directory = finish::write_index(self, blocks, keys, STORE_BLOCK_LEN, out);
-        Finished::Written(self, total, directory)
+        let mut kept = [0u64; 1_024];
+        finish::finish_with(self, blocks, keys, STORE_BLOCK_LEN, &mut kept, out)
     }
 
     // The total that a finish would need: rows 1 and 8 as finish has them.
@@ -126,6 +126,17 @@ impl SSTableIndexBuilder {
         if no != 0 {
             return FinishLen::Refused(no);
         }
-        FinishLen::Total(finish::index_len(self, blocks, keys, STORE_BLOCK_LEN))
+        if self.n <= FEW_BLOCKS {
+            let mut kept = [0u64; 16];
+            return FinishLen::Total(finish::plan_index(
+                self,
+                blocks,
+                keys,
+                STORE_BLOCK_LEN,
+                &mut kept,
+            ));
+        }
+        let mut kept = [0u64; 1_024];
+        FinishLen::Total(finish::plan_index(self, blocks, keys, STORE_BLOCK_LEN, &mut kept))
     }
 }
