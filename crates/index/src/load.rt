@@ -52,7 +52,7 @@ fn records_bad(data: &[u8], directory_len: usize, n: usize, group_len: usize) ->
         × (n ≤ maxBlocks) ⌝ }
     ensures { λ r. ⌜ r ≡ groupRecordsBad «group_len» (now («data» .entry)) ⌝ }
 {
-    let metas_len = META_LEN * store::write::group_count(n, group_len);
+    let metas_len = META_LEN * store::grouping::group_count(n, group_len);
     if serialize::deserialize_u64(data, directory_len) != metas_len as u64 {
         return true;
     }

@@ -72,7 +72,7 @@ pub fn opened_bad(opened: SSTableIndexV3, len: usize, group_len: usize) -> bool
     if part_outside(opened.addrs, opened.addrs_len, len) {
         return true;
     }
-    opened.metas_len < META_LEN * store::write::group_count(opened.n, group_len)
+    opened.metas_len < META_LEN * store::grouping::group_count(opened.n, group_len)
 }
 
 // Block `id` as the store gives it: where its group can't be read, its numbers break row 3.

@@ -100,6 +100,12 @@ module _ (choose : List ℕ → ℕ) where
   length-plans-area {L} some area stride i n =
       length-plans L (groupCount L n) (blocksAt area stride i n) some (rw (length-blocksAt area stride i n) (group-count-below some n))
 
+  -- what was planned stands at the front
+  pub plans-stand : {L : ℕ} → 1 ≤ L → (area : List ℕ) (stride n : ℕ) (kept kept′ : List ℕ) → 2 * groupCount L n ≤ length kept
+      → kept′ ≡ sets kept 0 (plans choose L (groupCount L n) (blocksAt area stride 0 n)) → StandsAt kept′ 0 (plans choose L (groupCount L n) (blocksAt area stride 0 n))
+  plans-stand {L} some area stride n kept kept′ room e =
+      rw e (standing-sets kept (plans choose L (groupCount L n) (blocksAt area stride 0 n)) 0 (omega (arith, length-plans-area some area stride 0 n)))
+
   -- what is kept of a group's record
   pub kept-plan : (area : List ℕ) (stride first count : ℕ) {m : BlockAddrBlockMetadata} → 0 < count
       → m ≡ metaOf choose 0 (blockAt area stride first) (blocksAt area stride (first + 1) (count - 1))

@@ -53,11 +53,12 @@ fn write_store(area: &[u64], n: usize, len: usize, out: &mut [u8]) -> bool
     if len > out.len() - PLACE {
         return false;
     }
-    if store::write::store_len(area, blocks::STRIDE, n, GROUP) != len {
+    let mut kept = [0u64; 1_024];
+    if store::write::plan_store(area, blocks::STRIDE, n, GROUP, &mut kept) != len {
         return false;
     }
     let end = PLACE + len;
-    if store::write::serialize(area, blocks::STRIDE, n, GROUP, &mut out[PLACE..end]) != len {
+    if store::write::serialize(area, blocks::STRIDE, n, GROUP, &kept, &mut out[PLACE..end]) != len {
         return false;
     }
     if !marks(&out[0..PLACE]) {
@@ -84,7 +85,7 @@ fn addrs_at(store: &[u8], n: usize) -> usize
     if len > (store.len() - LENGTH) as u64 {
         return 0;
     }
-    if (len as usize) < RECORD * store::write::group_count(n, GROUP) {
+    if (len as usize) < RECORD * store::grouping::group_count(n, GROUP) {
         return 0;
     }
     LENGTH + len as usize

@@ -1,17 +1,11 @@
 -- `builder::finish::plan_index` meets its contract: the lengths of the three parts, and the store's plans at the front of what is kept.
 use borrow.Author.Needs.{needs}
-use Prim.Native.Nat.{ℕ, _+_, _*_, _≤_}
-use mathlib.Core.Path.{_≡_, sym, ap}
-use mathlib.Core.List.{List}
+use Prim.Native.Nat.{_+_, _≤_}
+use mathlib.Core.Path.{sym, ap}
 use native.Mathlib.Omega.{arith}
 use lib.ListN.{length}
-use lib.Seq.{sets}
 use Rattle.slope.specs.Slope.{bestSlope}
-use Rattle.group.specs.Blocks.{blocksAt}
-use Rattle.store.specs.Store.{groupCount}
-use Rattle.store.specs.Plans.{plans, StandsAt}
-use Rattle.store.specs.Facts.{GroupLenOk}
-use Rattle.store.proofs.Plans.{standing-sets, length-plans-area}
+use Rattle.store.proofs.Plans.{plans-stand}
 use Rattle.builder.specs.Index.{settingsOf}
 use Rattle.builder.proofs.Row8.{ListOk, list-ok, keys-area, store-area}
 use Rattle.builder.proofs.IndexWritten.{settings-ok, directoryOf, storeOf, index-none, index-length, index-small}
@@ -30,12 +24,6 @@ small : (c : tie.Start)
 small c =
     let a = c .args in
     index-small (settingsOf (a .group-len)) (a .builder) (a .blocks .now) (a .keys .now) (settings-ok (a .group-len) (c .pre .1)) (ok c)
-
--- what was planned stands at the front
-stands : (L : ℕ) (area : List ℕ) (n : ℕ) (kept kept′ : List ℕ) → GroupLenOk L → 2 * groupCount L n ≤ length kept
-    → kept′ ≡ sets kept 0 (plans bestSlope L (groupCount L n) (blocksAt area 5 0 n)) → StandsAt kept′ 0 (plans bestSlope L (groupCount L n) (blocksAt area 5 0 n))
-stands L area n kept kept′ group room e =
-    rw e (standing-sets kept (plans bestSlope L (groupCount L n) (blocksAt area 5 0 n)) 0 (omega (arith, length-plans-area bestSlope (group .some) area 5 0 n)))
 
 returns : tie.Need-returns
 returns c =
@@ -72,7 +60,7 @@ returns-2 c =
         planned .0,
         index-length (settingsOf (a .group-len)) (a .builder) (a .blocks .now) (a .keys .now) (c .before .before .before .before .before .if1 .left),
       ),
-      λ some. stands (a .group-len) (a .blocks .now) (a .builder .n) (a .kept .now) _ (s .pre .1) (s .pre .2) (planned .1),
+      λ some. plans-stand bestSlope (s .pre .1 .some) (a .blocks .now) 5 (a .builder .n) (a .kept .now) _ (s .pre .2) (planned .1),
     )
 
 pub plan-index-spec : {M : Type 1} → statement M
