@@ -1,68 +1,86 @@
+-- `store::write::plan_store` meets its contract. The loop's invariant: the plans of the groups left, put behind those before, give all of them.
 use borrow.Author.Needs.{needs}
+use Prim.Native.Nat.{_-_}
+use native.Mathlib.Omega.{arith}
+use Rattle.slope.specs.Slope.{bestSlope}
+use Rattle.slope.proofs.Widths.{bestSlope-lt}
+use Rattle.store.proofs.Groups.{group-count-le, group-area}
+use Rattle.store.proofs.Stored.{store-addrs-le}
+use Rattle.store.proofs.Planning.{Planning, planning-all, planning-none, planning-turn, plan-room, plan-bits}
 use Rattle.store.proofs.write.plan_store.Statement.{statement}
 use Rattle.store.proofs.write.plan_store.Tie as tie
-use Rattle.store.proofs.write.plan_store.Reads as reads
-use Rattle.store.proofs.write.plan_store.Lts as lts
-use Rattle.store.proofs.grouping.blocks_from.Reads as blocks-from-reads
-use Rattle.store.proofs.write.plan_group.Reads as plan-group-reads
 
 abbrev Inv-loop : tie.InvT-loop
-Inv-loop area stride n group-len kept₀ len₀ g₀ first₀ kept len g first = ?
+Inv-loop area stride n group-len kept₀ len₀ g₀ first₀ kept len g first = Planning area stride n group-len kept₀ kept len g first
 
 abbrev μ-loop : tie.MeasureT-loop
-μ-loop area stride n group-len kept₀ len₀ g₀ first₀ kept len g first = ?
+μ-loop area stride n group-len kept₀ len₀ g₀ first₀ kept len g first = n - first
 
--- src/write.rt:55:5
 loop-holds : tie.Need-loop-holds Inv-loop μ-loop
-loop-holds c = search needs
+loop-holds c = planning-all _ _ _ _ _
 
--- src/write.rt:56:13
 blocks-from-requires : tie.Need-blocks-from-requires Inv-loop μ-loop
 blocks-from-requires c κs = search needs
 
--- src/write.rt:57:16
 plan-group-requires : tie.Need-plan-group-requires Inv-loop μ-loop
-plan-group-requires c κs = search needs
+plan-group-requires c κs =
+    let start = c .before .before .before .before .before .before in
+    let is = c .before .blocks-from .ensures in (
+      group-area (start .pre .0) (start .pre .1) _ _ is (omega arith),
+      plan-room (c .before .before .before .loop .inv) (start .pre .1) _ is (omega arith) (start .pre .2),
+    )
 
--- src/write.rt:57:9
+-- the turn's end: what the group adds
 add-len : tie.Need-add-len Inv-loop μ-loop
-add-len c = search needs
+add-len c =
+    let start = c .before .before .before .before .before .before .before .before .before in
+    let planning = c .before .before .before .before .before .before .loop .inv in
+    omega (
+      arith,
+      planning .lengths,
+      plan-bits planning (start .pre .1) _ (c .before .before .before .before .blocks-from .ensures) (omega arith),
+      c .before .before .plan-group .ensures .0,
+      store-addrs-le bestSlope bestSlope-lt (start .pre .0) (start .pre .1),
+    )
 
--- src/write.rt:58:9
 add-g : tie.Need-add-g Inv-loop μ-loop
-add-g c = search needs
+add-g c =
+    let start = c .before .before .before .before .before .before .before .before .before in
+    omega (arith, c .before .before .before .before .before .before .loop .inv .groups, group-count-le (start .pre .1 .some) (start .args .n))
 
--- src/write.rt:59:9
 add-first : tie.Need-add-first Inv-loop μ-loop
-add-first c = search needs
+add-first c = omega arith
 
--- src/write.rt:55:5
 loop-less : tie.Need-loop-less Inv-loop μ-loop
-loop-less c = search needs
+loop-less c = omega arith
 
--- src/write.rt:55:5
 loop-again : tie.Need-loop-again Inv-loop μ-loop
-loop-again c = search needs
+loop-again c =
+    let start = c .before .before .before .before .before .before .before .before .before in
+    let put = c .before .before .plan-group .ensures in
+    planning-turn (c .before .before .before .before .before .before .loop .inv) (start .pre .1) _ (c .before .before .before .before .blocks-from .ensures) (omega arith) _ _ (put .0) (put .1)
 
--- src/write.rt:61:9
 mul-result : tie.Need-mul-result Inv-loop μ-loop
-mul-result c = search needs
+mul-result c =
+    let start = c .before .before .before .before in
+    omega (arith, c .before .loop .inv .groups, group-count-le (start .pre .1 .some) (start .args .n))
 
--- src/write.rt:61:5
 add-result : tie.Need-add-result Inv-loop μ-loop
-add-result c = search needs
+add-result c =
+    let start = c .before .before .before .before in
+    omega (arith, c .before .loop .inv .groups, group-count-le (start .pre .1 .some) (start .args .n))
 
--- src/write.rt:61:5
 add-result-2 : tie.Need-add-result-2 Inv-loop μ-loop
-add-result-2 c = search needs
+add-result-2 c =
+    let start = c .before .before .before .before in
+    let planning = c .before .loop .inv in
+    omega (arith, planning .groups, planning .lengths, group-count-le (start .pre .1 .some) (start .args .n), store-addrs-le bestSlope bestSlope-lt (start .pre .0) (start .pre .1))
 
--- src/write.rt:40:1
 same-length : tie.Need-same-length Inv-loop μ-loop
-same-length c = search needs
+same-length c = omega (arith, c .before .loop .inv .long)
 
--- src/write.rt:40:1
 returns : tie.Need-returns Inv-loop μ-loop
-returns c = search needs
+returns c = planning-none (c .before .loop .inv) (c .before .before .before .before .pre .1) (omega arith)
 
 pub plan-store-spec : {M : Type 1} → statement M
 plan-store-spec =
