@@ -1,4 +1,6 @@
 pub mod Answer
+pub mod ByStructs
 pub mod Kept
+pub mod Lent
 pub mod Scan
 pub mod Window
