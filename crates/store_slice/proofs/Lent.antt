@@ -1,4 +1,4 @@
--- Steps of a walk over local arrays of numbers: an array of zeros is made; a row is lent as a `&mut` slice for a lifetime that the walk makes, and taken back.
+-- Steps of a walk over local arrays: one of zeros is made; an array is a row of its elements; a row is lent as a `&mut` slice for a lifetime that the walk makes, and taken back.
 use mathlib.Core.Path.{_≡_, refl, sym, subst}
 use Prim.Native.Nat.{ℕ}
 use mathlib.Core.List.{List, [], _∷_}
@@ -20,10 +20,10 @@ use types.SemTy.{cells, Arr}
 use types.Share.{arr-parts}
 use denote.RattleType.{RattleType}
 use denote.Laws.{Is, shows}
-use denote.Memory.{cellAt, partAt, mem as mem′, shares, partOf}
+use denote.Memory.{cellAt, lone, partAt, mem as mem′, shares, partOf}
 use denote.Plain.{uint-makes, uint-copy, uint-lawful}
 use denote.Array.{Array, arrayVal, array-repeat, array-lawful}
-use denote.ArrayMemory.{array-apart, array-whole}
+use denote.ArrayMemory.{Single, array-apart, array-whole}
 use denote.Builtin.{u64}
 use denote.Ref.{RefT}
 use denote.Slice.{sliceVal, MutSlice, Room, finally}
@@ -51,23 +51,26 @@ module _ {M : Type 1} {𝓤 : URA M} {H : Heap 𝓤} {A : Atoms 𝓤} {K : Type 
   finds-at : K → {i : ℕ} {sp : Spot 𝓤 H} → spotOf 𝓤 H E i ≡ sp → Finds K W Γ E (place i []) sp
   finds-at t e = record { go = λ Kt h. subst (λ (sp′ : Spot 𝓤 H). ent 𝓤 (⋆ 𝓤 H A Γ) (Kt sp′)) (sym e) h }
 
--- a local array: its cell and what it owns are its numbers side by side, and those are its room again
-module _ {M : Type 1} (𝓤 : URA M) (H : Heap 𝓤) (A : Atoms 𝓤) (W : Given 𝓤 H A) where
-  apart : (N l : ℕ) (xs : List ℕ) (v : Val) → ent 𝓤 (sep 𝓤 (H .at fullShare (tyArray word N) l 0 v) (sem 𝓤 H A (Array u64 N .own xs (v ∷ [])))) (sem 𝓤 H A (row u64 fullShare xs l 0))
-  unfolding partOf
-  apart N l xs v =
-      qed W (‵ (fat fullShare (tyArray word N) l 0 v) ∷ ‵ (Array u64 N .own xs (v ∷ [])) ∷ []) ∵
-      use1 W (‵ (cellAt fullShare (tyArray word N ∷ []) (v ∷ []) l 0)) (W .laws .at-raw fullShare (tyArray word N) l 0 v) $ fjoin ! $
-      fpack ! (List Val) (λ vs. fsep (cellAt fullShare (tyArray word N ∷ []) vs l 0) (Array u64 N .own xs vs)) (v ∷ []) $
-      use1 W (‵ (arr-parts (shares u64) N .part fullShare xs l 0)) (array-apart 𝓤 H A W u64 fullShare tt N xs l 0) $ fsplit ! $ drop ! $ done !
+-- a local array: its cell and what it owns are its elements side by side, and those are its room again
+module _ {M : Type 1} (𝓤 : URA M) (H : Heap 𝓤) (A : Atoms 𝓤) (W : Given 𝓤 H A) (R : RattleType) (N : ℕ) where
+  abbrev array : Ty
+  array = tyArray (lone (R .mir)) N
 
-  pub emptied : (N l : ℕ) (xs : List ℕ) → length xs ≡ N → ent 𝓤 (sem 𝓤 H A (row u64 fullShare xs l 0)) (H .room (tyArray word N) l 0)
+  pub apart : Single (R .mir) → (l : ℕ) (xs : List (R .Denot)) (v : Val) → ent 𝓤 (sep 𝓤 (H .at fullShare array l 0 v) (sem 𝓤 H A (Array R N .own xs (v ∷ [])))) (sem 𝓤 H A (row R fullShare xs l 0))
   unfolding partOf
-  emptied N l xs e =
-      qed W (‵ (row u64 fullShare xs l 0) ∷ []) ∵ feqI ! ℕ (length xs) N e $ fjoin ! $ use1 W (‵ (partAt (Array u64 N) fullShare xs l 0)) (array-whole 𝓤 H A W u64 fullShare N xs l 0) $
+  apart one l xs v =
+      qed W (‵ (fat fullShare array l 0 v) ∷ ‵ (Array R N .own xs (v ∷ [])) ∷ []) ∵
+      use1 W (‵ (cellAt fullShare (array ∷ []) (v ∷ []) l 0)) (W .laws .at-raw fullShare array l 0 v) $ fjoin ! $
+      fpack ! (List Val) (λ vs. fsep (cellAt fullShare (array ∷ []) vs l 0) (Array R N .own xs vs)) (v ∷ []) $
+      use1 W (‵ (arr-parts (shares R) N .part fullShare xs l 0)) (array-apart 𝓤 H A W R fullShare one N xs l 0) $ fsplit ! $ drop ! $ done !
+
+  pub emptied : (l : ℕ) (xs : List (R .Denot)) → length xs ≡ N → ent 𝓤 (sem 𝓤 H A (row R fullShare xs l 0)) (H .room array l 0)
+  unfolding partOf
+  emptied l xs e =
+      qed W (‵ (row R fullShare xs l 0) ∷ []) ∵ feqI ! ℕ (length xs) N e $ fjoin ! $ use1 W (‵ (partAt (Array R N) fullShare xs l 0)) (array-whole 𝓤 H A W R fullShare N xs l 0) $
       fpick ! (λ vs. fsplit ! $ move ! (1 ∷ []) $ fpick ! (λ us. fsplit ! $ fsplit ! $ feqL ! (λ is. move ! (2 ∷ []) $
-      rewrite ! 0 (λ (ws : List Val). ‵ (cellAt fullShare (tyArray word N ∷ []) ws l 0)) is refl $
-      use1 W (‵ (fat fullShare (tyArray word N) l 0 (arrayVal us))) (W .laws .raw-at fullShare (tyArray word N) l 0 (arrayVal us)) $ forget ! 0 refl $ keep ! (0 ∷ []) $ done !)))
+      rewrite ! 0 (λ (ws : List Val). ‵ (cellAt fullShare (array ∷ []) ws l 0)) is refl $
+      use1 W (‵ (fat fullShare array l 0 (arrayVal us))) (W .laws .raw-at fullShare array l 0 (arrayVal us)) $ forget ! 0 refl $ keep ! (0 ∷ []) $ done !)))
 
 -- `a = [0; N]`
 module _ {M : Type 1} {𝓤 : URA M} {H : Heap 𝓤} {A : Atoms 𝓤} {K : Type 0} {W : Given 𝓤 H A} {Γ : List (Item 𝓤)} {E : Env 𝓤 H} {C : Calls 𝓤 H} {Λ : Loops 𝓤 H} {q : Post′ 𝓤 H} where
@@ -78,7 +81,7 @@ module _ {M : Type 1} {𝓤 : URA M} {H : Heap 𝓤} {A : Atoms 𝓤} {K : Type 
       use1 W (‵ (Array u64 N .own (replicate N 0) (arrayVal (replicate N (vint w64 0)) ∷ []))) (array-repeat 𝓤 H A W u64 (uint-copy 𝓤 H A W w64) N 0 (vint w64 0)) $
       peeks t (Array u64 N) (Is (Array u64 N)) (shows 𝓤 H A (Array u64 N)) (replicate N 0) (arrayVal (replicate N (vint w64 0)) ∷ []) (λ is.
       assigns t (rep t N (lit t tt)) (finds-at t f) (init t 1 refl (array-lawful 𝓤 H A W u64 (uint-lawful 𝓤 H A W w64) N .typed (replicate N 0) _ is .0)) $
-      move t (1 ∷ 0 ∷ []) $ use2 W (‵ (row u64 fullShare (replicate N 0) l 0)) (apart 𝓤 H A W N l (replicate N 0) (arrayVal (replicate N (vint w64 0)))) $ s))
+      move t (1 ∷ 0 ∷ []) $ use2 W (‵ (row u64 fullShare (replicate N 0) l 0)) (apart 𝓤 H A W u64 N tt l (replicate N 0) (arrayVal (replicate N (vint w64 0)))) $ s))
 
 -- the reference to a row that is lent under the name ε
 abbrev pub lent : {X : Type 0} (b o : ℕ) → GName → List X → RefT (List X)

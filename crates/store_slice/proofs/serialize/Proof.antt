@@ -382,7 +382,7 @@ module _ {M : Type 1} (𝓤 : URA M) (H : Heap 𝓤) (A : Atoms 𝓤) (W : Given
             -- [κ₀; window; kept; out; _5; _6; _10; …; _19; _1; _2; _0; _7; _8; _9; shr; res; the open borrow; obs; auth; that each local dies]
             move ! (3 ∷ 24 ∷ 25 ∷ 26 ∷ []) $ closes-slice ! tt u8 outs (t .out) (t .out-long) c p $
             -- [obs; the borrow; κ₁; κ₀; window; kept; _5; …]
-            move ! (4 ∷ []) $ use1 W (‵ (froom (tyArray word 768) l₃ 0)) (emptied 𝓤 H A W 768 l₃ (t .window) (t .window-long)) $ move ! (5 ∷ []) $ use1 W (‵ (froom (tyArray word 1024) l₄ 0)) (emptied 𝓤 H A W 1024 l₄ (t .kept) (t .kept-long)) $
+            move ! (4 ∷ []) $ use1 W (‵ (froom (tyArray word 768) l₃ 0)) (emptied 𝓤 H A W u64 768 l₃ (t .window) (t .window-long)) $ move ! (5 ∷ []) $ use1 W (‵ (froom (tyArray word 1024) l₄ 0)) (emptied 𝓤 H A W u64 1024 l₄ (t .kept) (t .kept-long)) $
             -- [_4; _3; obs; the borrow; κ₁; κ₀; _5; _6; _10; …; _19; _1; _2; _0; _7; _8; _9; shr; res; that each local dies]
             returns ! (look ! 20 refl) $ forget ! 6 refl $ forget ! 8 refl $ forget ! 18 refl $ forget ! 19 refl $ forget ! 20 refl $
             move ! (20 ∷ 26 ∷ []) $ free1 ! $ move ! (18 ∷ 25 ∷ []) $ free1 ! $ move ! (18 ∷ 24 ∷ []) $ free1 ! $ move ! (1 ∷ 23 ∷ []) $ free1 ! $ move ! (0 ∷ 22 ∷ []) $ free1 ! $ move ! (4 ∷ 21 ∷ []) $ free1 ! $ move ! (4 ∷ 20 ∷ []) $ free1 ! $
