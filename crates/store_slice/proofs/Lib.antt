@@ -1,5 +1,9 @@
 pub mod Answer
+pub mod Ends
+pub mod Filled
+pub mod First
 pub mod Kept
 pub mod Scan
+pub mod Second
 pub mod Taken
 pub mod Window
