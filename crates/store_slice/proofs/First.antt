@@ -99,7 +99,7 @@ module _ {L : ℕ} {bs : List BlockAddr} {out₀ : List ℕ} {w : BlockAddrStore
           small = omega (arith, looked .small, group-few area);
           planned = λ _. (
             rw (is, same, plans-add bestSlope L (w .g) 1 bs, append-nil)
-            (standing-behind kept (plans bestSlope L (w .g) bs) (groupPlan bestSlope next) (2 * w .g) size (omega (arith, one, plannable .room)) (before .0)),
+                (standing-behind kept (plans bestSlope L (w .g) bs) (groupPlan bestSlope next) (2 * w .g) size (omega (arith, one, plannable .room)) (before .0)),
             rw (same, before .1) (bits-add L (w .g) bs),
           );
         }

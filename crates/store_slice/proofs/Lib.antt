@@ -1,4 +1,6 @@
+pub mod Advance
 pub mod Answer
+pub mod Begin
 pub mod Ends
 pub mod Filled
 pub mod First
