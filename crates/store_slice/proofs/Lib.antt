@@ -1,6 +1,13 @@
+pub mod Advance
 pub mod Answer
-pub mod Copied
-pub mod Grouped
+pub mod Begin
+pub mod ByStructs
+pub mod Ends
+pub mod Filled
+pub mod First
 pub mod Kept
+pub mod Lent
 pub mod Scan
-pub mod Sized
+pub mod Second
+pub mod Taken
+pub mod Window

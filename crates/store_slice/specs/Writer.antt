@@ -19,8 +19,8 @@ use Rattle.store_slice.specs.declared.writer.BlockAddrStoreWriter.{Block
 
 -- room for the records of a group in the window, and for two numbers of each group's plan where there aren't too many records
 pub record Rooms (L n : ℕ) (window kept : List ℕ) : Type 0 where
-  pub window : 3 * min L n ≤ length window
-  pub kept : n ≤ maxBlocks → 2 * groupCount L n ≤ length kept
+  pub records : 3 * min L n ≤ length window
+  pub plans : n ≤ maxBlocks → 2 * groupCount L n ≤ length kept
 
 -- a record is still to come; the window holds those of its group that came before it
 pub record Held (L : ℕ) (bs : List BlockAddr) (w : BlockAddrStoreWriter) (window kept : List ℕ) : Type 0 where
@@ -33,18 +33,17 @@ pub record Held (L : ℕ) (bs : List BlockAddr) (w : BlockAddrStoreWriter) (wind
   pub rooms : Rooms L (length bs) window kept
   pub holds : blocksAt window 3 0 (w .held) ≡ take (w .held) (drop (L * w .g) bs)
 
--- the first round: nothing is written; as long as no row is hit, the groups before are planned
-pub record Looking (L : ℕ) (bs : List BlockAddr) (out₀ : List ℕ) (w : BlockAddrStoreWriter) (window kept out : List ℕ) : Type 0 where
-  pub held : Held L bs w window kept
+-- what the first round leaves: nothing is written; as long as no row is hit, the groups before are planned. A group's bits take at most
+-- 3,577 bytes.
+pub record Looked (L : ℕ) (bs : List BlockAddr) (out₀ : List ℕ) (w : BlockAddrStoreWriter) (kept out : List ℕ) : Type 0 where
   pub same : out ≡ out₀
   pub seen : w .seen ≡ seenAll seenNone (take (w .next) bs)
-  pub small : w .offset ≤ 3577 * maxBlocks
+  pub small : w .offset ≤ 3577 * w .g
   pub planned : seenNo (w .seen) (length bs) ≡ 0
       → StandsAt kept 0 (plans bestSlope L (w .g) bs) × (w .offset ≡ length (addrs bestSlope L (w .g) bs))
 
--- the second round: what is left to write over what is there gives the whole store
-pub record Writing (L : ℕ) (bs : List BlockAddr) (out₀ : List ℕ) (w : BlockAddrStoreWriter) (window kept out : List ℕ) : Type 0 where
-  pub held : Held L bs w window kept
+-- what the second round leaves: what is left to write over what is there gives the whole store
+pub record Written (L : ℕ) (bs : List BlockAddr) (out₀ : List ℕ) (w : BlockAddrStoreWriter) (kept out : List ℕ) : Type 0 where
   pub legal : blockListNo bs ≡ 0
   pub total : w .len ≡ length (storeBytes bestSlope L bs)
   pub fits : length (storeBytes bestSlope L bs) ≤ length out₀
@@ -58,13 +57,22 @@ pub record Writing (L : ℕ) (bs : List BlockAddr) (out₀ : List ℕ) (w : Bloc
       (addrs bestSlope L (groupCount L (length bs) - w .g) (drop (L * w .g) bs))
       ≡ sets out₀ 0 (storeBytes bestSlope L bs)
 
+-- each round, while a record is still to come
+pub record Looking (L : ℕ) (bs : List BlockAddr) (out₀ : List ℕ) (w : BlockAddrStoreWriter) (window kept out : List ℕ) : Type 0 where
+  pub held : Held L bs w window kept
+  pub looked : Looked L bs out₀ w kept out
+
+pub record Writing (L : ℕ) (bs : List BlockAddr) (out₀ : List ℕ) (w : BlockAddrStoreWriter) (window kept out : List ℕ) : Type 0 where
+  pub held : Held L bs w window kept
+  pub written : Written L bs out₀ w kept out
+
 -- at the end: the answer, and what is left in the output
 pub record Ended (L : ℕ) (bs : List BlockAddr) (out₀ : List ℕ) (w : BlockAddrStoreWriter) (out : List ℕ) : Type 0 where
   pub stored : record { no = w .no; len = w .len } ≡ sliceStoredBy L bs out₀
-  pub out : out ≡ sliceOutBy L bs out₀
+  pub bytes : out ≡ sliceOutBy L bs out₀
 
 -- each of them, by whether the writer is done, and whether it writes
-ProgressBy : Bool → Bool → ℕ → List BlockAddr → List ℕ → BlockAddrStoreWriter → List ℕ → List ℕ → List ℕ → Type 0
+unfoldable pub ProgressBy : Bool → Bool → ℕ → List BlockAddr → List ℕ → BlockAddrStoreWriter → List ℕ → List ℕ → List ℕ → Type 0
 ProgressBy true writing L bs out₀ w window kept out = Ended L bs out₀ w out
 ProgressBy false false L bs out₀ w window kept out = Looking L bs out₀ w window kept out
 ProgressBy false true L bs out₀ w window kept out = Writing L bs out₀ w window kept out

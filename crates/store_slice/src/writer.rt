@@ -1,11 +1,14 @@
 // The store's writer, which is handed the records of a list one after the other, and all of them twice: first it looks at the rows and
 // plans the groups, then it writes them. So it knows the store's length before it writes a byte, and needs room for one group.
 ghost use mathlib.Core.Path.{_≡_};
-ghost use Prim.Native.Nat.{ℕ};
+ghost use Prim.Native.Nat.{ℕ, _+_, _*_, _≤_, _<_};
 ghost use mathlib.Core.List.{List};
+ghost use mathlib.Core.Bool.{true, false};
 ghost use lib.ListN.{length};
 ghost use Rattle.group.specs.declared.BlockAddr.{BlockAddr as Block};
 ghost use Rattle.store.specs.Facts.{GroupLenOk};
+ghost use Rattle.store_slice.specs.Records.{seenNo};
+ghost use Rattle.store_slice.specs.Steps.{put, heldWith, Plannable, Writable, Flushed, RoundEnded, endedWith, secondRound};
 ghost use Rattle.store_slice.specs.Writer.{Rooms, Progress, Handed, Advances};
 use crate::rows::OUT_SHORT;
 use crate::rows::Seen;
@@ -89,7 +92,10 @@ impl BlockAddrStoreWriter {
     }
 
     // Puts the record into the window; in the first round it is looked at too.
-    fn hold(self, block: BlockAddr, window: &mut [u64]) -> BlockAddrStoreWriter {
+    fn hold(self, block: BlockAddr, window: &mut [u64]) -> BlockAddrStoreWriter
+        requires { ⌜ (3 * self .held + 3 ≤ length (now window)) × (self .next < self .n) ⌝ }
+        ensures { λ r. ⌜ (r ≡ heldWith self block) × (now (window .exit) ≡ put block (3 * self .held) (now (window .entry))) ⌝ }
+    {
         let at = STRIDE * self.held;
         window[at] = block.start;
         window[at + 1] = block.end;
@@ -106,7 +112,11 @@ impl BlockAddrStoreWriter {
     }
 
     // Takes the records in the window as a group: plans it as long as no row is hit, or writes it.
-    fn flush_block(self, window: &[u64], kept: &mut [u64], out: &mut [u8]) -> BlockAddrStoreWriter {
+    fn flush_block(self, window: &[u64], kept: &mut [u64], out: &mut [u8]) -> BlockAddrStoreWriter
+        requires { ⌜ (self .g < self .n) × (self .writing ≡ true → Writable self (now window) (now kept) (now out))
+            × (self .writing ≡ false → seenNo (self .seen) (self .n) ≡ 0 → Plannable self (now window) (now kept)) ⌝ }
+        ensures { λ r. ⌜ Flushed self (now (window .entry)) (now (kept .entry)) (now (out .entry)) r (now (kept .exit)) (now (out .exit)) ⌝ }
+    {
         let mut flushed = self;
         flushed.held = 0;
         flushed.g = self.g + 1;
@@ -135,7 +145,10 @@ impl BlockAddrStoreWriter {
     }
 
     // After the last record: the first round answers a row, or begins the second.
-    fn end_round(self, out: &mut [u8]) -> BlockAddrStoreWriter {
+    fn end_round(self, out: &mut [u8]) -> BlockAddrStoreWriter
+        requires { ⌜ (self .writing ≡ false → seenNo (self .seen) (self .n) ≡ 0 → (self .g ≤ 65536) × (self .offset ≤ 3577 * self .g)) ⌝ }
+        ensures { λ r. ⌜ RoundEnded self (now (out .entry)) r (now (out .exit)) ⌝ }
+    {
         if self.writing {
             return self.ended(0, self.len);
         }
@@ -156,7 +169,9 @@ impl BlockAddrStoreWriter {
         self.second_round(len)
     }
 
-    fn ended(self, no: u32, len: usize) -> BlockAddrStoreWriter {
+    fn ended(self, no: u32, len: usize) -> BlockAddrStoreWriter
+        ensures { λ r. ⌜ r ≡ endedWith self no len ⌝ }
+    {
         let mut ended = self;
         ended.done = true;
         ended.no = no;
@@ -165,7 +180,10 @@ impl BlockAddrStoreWriter {
     }
 
     // Before the first record again, with the store's length known.
-    fn second_round(self, len: usize) -> BlockAddrStoreWriter {
+    fn second_round(self, len: usize) -> BlockAddrStoreWriter
+        requires { ⌜ self .offset ≤ len ⌝ }
+        ensures { λ r. ⌜ r ≡ secondRound self len ⌝ }
+    {
         let mut writer = self;
         writer.writing = true;
         writer.next = 0;
