@@ -6,6 +6,7 @@ ghost use lib.ListN.{length, take, drop};
 ghost use Rattle.store.specs.Facts.{StoreArea, GroupRecordsOk};
 use crate::blocks;
 use crate::hash;
+use crate::structs;
 use group::BlockAddr;
 use store::Got;
 use store::OrdFound;
@@ -23,7 +24,7 @@ const LENGTH: usize = 8;
 
 const RECORD: usize = 36;
 
-fn marks(area: &[u8]) -> bool {
+pub fn marks(area: &[u8]) -> bool {
     let mut i = 0;
     while i < area.len() {
         if area[i] != MARK {
@@ -141,6 +142,9 @@ pub fn same_store(numbers: &[u64], bytes: &[u8], out: &mut [u8]) -> bool
     if !check::same(&out[PLACE..end], bytes) {
         return false;
     }
+    if !structs::is_stored(area, n, bytes) {
+        return false;
+    }
     gets_all(&out[PLACE..end], area, n)
 }
 
@@ -165,6 +169,9 @@ pub fn same_large(numbers: &[u64], out: &mut [u8]) -> bool
     }
     let end = PLACE + len;
     if hash::fnv1a(&out[PLACE..end]) != numbers[3] {
+        return false;
+    }
+    if !structs::is_stored(&area, n, &out[PLACE..end]) {
         return false;
     }
     gets_all(&out[PLACE..end], &area, n)

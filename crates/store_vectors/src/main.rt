@@ -2,6 +2,7 @@
 mod blocks;
 mod cases;
 mod hash;
+mod structs;
 
 ghost use Prim.Native.Nat.{_≤_};
 ghost use lib.ListN.{length};

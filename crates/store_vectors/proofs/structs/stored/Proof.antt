@@ -62,7 +62,7 @@ use Rattle.store_vectors.proofs.structs.stored.Code as code
 use Rattle.store_vectors.proofs.structs.stored.Code.Mir as mir
 
 abbrev Records : RattleType
-Records = Array B.the-row 512
+Records = Array B.the-row 1000
 
 abbrev stayed : Stays (f.ended .signature .params) (f.ended .kept)
 stayed = (stay-none (λ _. Records) yes, (stay-none (λ _. usize) yes, (gave-slice (0 ∷ []) tt (plain (λ _. u8)), tt)))
@@ -75,7 +75,7 @@ abbrev word : Ty
 word = tyInt w64
 
 abbrev array : Ty
-array = tyArray B′.mir 512
+array = tyArray B′.mir 1000
 
 abbrev arrayRef : Ty
 arrayRef = tyRef erased imm (pointee (Records .written))
@@ -190,20 +190,20 @@ module _ {M : Type 1} (𝓤 : URA M) (H : Heap 𝓤) (A : Atoms 𝓤) (W : Given
       nothing ! $ move ! (3 ∷ 0 ∷ []) $ fjoin ! $ move ! (2 ∷ 0 ∷ []) $ fjoin ! $ move ! (1 ∷ 0 ∷ []) $ join ! $ nothing ! $ move ! (1 ∷ 0 ∷ []) $ done !
 
   module _ (C : Calls 𝓤 H) (Λ : Loops 𝓤 H) (fm : FmC 𝓤 H (W .laws) C) (known : Triple 𝓤 (C #serialize) (Serialize 𝓤 H A mem run)) where
-    walk-named : Is Records recs (record-vals recs) → Room u8 m → n ≤ 512 → ent 𝓤 (onEntry 𝓤 H A f.signature (κ, tt) (q, tt) x at) (WpFn 𝓤 H C Λ named-types (record-vals recs ++ (vint w64 n ∷ sliceVal (c, p) m ∷ [])) Post)
+    walk-named : Is Records recs (record-vals recs) → Room u8 m → n ≤ 1000 → ent 𝓤 (onEntry 𝓤 H A f.signature (κ, tt) (q, tt) x at) (WpFn 𝓤 H C Λ named-types (record-vals recs ++ (vint w64 n ∷ sliceVal (c, p) m ∷ [])) Post)
     walk-named is gm few =
         qed W ((‵ (flft κ q) ⊛ ‵ ftrue) ∷ ‵ (owns (Records ∷ usize ∷ MutSlice (named 0) κ u8 ∷ []) x at) ∷ []) ∵ enter ! C Λ named-types (record-vals recs ++ (vint w64 n ∷ sliceVal (c, p) m ∷ [])) _ $
         alloc1 ! (λ l₀. alloc1 ! (λ l₁. alloc1 ! (λ l₂. alloc1 ! (λ l₃. alloc1 ! (λ l₄. alloc1 ! (λ l₅. alloc1 ! (λ l₆. alloc1 ! (λ l₇. alloc1 ! (λ l₈. alloc0 ! $ params1 ! $
-        pass1 ! (init ! 14 refl (array-lawful 𝓤 H A W B.the-row (LL.lawful B.the-type B′.the-laws 𝓤 H A W) 512 .typed recs (record-vals recs) is .0)) $ pass1 ! (init ! 12 refl (tt, record { fits = fit-n })) $ pass1 ! (init ! 10 refl (tt, (tt, (record { fits = gm .0 }, tt)))) $ pass0 ! $
+        pass1 ! (init ! 14 refl (array-lawful 𝓤 H A W B.the-row (LL.lawful B.the-type B′.the-laws 𝓤 H A W) 1000 .typed recs (record-vals recs) is .0)) $ pass1 ! (init ! 12 refl (tt, record { fits = fit-n })) $ pass1 ! (init ! 10 refl (tt, (tt, (record { fits = gm .0 }, tt)))) $ pass0 ! $
         -- [_8; …; _0; …; the token; what the parameters own]: local i stands at 2 · (8 - i)
-        assigns ! (of-opd ! (load ! (from ! (stop !)) (look ! 14 refl))) (from ! (stop !)) (init ! 8 refl (array-lawful 𝓤 H A W B.the-row (LL.lawful B.the-type B′.the-laws 𝓤 H A W) 512 .typed recs (record-vals recs) is .0)) $
+        assigns ! (of-opd ! (load ! (from ! (stop !)) (look ! 14 refl))) (from ! (stop !)) (init ! 8 refl (array-lawful 𝓤 H A W B.the-row (LL.lawful B.the-type B′.the-laws 𝓤 H A W) 1000 .typed recs (record-vals recs) is .0)) $
         assigns ! (addr ! (from ! (stop !))) (from ! (stop !)) (init ! 6 refl (tt, tt)) $
         assigns ! (agg ! (and-then ! (load ! (from ! (stop !)) (look ! 6 refl)) (and-then ! (load ! (from ! (stop !)) (look ! 12 refl)) (no-more !)))) (from ! (stop !)) (init ! 4 refl (tt, (tt, (record { fits = fit-n }, tt)))) $
         assigns ! (addr ! (from ! (fld ! refl (hop ! (look-in ! 10 (sub ! 0 refl (whole !))) (stop !))))) (from ! (stop !)) (init ! 2 refl (tt, tt)) $
         assigns ! (agg ! (and-then ! (load ! (from ! (stop !)) (look ! 2 refl)) (and-then ! (load ! (from ! (fld ! refl (stop !))) (look-in ! 10 (sub ! 1 refl (whole !)))) (no-more !)))) (from ! (stop !)) (init ! 0 refl (tt, (tt, (record { fits = gm .0 }, tt)))) $
-        move ! (19 ∷ []) $ fsplit ! $ use1 W (‵ ownR ⊛ ‵ ownR) (array-copy 𝓤 H A W B.the-row (LL.copy B.the-type B′.the-copy 𝓤 H A W) 512 .twice recs (record-vals recs)) $ split ! $
+        move ! (19 ∷ []) $ fsplit ! $ use1 W (‵ ownR ⊛ ‵ ownR) (array-copy 𝓤 H A W B.the-row (LL.copy B.the-type B′.the-copy 𝓤 H A W) 1000 .twice recs (record-vals recs)) $ split ! $
         -- [records; records; what n and out own; _8; …]: the array is a row, of which the front is lent
-        move ! (11 ∷ 0 ∷ []) $ use2 W (‵ (row B.the-row fullShare recs l₄ 0)) (apart 𝓤 H A W B.the-row 512 tt l₄ recs (only (record-vals recs))) $
+        move ! (11 ∷ 0 ∷ []) $ use2 W (‵ (row B.the-row fullShare recs l₄ 0)) (apart 𝓤 H A W B.the-row 1000 tt l₄ recs (only (record-vals recs))) $
         use1 W (‵ (front 𝓤 H A W B.the-row l₄ n recs 0) ⊛ ‵ (back 𝓤 H A W B.the-row l₄ n recs 0)) (parted 𝓤 H A W B.the-row l₄ n recs 0) $ split ! $
         feqI ! ℕ (length ys) (length ys) refl $ fjoin ! $ lft-new ! tt (λ β. move ! (1 ∷ []) $
         use1 W (later (some (λ (ε : GName). ‵ (ShrSlice (named 0) (β ∷ []) B.the-row .own (lent l₄ 0 ε ys) (sliceVal (l₄, 0) (length ys) ∷ [])) ⊛ ‵ (flent (β ∷ []) (arr-parts (shares B.the-row) (length ys) .part fullShare ys l₄ 0)))))
@@ -223,14 +223,14 @@ module _ {M : Type 1} (𝓤 : URA M) (H : Heap 𝓤) (A : Atoms 𝓤) (W : Given
         move ! (1 ∷ []) $ split ! $
         -- [β; the token; the result; the last list; true; true; n; the lender's part; the others; records; _8; …]: the row is back, and is room
         lft-end ! tt $ move ! (0 ∷ 7 ∷ []) $ lent-back ! tt $ fsplit ! $ drop ! $ move ! (0 ∷ 7 ∷ []) $ use2 W (‵ (row B.the-row fullShare recs l₄ 0)) (rejoined 𝓤 H A W B.the-row l₄ n recs 0) $
-        use1 W (‵ (froom array l₄ 0)) (emptied 𝓤 H A W B.the-row 512 l₄ recs full) $
+        use1 W (‵ (froom array l₄ 0)) (emptied 𝓤 H A W B.the-row 1000 l₄ recs full) $
         -- [room for _4; the token; the result; the last list; true; true; n; records; _8; …]
         returns ! (look ! 23 refl) $ forget ! 8 refl $ forget ! 10 refl $ forget ! 12 refl $ forget ! 14 refl $ forget ! 17 refl $ forget ! 19 refl $ forget ! 21 refl $ forget ! 23 refl $
         move ! (23 ∷ 24 ∷ []) $ free1 ! $ move ! (21 ∷ 22 ∷ []) $ free1 ! $ move ! (19 ∷ 20 ∷ []) $ free1 ! $ move ! (17 ∷ 18 ∷ []) $ free1 ! $ move ! (0 ∷ 16 ∷ []) $ free1 ! $
         move ! (13 ∷ 14 ∷ []) $ free1 ! $ move ! (11 ∷ 12 ∷ []) $ free1 ! $ move ! (9 ∷ 10 ∷ []) $ free1 ! $ move ! (7 ∷ 8 ∷ []) $ free1 ! $ free0 ! $
         keep ! (0 ∷ 1 ∷ 2 ∷ 5 ∷ 6 ∷ []) $ by ! (exits r v (zs .1 .0) e same))))))))))))))))))
       where
-        full : length recs ≡ 512
+        full : length recs ≡ 1000
         full = is .1 .0 .1
 
         long : length ys ≡ n
@@ -242,13 +242,13 @@ module _ {M : Type 1} (𝓤 : URA M) (H : Heap 𝓤) (A : Atoms 𝓤) (W : Given
         room : Room B.the-row (length ys)
         room = (omega (arith, few, long), omega (arith, few, long))
 
-    walk : Is Records recs (record-vals recs) → Room u8 m → n ≤ 512 → ent 𝓤 (onEntry 𝓤 H A f.signature (κ, tt) (q, tt) x at) (WpFn 𝓤 H C Λ code.function (record-vals recs ++ (vint w64 n ∷ sliceVal (c, p) m ∷ [])) Post)
+    walk : Is Records recs (record-vals recs) → Room u8 m → n ≤ 1000 → ent 𝓤 (onEntry 𝓤 H A f.signature (κ, tt) (q, tt) x at) (WpFn 𝓤 H C Λ code.function (record-vals recs ++ (vint w64 n ∷ sliceVal (c, p) m ∷ [])) Post)
     walk is gm few = subst (λ (fn : Fn). ent 𝓤 (onEntry 𝓤 H A f.signature (κ, tt) (q, tt) x at) (WpFn 𝓤 H C Λ fn (record-vals recs ++ (vint w64 n ∷ sliceVal (c, p) m ∷ [])) Post)) (sym same-code) (walk-named is gm few)
 
 module _ {M : Type 1} (𝓤 : URA M) (H : Heap 𝓤) (A : Atoms 𝓤) (W : Given 𝓤 H A) (mem : Memory → SProp 𝓤) (run : Routine → Fun 𝓤) (𝓣 : Tables 𝓤 H) (known : Triple 𝓤 (𝓣 .C #serialize) (Serialize 𝓤 H A mem run)) where
   walks : Walks 𝓤 H A f.ended stayed (WpFn 𝓤 H (𝓣 .C) (𝓣 .Λ) code.function) (f.clauses 𝓤 H A mem run)
   walks = walked 𝓤 H A f.ended stayed (f.clauses 𝓤 H A mem run) (WpFn 𝓤 H (𝓣 .C) (𝓣 .Λ) code.function) (λ κs. (record-vals, (uint-vals w64, (slice-vals, tt))))
-      (λ κs. (array-tells B.the-row (LL.vals B.the-type B′.the-laws) (LL.tells B.the-type B′.the-laws) 512, (uint-tells w64, (mut-slice-tells (named 0) (κs .0) u8, tt))))
+      (λ κs. (array-tells B.the-row (LL.vals B.the-type B′.the-laws) (LL.tells B.the-type B′.the-laws) 1000, (uint-tells w64, (mut-slice-tells (named 0) (κs .0) u8, tt))))
       (λ κs qs bounds a g are. needs 𝓤 _ _
       (walk 𝓤 H A W mem run (κs .0) (qs .0) (a .0) (a .1 .0) (a .1 .1 .0 .ptr .0) (a .1 .1 .0 .ptr .1) (a .1 .1 .0 .name) (a .1 .1 .0 .now) (𝓣 .C) (𝓣 .Λ) (fmOf 𝓤 H (W .laws) 𝓣) known (are .0) (are .1 .1 .0 .0 .1)))
 
