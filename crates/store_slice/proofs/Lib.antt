@@ -7,5 +7,6 @@ pub mod First
 pub mod Kept
 pub mod Scan
 pub mod Second
+pub mod Sized
 pub mod Taken
 pub mod Window

@@ -89,8 +89,7 @@ loop-again : tie.Need-loop-again Inv-loop μ-loop
 loop-again c =
     let start = c .before .before .before .before .before .before .before .before .before .before .before .before .before .before .before .before .before .before .before .before .before .before in
     let done = not-true (c .before .before .before .before .before .before .before .before .before .before .before .before .before .before .loop .writer .done) (c .before .before .before .before .before .before .before .before .before .before .before .before .if1 .taken) in
-    let is = c .before .before .before .before .before .before .before .before .before .before .record-of .ensures ∙ sym (record-at (start .args .blocks .now) (c .before .before .before .before .before .before .before .before .before .before .before .before .before .before .loop .writer .next)) in
-    (
+    let is = c .before .before .before .before .before .before .before .before .before .before .record-of .ensures ∙ sym (record-at (start .args .blocks .now) (c .before .before .before .before .before .before .before .before .before .before .before .before .before .before .loop .writer .next)) in (
       λ entry before.
           c .before .before .before .before .before .before .write-block-meta .ensures (start .args .group-len) (blocksOfNumbers (start .args .blocks .now)) entry (c .before .before .before .before .before .before .before .before .before .before .before .before .before .before .loop .inv .0 entry before) done is .0,
       search needs,
