@@ -1,6 +1,5 @@
 -- Areas of fixed lengths have room for the groups of so many records.
 use Prim.Native.Nat.{ℕ, _-_, _*_, _≤_, min}
-use mathlib.Core.Path.{_≡_}
 use mathlib.Core.List.{List}
 use mathlib.Core.Logic.{⊎-elim}
 use native.Mathlib.Nat.{mul-le-mul, le-refl, eq-zero-or-pos}

@@ -5,9 +5,6 @@ use lib.ListN.{length}
 use Rattle.store_slice.proofs.Sized.{sized}
 use Rattle.store_slice.proofs.numbers.serialize.Statement.{statement}
 use Rattle.store_slice.proofs.numbers.serialize.Tie as tie
-use Rattle.store_slice.proofs.numbers.serialize.Reads as reads
-use Rattle.store_slice.proofs.numbers.serialize.Lts as lts
-use Rattle.store_slice.proofs.numbers.serialize_with.Reads as serialize-with-reads
 
 slice-aggregate-serialize-with : tie.Need-slice-aggregate-serialize-with
 slice-aggregate-serialize-with c = search needs
