@@ -14,13 +14,13 @@ use Rattle.group.specs.Blocks.{blockOf}
 use Rattle.store.specs.Plans.{groupPlan}
 use Rattle.store.proofs.Groups.{group-count-le}
 use Rattle.store_slice.specs.Records.{seenNo}
-use Rattle.store_slice.specs.Steps.{put, heldWith, groupIn, bitsIn, Plannable, Writable, flushedWith, Flushed, endedWith, secondRound, plannedLen, RoundEnded}
-use Rattle.store_slice.specs.Writer.{Held, Looked, Written, Looking, Writing, Ended, ProgressBy, Progress, turnsLeft}
+use Rattle.store_slice.specs.Steps.{put, heldWith, groupIn, bitsIn, Few, Plannable, Writable, flushedWith, Flushed, endedWith, secondRound, plannedLen, RoundEnded}
+use Rattle.store_slice.specs.Writer.{Held, Looked, Written, Ended, ProgressBy, Progress, turnsLeft}
 use Rattle.store_slice.specs.declared.writer.BlockAddrStoreWriter.{BlockAddrStoreWriter}
 use Rattle.store_slice.proofs.Filled.{Filled, Behind, hold-room, filled, held-again, held-anew, behind, group-inside}
 use Rattle.store_slice.proofs.First.{looked-hold, looked-refused, plannable, looked-planned}
 use Rattle.store_slice.proofs.Second.{written-hold, writable, written-next}
-use Rattle.store_slice.proofs.Ends.{end-refused, end-small, end-short, end-none, end-again, end-written}
+use Rattle.store_slice.proofs.Ends.{end-refused, end-few, end-short, end-none, end-again, end-written}
 use Rattle.store_slice.proofs.Taken.{not-both}
 
 -- what a round has come to, whichever it is
@@ -179,9 +179,9 @@ module _ {L : ℕ} {bs : List BlockAddr} {out₀ : List ℕ} {w : BlockAddrStore
 -- ---- the round ends
 
 module _ {L : ℕ} {bs : List BlockAddr} {out₀ : List ℕ} {w : BlockAddrStoreWriter} {window kept out : List ℕ} (state : Over L bs out₀ w window kept out) where
-  pub may-end : w .writing ≡ false → seenNo (w .seen) (w .n) ≡ 0 → (w .g ≤ 65536) × (w .offset ≤ 3577 * w .g)
+  pub may-end : w .writing ≡ false → seenNo (w .seen) (w .n) ≡ 0 → Few w
   may-end e none =
-      ⊎-elim (λ first. end-small (state .behind) (first .1) none) (λ second. absurd (not-both (second .0) e)) (state .round)
+      ⊎-elim (λ first. end-few (state .behind) (first .1) none) (λ second. absurd (not-both (second .0) e)) (state .round)
 
   module _ {r : BlockAddrStoreWriter} {out′ : List ℕ} (ended : RoundEnded w out r out′) where
     abbrev Goal : Type 0

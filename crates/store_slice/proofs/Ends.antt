@@ -4,7 +4,7 @@ use mathlib.Core.Path.{_≡_, refl, sym, ap, _∙_}
 use mathlib.Core.List.{List}
 use native.Mathlib.Nat.{add-zero, sub-zero, mul-zero}
 use native.Mathlib.Omega.{arith}
-use lib.ListN.{length, take, drop}
+use lib.ListN.{length}
 use lib.Seq.{sets, length-sets, take-all}
 use Rattle.layout.specs.Layout.{metaLen}
 use Rattle.serialize.specs.Digits.{leBytes}
@@ -16,7 +16,7 @@ use Rattle.store.proofs.Groups.{group-count-zero, group-count-le}
 use Rattle.store.proofs.Stored.{length-storeBytes, sets-store}
 use Rattle.store_slice.specs.Slice.{blockListNo}
 use Rattle.store_slice.specs.Records.{seenNone, seenAll, seenNo}
-use Rattle.store_slice.specs.Steps.{endedWith, secondRound, plannedLen}
+use Rattle.store_slice.specs.Steps.{Few, endedWith, secondRound, plannedLen}
 use Rattle.store_slice.specs.Writer.{Looked, Written, Writing, Ended}
 use Rattle.store_slice.specs.declared.rows.Seen.{Seen}
 use Rattle.store_slice.specs.declared.writer.BlockAddrStoreWriter.{BlockAddrStoreWriter}
@@ -46,9 +46,11 @@ module _ {L : ℕ} {bs : List BlockAddr} {out₀ : List ℕ} {w : BlockAddrStore
       planned : seenNo (w .seen) (length bs) ≡ 0
       planned = ap (seenNo (w .seen)) (sym (behind .count)) ∙ none
 
-      pub end-small : (w .g ≤ 65536) × (w .offset ≤ 3577 * w .g)
-      end-small =
-          (omega (arith, behind .groups, group-count-le (behind .len .some) (length bs), seen-few (w .seen) (length bs) planned), looked .small)
+      pub end-few : Few w
+      end-few = record {
+        groups = omega (arith, behind .groups, group-count-le (behind .len .some) (length bs), seen-few (w .seen) (length bs) planned);
+        bytes = looked .small;
+      }
 
       len-is : plannedLen w ≡ length (storeBytes bestSlope L bs)
       len-is =

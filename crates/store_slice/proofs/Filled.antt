@@ -1,16 +1,15 @@
 -- The window between two records: one is put into it, then it is taken as a group or the next one comes.
-use Prim.Native.Nat.{ℕ, suc, _+_, _-_, _*_, _≤_, _<_, min}
+use Prim.Native.Nat.{ℕ, suc, _+_, _-_, _*_, _≤_, _<_}
 use mathlib.Core.Path.{_≡_, refl, sym, ap, _∙_}
 use mathlib.Core.List.{List}
 use mathlib.Core.Logic.{⊎-elim}
-use native.Mathlib.Nat.{zero-add, mul-suc, eq-zero-or-pos, lt-of-mul-lt-mul-left, mul-le-mul-left}
+use native.Mathlib.Nat.{mul-suc, eq-zero-or-pos, lt-of-mul-lt-mul-left}
 use native.Mathlib.Numerals.{add-one}
 use native.Mathlib.Omega.{arith}
 use lib.ListN.{length, take, drop, length-drop}
 use lib.Seq.{getD-take, getD-drop}
-use Rattle.layout.specs.Layout.{maxBlocks}
 use Rattle.group.specs.declared.BlockAddr.{BlockAddr}
-use Rattle.group.specs.Blocks.{noBlock, blockOf, blockAt, blocksAt}
+use Rattle.group.specs.Blocks.{noBlock, blockOf, blocksAt}
 use Rattle.group.specs.Legal.{Legal}
 use Rattle.group.specs.Facts.{GroupArea}
 use Rattle.group.proofs.Blocks.{blocksAt-at, legal-same}

@@ -11,7 +11,6 @@ use Rattle.slope.specs.Slope.{bestSlope}
 use Rattle.group.specs.declared.BlockAddr.{BlockAddr}
 use Rattle.group.specs.Blocks.{blockOf}
 use Rattle.group.specs.Facts.{GroupArea}
-use Rattle.store.specs.Store.{addrs}
 use Rattle.store.specs.Plans.{groupPlan, plans, StandsAt}
 use Rattle.store.proofs.Groups.{group-count-le}
 use Rattle.store.proofs.Plans.{plans-add, length-plans, length-groupPlan}
@@ -78,8 +77,7 @@ module _ {L : ℕ} {bs : List BlockAddr} {out₀ : List ℕ} {w : BlockAddrStore
     plannable = record {
       group = area;
       room = omega (arith, full .rooms .plans few-records, group-inside full);
-      few = omega (arith, group-inside full, group-count-le (full .len .some) (length bs), few-records);
-      small = looked .small;
+      few = record { groups = omega (arith, group-inside full, group-count-le (full .len .some) (length bs), few-records); bytes = looked .small };
     }
 
     -- it is planned

@@ -9,5 +9,6 @@ pub mod Kept
 pub mod Lent
 pub mod Scan
 pub mod Second
+pub mod Sized
 pub mod Taken
 pub mod Window

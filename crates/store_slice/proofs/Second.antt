@@ -1,6 +1,6 @@
 -- The second round: a group that was planned is written, and what is left is the rest.
 use Prim.Native.Nat.{ℕ, suc, _+_, _-_, _*_, _≤_, _<_}
-use mathlib.Core.Path.{_≡_, refl, sym, ap, _∙_}
+use mathlib.Core.Path.{_≡_, refl, ap, _∙_}
 use mathlib.Core.List.{List, _++_}
 use native.Mathlib.Nat.{add-assoc, mul-suc, mul-add}
 use native.Mathlib.Numerals.{add-one}
@@ -10,7 +10,6 @@ use lib.Seq.{sets, length-sets, drop-drop}
 use Rattle.layout.specs.Layout.{metaLen}
 use Rattle.slope.specs.Slope.{bestSlope}
 use Rattle.group.specs.declared.BlockAddr.{BlockAddr}
-use Rattle.group.specs.Facts.{GroupArea}
 use Rattle.store.specs.Store.{groupCount, groupRecord, groupAddrs, groupRecords, addrs, storeBytes}
 use Rattle.store.specs.Plans.{groupPlan, plans, StandsAt}
 use Rattle.store.proofs.Groups.{group-count-below}

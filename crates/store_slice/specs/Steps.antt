@@ -46,11 +46,15 @@ groupIn w window = blocksAt window 3 0 (w .held)
 abbrev pub bitsIn : BlockAddrStoreWriter → List ℕ → List ℕ
 bitsIn w window = groupAddrs bestSlope (groupIn w window)
 
+-- few groups, of whose bits each takes at most 3,577 bytes
+pub record Few (w : BlockAddrStoreWriter) : Type 0 where
+  pub groups : w .g ≤ maxBlocks
+  pub bytes : w .offset ≤ 3577 * w .g
+
 pub record Plannable (w : BlockAddrStoreWriter) (window kept : List ℕ) : Type 0 where
   pub group : GroupArea window 3 0 (w .held)
   pub room : 2 * w .g + 2 ≤ length kept
-  pub few : w .g ≤ maxBlocks
-  pub small : w .offset ≤ 3577 * w .g
+  pub few : Few w
 
 pub record Writable (w : BlockAddrStoreWriter) (window kept out : List ℕ) : Type 0 where
   pub group : GroupArea window 3 0 (w .held)

@@ -8,7 +8,7 @@ ghost use lib.ListN.{length};
 ghost use Rattle.group.specs.declared.BlockAddr.{BlockAddr as Block};
 ghost use Rattle.store.specs.Facts.{GroupLenOk};
 ghost use Rattle.store_slice.specs.Records.{seenNo};
-ghost use Rattle.store_slice.specs.Steps.{put, heldWith, Plannable, Writable, Flushed, RoundEnded, endedWith, secondRound};
+ghost use Rattle.store_slice.specs.Steps.{put, heldWith, Few, Plannable, Writable, Flushed, RoundEnded, endedWith, secondRound};
 ghost use Rattle.store_slice.specs.Writer.{Rooms, Progress, Handed, Advances};
 use crate::rows::OUT_SHORT;
 use crate::rows::Seen;
@@ -115,7 +115,8 @@ impl BlockAddrStoreWriter {
     fn flush_block(self, window: &[u64], kept: &mut [u64], out: &mut [u8]) -> BlockAddrStoreWriter
         requires { ⌜ (self .g < self .n) × (self .writing ≡ true → Writable self (now window) (now kept) (now out))
             × (self .writing ≡ false → seenNo (self .seen) (self .n) ≡ 0 → Plannable self (now window) (now kept)) ⌝ }
-        ensures { λ r. ⌜ Flushed self (now (window .entry)) (now (kept .entry)) (now (out .entry)) r (now (kept .exit)) (now (out .exit)) ⌝ }
+        ensures { λ r. ⌜ Flushed self (now (window .entry)) (now (kept .entry)) (now (out .entry)) r (now (kept .exit))
+            (now (out .exit)) ⌝ }
     {
         let mut flushed = self;
         flushed.held = 0;
@@ -146,7 +147,7 @@ impl BlockAddrStoreWriter {
 
     // After the last record: the first round answers a row, or begins the second.
     fn end_round(self, out: &mut [u8]) -> BlockAddrStoreWriter
-        requires { ⌜ (self .writing ≡ false → seenNo (self .seen) (self .n) ≡ 0 → (self .g ≤ 65536) × (self .offset ≤ 3577 * self .g)) ⌝ }
+        requires { ⌜ (self .writing ≡ false → seenNo (self .seen) (self .n) ≡ 0 → Few self) ⌝ }
         ensures { λ r. ⌜ RoundEnded self (now (out .entry)) r (now (out .exit)) ⌝ }
     {
         if self.writing {

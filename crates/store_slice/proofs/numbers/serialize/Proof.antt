@@ -1,67 +1,59 @@
+-- `store_slice::numbers::serialize` meets its contract: each pair of areas has room.
 use borrow.Author.Needs.{needs}
+use native.Mathlib.Omega.{arith}
+use lib.ListN.{length}
+use Rattle.store_slice.proofs.Sized.{sized}
 use Rattle.store_slice.proofs.numbers.serialize.Statement.{statement}
 use Rattle.store_slice.proofs.numbers.serialize.Tie as tie
-use Rattle.store_slice.proofs.numbers.serialize.Reads as reads
-use Rattle.store_slice.proofs.numbers.serialize.Lts as lts
-use Rattle.store_slice.proofs.numbers.serialize_with.Reads as serialize-with-reads
 
--- src/numbers.rt:62:50
 slice-aggregate-serialize-with : tie.Need-slice-aggregate-serialize-with
 slice-aggregate-serialize-with c = search needs
 
--- src/numbers.rt:62:63
 slice-aggregate-serialize-with-2 : tie.Need-slice-aggregate-serialize-with-2
 slice-aggregate-serialize-with-2 c = search needs
 
--- src/numbers.rt:62:9
 serialize-with-requires : tie.Need-serialize-with-requires
-serialize-with-requires c κs = ?
+serialize-with-requires c κs =
+    let start = c .before .before .before .before .before in
+    sized (start .args .group-len) (length (start .args .blocks .now)) 1 _ _ (start .pre) (omega arith) (λ h. omega arith) (omega arith)
 
--- src/numbers.rt:62:9
 same-length : tie.Need-same-length
 same-length c = search needs
 
--- src/numbers.rt:62:9
 returns : tie.Need-returns
 returns c = search needs
 
--- src/numbers.rt:67:50
 slice-aggregate-serialize-with-3 : tie.Need-slice-aggregate-serialize-with-3
 slice-aggregate-serialize-with-3 c = search needs
 
--- src/numbers.rt:67:63
 slice-aggregate-serialize-with-4 : tie.Need-slice-aggregate-serialize-with-4
 slice-aggregate-serialize-with-4 c = search needs
 
--- src/numbers.rt:67:9
 serialize-with-requires-2 : tie.Need-serialize-with-requires-2
-serialize-with-requires-2 c κs = ?
+serialize-with-requires-2 c κs =
+    let start = c .before .before .before .before .before .before in
+    sized (start .args .group-len) (length (start .args .blocks .now)) 8 _ _ (start .pre) (omega arith) (λ h. omega arith) (omega arith)
 
--- src/numbers.rt:67:9
 same-length-2 : tie.Need-same-length-2
 same-length-2 c = search needs
 
--- src/numbers.rt:67:9
 returns-2 : tie.Need-returns-2
 returns-2 c = search needs
 
--- src/numbers.rt:71:39
 slice-aggregate-serialize-with-5 : tie.Need-slice-aggregate-serialize-with-5
 slice-aggregate-serialize-with-5 c = search needs
 
--- src/numbers.rt:71:52
 slice-aggregate-serialize-with-6 : tie.Need-slice-aggregate-serialize-with-6
 slice-aggregate-serialize-with-6 c = search needs
 
--- src/numbers.rt:71:5
 serialize-with-requires-3 : tie.Need-serialize-with-requires-3
-serialize-with-requires-3 c κs = ?
+serialize-with-requires-3 c κs =
+    let start = c .before .before .before .before .before .before in
+    sized (start .args .group-len) (length (start .args .blocks .now)) 512 _ _ (start .pre) (omega arith) (λ h. omega arith) (omega arith)
 
--- src/numbers.rt:54:1
 same-length-3 : tie.Need-same-length-3
 same-length-3 c = search needs
 
--- src/numbers.rt:54:1
 returns-3 : tie.Need-returns-3
 returns-3 c = search needs
 

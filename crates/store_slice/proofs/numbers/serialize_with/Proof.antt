@@ -12,11 +12,6 @@ use Rattle.store_slice.specs.Writer.{Progress, turnsLeft}
 use Rattle.store_slice.proofs.Advance.{more-to-come, ended-progress}
 use Rattle.store_slice.proofs.numbers.serialize_with.Statement.{statement}
 use Rattle.store_slice.proofs.numbers.serialize_with.Tie as tie
-use Rattle.store_slice.proofs.numbers.serialize_with.Reads as reads
-use Rattle.store_slice.proofs.numbers.serialize_with.Lts as lts
-use Rattle.store_slice.proofs.numbers.record_of.Reads as record-of-reads
-use Rattle.store_slice.proofs.writer.BlockAddrStoreWriter.new.Reads as new-reads
-use Rattle.store_slice.proofs.writer.BlockAddrStoreWriter.write_block_meta.Reads as write-block-meta-reads
 
 record-at : (xs : List (List ℕ)) (i : ℕ) → blockOf (blocksOfNumbers xs) i ≡ blockOfNumbers (getD xs i [])
 record-at xs i = List·getD-map blockOfNumbers xs i []
@@ -89,8 +84,7 @@ loop-again : tie.Need-loop-again Inv-loop μ-loop
 loop-again c =
     let start = c .before .before .before .before .before .before .before .before .before .before .before .before .before .before .before .before .before .before .before .before .before .before in
     let done = not-true (c .before .before .before .before .before .before .before .before .before .before .before .before .before .before .loop .writer .done) (c .before .before .before .before .before .before .before .before .before .before .before .before .if1 .taken) in
-    let is = c .before .before .before .before .before .before .before .before .before .before .record-of .ensures ∙ sym (record-at (start .args .blocks .now) (c .before .before .before .before .before .before .before .before .before .before .before .before .before .before .loop .writer .next)) in
-    (
+    let is = c .before .before .before .before .before .before .before .before .before .before .record-of .ensures ∙ sym (record-at (start .args .blocks .now) (c .before .before .before .before .before .before .before .before .before .before .before .before .before .before .loop .writer .next)) in (
       λ entry before.
           c .before .before .before .before .before .before .write-block-meta .ensures (start .args .group-len) (blocksOfNumbers (start .args .blocks .now)) entry (c .before .before .before .before .before .before .before .before .before .before .before .before .before .before .loop .inv .0 entry before) done is .0,
       search needs,

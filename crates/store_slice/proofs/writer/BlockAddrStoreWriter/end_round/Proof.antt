@@ -8,12 +8,6 @@ use Rattle.store_slice.specs.Steps.{endedWith}
 use Rattle.store_slice.proofs.Taken.{not-both}
 use Rattle.store_slice.proofs.writer.BlockAddrStoreWriter.end_round.Statement.{statement}
 use Rattle.store_slice.proofs.writer.BlockAddrStoreWriter.end_round.Tie as tie
-use Rattle.store_slice.proofs.writer.BlockAddrStoreWriter.end_round.Reads as reads
-use Rattle.store_slice.proofs.writer.BlockAddrStoreWriter.end_round.Lts as lts
-use Rattle.serialize.proofs.serialize_u64.Reads as serialize-u64-reads
-use Rattle.store_slice.proofs.rows.Seen.no.Reads as no-reads
-use Rattle.store_slice.proofs.writer.BlockAddrStoreWriter.ended.Reads as ended-reads
-use Rattle.store_slice.proofs.writer.BlockAddrStoreWriter.second_round.Reads as second-round-reads
 
 ended-requires : tie.Need-ended-requires
 ended-requires c κs = search needs

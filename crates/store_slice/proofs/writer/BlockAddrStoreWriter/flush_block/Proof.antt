@@ -8,11 +8,6 @@ use Rattle.store_slice.specs.Steps.{flushedWith}
 use Rattle.store_slice.proofs.Taken.{not-both, group-few}
 use Rattle.store_slice.proofs.writer.BlockAddrStoreWriter.flush_block.Statement.{statement}
 use Rattle.store_slice.proofs.writer.BlockAddrStoreWriter.flush_block.Tie as tie
-use Rattle.store_slice.proofs.writer.BlockAddrStoreWriter.flush_block.Reads as reads
-use Rattle.store_slice.proofs.writer.BlockAddrStoreWriter.flush_block.Lts as lts
-use Rattle.store.proofs.write.plan_group.Reads as plan-group-reads
-use Rattle.store.proofs.write.write_group.Reads as write-group-reads
-use Rattle.store_slice.proofs.rows.Seen.no.Reads as no-reads
 
 add-flushed : tie.Need-add-flushed
 add-flushed c = search needs

@@ -8,9 +8,6 @@ use native.Mathlib.Omega.{arith}
 use lib.ListN.{set, length-set}
 use Rattle.store_slice.proofs.writer.BlockAddrStoreWriter.hold.Statement.{statement}
 use Rattle.store_slice.proofs.writer.BlockAddrStoreWriter.hold.Tie as tie
-use Rattle.store_slice.proofs.writer.BlockAddrStoreWriter.hold.Reads as reads
-use Rattle.store_slice.proofs.writer.BlockAddrStoreWriter.hold.Lts as lts
-use Rattle.store_slice.proofs.rows.Seen.with.Reads as with-reads
 
 mul-at : tie.Need-mul-at
 mul-at c = search needs

@@ -6,10 +6,6 @@ use native.Mathlib.Nat.{eq-zero-or-pos}
 use Rattle.store_slice.proofs.Begin.{begin, begin-none}
 use Rattle.store_slice.proofs.writer.BlockAddrStoreWriter.new.Statement.{statement}
 use Rattle.store_slice.proofs.writer.BlockAddrStoreWriter.new.Tie as tie
-use Rattle.store_slice.proofs.writer.BlockAddrStoreWriter.new.Reads as reads
-use Rattle.store_slice.proofs.writer.BlockAddrStoreWriter.new.Lts as lts
-use Rattle.store_slice.proofs.rows.Seen.none.Reads as none-reads
-use Rattle.store_slice.proofs.writer.BlockAddrStoreWriter.end_round.Reads as end-round-reads
 
 none-requires : tie.Need-none-requires
 none-requires c κs = search needs

@@ -11,11 +11,6 @@ use Rattle.store_slice.proofs.writer.BlockAddrStoreWriter.write_block_m
   statement,
 }
 use Rattle.store_slice.proofs.writer.BlockAddrStoreWriter.write_block_meta.Tie as tie
-use Rattle.store_slice.proofs.writer.BlockAddrStoreWriter.write_block_meta.Reads as reads
-use Rattle.store_slice.proofs.writer.BlockAddrStoreWriter.write_block_meta.Lts as lts
-use Rattle.store_slice.proofs.writer.BlockAddrStoreWriter.end_round.Reads as end-round-reads
-use Rattle.store_slice.proofs.writer.BlockAddrStoreWriter.flush_block.Reads as flush-block-reads
-use Rattle.store_slice.proofs.writer.BlockAddrStoreWriter.hold.Reads as hold-reads
 
 -- the group is full, or the list is at its end
 whole : (c : tie.Joined1) → c .before .before .before .before .hold .result .held < c .before .before .before .before .hold .result .«group_len»
