@@ -14,15 +14,15 @@ ghost use Rattle.builder.specs.Finish.{ruleBad, placesBad, rulesBad, lis
 ghost use Rattle.builder.specs.Finish.{finishOf, FinishedCased, finishDef};
 use crate::Finished;
 use crate::SSTableIndexBuilder;
-use crate::refusals::AREA_BAD;
-use crate::refusals::LIST_BAD;
-use crate::refusals::OUT_SHORT;
 use crate::rows::END;
 use crate::rows::FIRST_ORDINAL;
 use crate::rows::KEY_LEN;
 use crate::rows::KEY_OFFSET;
 use crate::rows::STRIDE;
 use group::BlockAddr;
+use layout::refusals::AREA_BAD;
+use layout::refusals::LIST_BAD;
+use layout::refusals::OUT_SHORT;
 
 // Whether some key doesn't start where the one before it ends, or its record breaks row 1's rule.
 fn places_bad(builder: SSTableIndexBuilder, blocks: &[u64], keys: &[u8]) -> bool

@@ -1,7 +1,6 @@
 // The index builder: `SSTableIndexBuilder` of src/index/mod.rs over two lent areas.
 mod add;
 mod finish;
-mod refusals;
 mod rows;
 mod shorten;
 
@@ -12,6 +11,8 @@ ghost use Rattle.builder.specs.Index.{standard};
 ghost use Rattle.builder.specs.Finish.{finishOf, FinishedCased, finishDef, finishLenDef};
 use group::BlockAddr;
 use layout::STORE_BLOCK_LEN;
+use layout::refusals::AREA_BAD;
+use layout::refusals::KEY_BAD;
 
 // As many blocks make 8 groups at most: their plans take a small area, so that a short list doesn't clear the large one.
 const FEW_BLOCKS: usize = 1_024;
@@ -86,7 +87,7 @@ impl SSTableIndexBuilder {
         ensures { λ r. ⌜ AnswerCased r ⌝ }
     {
         if rows::area_bad(self, blocks, keys) {
-            return Answer::Refused(refusals::AREA_BAD, self);
+            return Answer::Refused(AREA_BAD, self);
         }
         let key_no = rows::key_no(next_key);
         if key_no != 0 {
@@ -94,7 +95,7 @@ impl SSTableIndexBuilder {
         }
         let common = rows::common_len(self, blocks, keys, next_key);
         if rows::key_bad_behind(self, blocks, keys, next_key, common) {
-            return Answer::Refused(refusals::KEY_BAD, self);
+            return Answer::Refused(KEY_BAD, self);
         }
         shorten::shorten_last(self, blocks, keys, common);
         Answer::Taken(self)

@@ -19,11 +19,8 @@ use group::BlockAddr;
 use group::BlockAddrBlockMetadata;
 use group::rows::LIMIT;
 use layout::META_LEN;
-
-// Rows' numbers.
-const GROUP_BAD: u32 = 15;
-
-const BLOCK_BAD: u32 = 16;
+use layout::refusals::BLOCK_BAD;
+use layout::refusals::GROUP_BAD;
 
 // Row 15: whether one of the groups breaks its rule.
 fn groups_bad(metas: &[u8], addrs: &[u8], n: usize, group_len: usize, groups: usize) -> bool
