@@ -3,17 +3,10 @@ ghost use mathlib.Core.Path.{_≡_};
 ghost use Rattle.store_slice.specs.Records.{seenNone, seenWith, seenNo};
 use group::BlockAddr;
 use layout::MAX_BLOCKS;
-
-// Rows' numbers.
-const NUMBERS_BAD: u32 = 3;
-
-const JOIN_BAD: u32 = 4;
-
-const ORDINAL_BAD: u32 = 5;
-
-const MANY_RECORDS: u32 = 7;
-
-pub const OUT_SHORT: u32 = 9;
+use layout::refusals::JOIN_BAD;
+use layout::refusals::NUMBERS_BAD;
+use layout::refusals::ORDINAL_BAD;
+use layout::refusals::ROOM_BAD;
 
 // Whether records seen so far break rows 3, 4 and 5, and the last of them, if there is some.
 pub struct Seen {
@@ -70,7 +63,7 @@ impl Seen {
             return ORDINAL_BAD;
         }
         if n > MAX_BLOCKS {
-            return MANY_RECORDS;
+            return ROOM_BAD;
         }
         0
     }

@@ -10,10 +10,10 @@ ghost use Rattle.store.specs.Facts.{GroupLenOk};
 ghost use Rattle.store_slice.specs.Records.{seenNo};
 ghost use Rattle.store_slice.specs.Steps.{put, heldWith, Few, Plannable, Writable, Flushed, RoundEnded, endedWith, secondRound};
 ghost use Rattle.store_slice.specs.Writer.{Rooms, Progress, Handed, Advances};
-use crate::rows::OUT_SHORT;
 use crate::rows::Seen;
 use group::BlockAddr;
 use layout::META_LEN;
+use layout::refusals::OUT_SHORT;
 
 // The numbers of a record in the window.
 const STRIDE: usize = 3;
