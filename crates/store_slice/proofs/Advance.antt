@@ -82,6 +82,9 @@ module _ (L : ℕ) (bs : List BlockAddr) (out₀ : List ℕ) (w : BlockAddrStore
   pub more-to-come : w .next < length bs
   more-to-come = held .more
 
+  pub group-open : w .held < w .«group_len»
+  group-open = omega (arith, held .partial, held .group)
+
   pub may-hold : (3 * w .held + 3 ≤ length window) × (w .next < w .n)
   may-hold = (hold-room held, omega (arith, held .more, held .count))
 
@@ -217,3 +220,11 @@ module _ {L : ℕ} {bs : List BlockAddr} {out₀ : List ℕ} {w : BlockAddrStore
     ends =
         ⊎-elim (λ first. first-ends (first .0) (first .1))
         (λ second. at-end 0 (w .len) (ended .written (second .0)) (end-written (state .behind) (second .1))) (state .round)
+
+-- a record that isn't the last of its group or of the list is only held
+pub keeps-on : (L : ℕ) (bs : List BlockAddr) (out₀ : List ℕ) (w : BlockAddrStoreWriter) (window kept out : List ℕ) → Progress L bs out₀ w window kept out → w .done ≡ false
+    → (b : BlockAddr) → b ≡ blockOf bs (w .next) → (r : BlockAddrStoreWriter) (window′ : List ℕ) → (r ≡ heldWith w b) × (window′ ≡ put b (3 * w .held) window)
+    → w .held + 1 < w .«group_len» → w .next + 1 < w .n → Progress L bs out₀ r window′ kept out × (turnsLeft r < turnsLeft w)
+keeps-on L bs out₀ w window kept out progress going b is r window′ got part more =
+    let one = holds-one L bs out₀ w window kept out progress going b is r window′ got in
+    (on (one .0) (rw (got .0) part) (rw (got .0) more), one .1)

@@ -11,4 +11,5 @@ pub mod Scan
 pub mod Second
 pub mod Sized
 pub mod Taken
+pub mod Triples
 pub mod Window

@@ -98,3 +98,17 @@ abbrev pub Advances : BlockAddrStoreWriter → BlockAddr → List ℕ → List �
 Advances w b window kept out w′ window′ kept′ out′ =
     (L : ℕ) (bs : List BlockAddr) (out₀ : List ℕ) → Progress L bs out₀ w window kept out → w .done ≡ false → b ≡ blockOf bs (w .next)
     → Progress L bs out₀ w′ window′ kept′ out′ × (turnsLeft w′ < turnsLeft w)
+
+-- the writer has come somewhere with the list bs
+pub record Underway (bs : List BlockAddr) (w : BlockAddrStoreWriter) (window : List ℕ) : Type 0 where
+  pub groupLen : ℕ
+  pub before : List ℕ
+  pub kept : List ℕ
+  pub out : List ℕ
+  pub progress : Progress groupLen bs before w window kept out
+
+-- what holding records of bs leaves: it has come as far as that, and isn't handed more
+abbrev pub Holds : List BlockAddr → BlockAddrStoreWriter → List ℕ → BlockAddrStoreWriter → List ℕ → Type 0
+Holds bs w window w′ window′ =
+    (L : ℕ) (out₀ kept out : List ℕ) → Progress L bs out₀ w window kept out
+    → Progress L bs out₀ w′ window′ kept out × (turnsLeft w′ ≤ turnsLeft w)

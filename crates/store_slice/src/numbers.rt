@@ -4,7 +4,8 @@ ghost use Prim.Native.Nat.{_≤_};
 ghost use lib.ListN.{length};
 ghost use Rattle.store_slice.specs.Slice.{sliceStoredBy, sliceOutBy};
 ghost use Rattle.store_slice.specs.Numbers.{blockOfNumbers, blocksOfNumbers};
-ghost use Rattle.store_slice.specs.Writer.{Rooms};
+ghost use mathlib.Core.Bool.{false};
+ghost use Rattle.store_slice.specs.Writer.{Rooms, Underway, Holds};
 ghost use Rattle.store.specs.Facts.{GroupLenOk};
 use crate::Stored;
 use crate::writer::BlockAddrStoreWriter;
@@ -25,6 +26,26 @@ fn record_of(numbers: [u64; 3]) -> BlockAddr
     }
 }
 
+// Hands over the records before the last of their group or of the list: these are only held.
+fn hold_group(
+    blocks: &[[u64; 3]],
+    writer: BlockAddrStoreWriter,
+    window: &mut [u64],
+) -> BlockAddrStoreWriter
+    requires { ⌜ (writer .done ≡ false) × Underway (blocksOfNumbers (now blocks)) writer (now window) ⌝ }
+    ensures { λ r. ⌜ (r .done ≡ false)
+        × Holds (blocksOfNumbers (now (blocks .entry))) writer (now (window .entry)) r (now (window .exit)) ⌝ }
+{
+    let mut held = writer;
+    while held.is_within() {
+        let at = held.next;
+        let numbers = blocks[at];
+        let next = held.hold(record_of(numbers), window);
+        held = next;
+    }
+    held
+}
+
 // Writes the store with lent areas for a group's records and for the plans.
 fn serialize_with(
     blocks: &[[u64; 3]],
@@ -39,9 +60,10 @@ fn serialize_with(
 {
     let mut writer = BlockAddrStoreWriter::new(blocks.len(), group_len, out);
     while !writer.done {
-        let at = writer.next;
+        let most = hold_group(blocks, writer, window);
+        let at = most.next;
         let numbers = blocks[at];
-        let next = writer.write_block_meta(record_of(numbers), window, kept, out);
+        let next = most.write_block_meta(record_of(numbers), window, kept, out);
         writer = next;
     }
     Stored {

@@ -91,8 +91,19 @@ impl BlockAddrStoreWriter {
         flushed.end_round(out)
     }
 
+    // Whether after the next record another one of its group follows.
+    pub fn is_within(self) -> bool
+        requires { ⌜ (self .held < self .«group_len») × (self .next < self .n) ⌝ }
+        ensures { λ r. ⌜ (r ≡ true → (self .held + 1 < self .«group_len») × (self .next + 1 < self .n)) ⌝ }
+    {
+        if self.held + 1 >= self.group_len {
+            return false;
+        }
+        self.next + 1 < self.n
+    }
+
     // Puts the record into the window; in the first round it is looked at too.
-    fn hold(self, block: BlockAddr, window: &mut [u64]) -> BlockAddrStoreWriter
+    pub fn hold(self, block: BlockAddr, window: &mut [u64]) -> BlockAddrStoreWriter
         requires { ⌜ (3 * self .held + 3 ≤ length (now window)) × (self .next < self .n) ⌝ }
         ensures { λ r. ⌜ (r ≡ heldWith self block) × (now (window .exit) ≡ put block (3 * self .held) (now (window .entry))) ⌝ }
     {
