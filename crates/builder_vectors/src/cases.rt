@@ -274,19 +274,7 @@ fn add(
     let builder = SSTableIndexBuilder::new(n);
     let got = read_answer(builder.add_block(blocks, keys, key, block));
     let same = is_answered(n, block, key, got, old_blocks, blocks, old_keys, keys);
-    state.counting(got.n, is_both(is_given(got.no, given, 4), same))
-}
-
-// Whether the last of so many numbers is this one.
-fn is_given(no: u64, given: &[u64], count: usize) -> bool {
-    if given.len() != count {
-        return false;
-    }
-    if count == 0 {
-        false
-    } else {
-        given[count - 1] == no
-    }
+    state.counting(got.n, is_both(got.no == vectors::number(given, 3), same))
 }
 
 fn is_both(one: bool, other: bool) -> bool {
@@ -330,7 +318,12 @@ fn shorten(
     let answer = builder.shorten_last_block_key_given_next_key(blocks, keys, next_key);
     let got = read_answer(answer);
     let same = is_cut(n, got, old_blocks, blocks, old_keys, keys);
-    state.counting(got.n, is_both(is_given(got.no, given, 1), same))
+    state.counting(got.n, is_both(got.no == vectors::number(given, 0), same))
+}
+
+// How many numbers a call that changes the areas has.
+fn numbers_of(kind: u8) -> usize {
+    if kind == b'a' { 4 } else { 1 }
 }
 
 // A call that changes the areas, beside copies of what they were.
@@ -342,6 +335,9 @@ pub fn change(
     blocks: &mut [u64],
     keys: &mut [u8],
 ) -> State {
+    if given.len() != numbers_of(kind) {
+        return state.with(false);
+    }
     let mut block_copy = [0u64; LONGEST];
     let mut key_copy = [0u8; LONGEST_KEYS];
     areas::copy_numbers(blocks, &mut block_copy);
