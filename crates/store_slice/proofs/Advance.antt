@@ -14,8 +14,8 @@ use Rattle.group.specs.Blocks.{blockOf}
 use Rattle.store.specs.Plans.{groupPlan}
 use Rattle.store.proofs.Groups.{group-count-le}
 use Rattle.store_slice.specs.Records.{seenNo}
-use Rattle.store_slice.specs.Steps.{put, heldWith, groupIn, bitsIn, Few, Plannable, Writable, flushedWith, Flushed, endedWith, secondRound, plannedLen, RoundEnded}
-use Rattle.store_slice.specs.Writer.{Held, Looked, Written, Ended, ProgressBy, Progress, turnsLeft}
+use Rattle.store_slice.specs.Steps.{putRecord, heldWith, groupIn, bitsIn, FewGroups, Plannable, Writable, flushedWith, Flushed, endedWith, secondRound, plannedLen, RoundEnded}
+use Rattle.store_slice.specs.Writer.{InWindow, Looked, Written, WriterEnded, ProgressBy, Progress, turnsLeft}
 use Rattle.store_slice.specs.declared.writer.BlockAddrStoreWriter.{BlockAddrStoreWriter}
 use Rattle.store_slice.proofs.Filled.{Filled, Behind, hold-room, filled, held-again, held-anew, behind, group-inside}
 use Rattle.store_slice.proofs.First.{looked-hold, looked-refused, plannable, looked-planned}
@@ -30,7 +30,7 @@ Round L bs out₀ w kept out = ((w .writing ≡ false) × Looked L bs out₀ w k
 -- ---- progress, and the round that it is of
 
 module _ (L : ℕ) (bs : List BlockAddr) (out₀ : List ℕ) (w : BlockAddrStoreWriter) (window kept out : List ℕ) where
-  packed : (d t : Bool) → d ≡ false → w .writing ≡ t → Held L bs w window kept → Round L bs out₀ w kept out → ProgressBy d t L bs out₀ w window kept out
+  packed : (d t : Bool) → d ≡ false → w .writing ≡ t → InWindow L bs w window kept → Round L bs out₀ w kept out → ProgressBy d t L bs out₀ w window kept out
   unfolding ProgressBy
   packed true t going e held round = absurd (true≢false going)
   packed false false going e held round =
@@ -38,26 +38,26 @@ module _ (L : ℕ) (bs : List BlockAddr) (out₀ : List ℕ) (w : BlockAddrStore
   packed false true going e held round =
       ⊎-elim (λ first. absurd (not-both e (first .0))) (λ second. record { held = held; written = second .1 }) round
 
-  unpacked : (d t : Bool) → d ≡ false → w .writing ≡ t → ProgressBy d t L bs out₀ w window kept out → Held L bs w window kept × Round L bs out₀ w kept out
+  unpacked : (d t : Bool) → d ≡ false → w .writing ≡ t → ProgressBy d t L bs out₀ w window kept out → InWindow L bs w window kept × Round L bs out₀ w kept out
   unfolding ProgressBy
   unpacked true t going e p = absurd (true≢false going)
   unpacked false false going e p = (p .held, inl (e, p .looked))
   unpacked false true going e p = (p .held, inr (e, p .written))
 
-  ended-by : (d : Bool) → d ≡ true → ProgressBy d (w .writing) L bs out₀ w window kept out → Ended L bs out₀ w out
+  ended-by : (d : Bool) → d ≡ true → ProgressBy d (w .writing) L bs out₀ w window kept out → WriterEnded L bs out₀ w out
   unfolding ProgressBy
   ended-by true e p = p
   ended-by false e p = absurd (true≢false (sym e))
 
-  pub progressed : w .done ≡ false → Held L bs w window kept → Round L bs out₀ w kept out → Progress L bs out₀ w window kept out
+  pub progressed : w .done ≡ false → InWindow L bs w window kept → Round L bs out₀ w kept out → Progress L bs out₀ w window kept out
   unfolding Progress
   progressed going held round = packed (w .done) (w .writing) going refl held round
 
-  unpack : w .done ≡ false → Progress L bs out₀ w window kept out → Held L bs w window kept × Round L bs out₀ w kept out
+  unpack : w .done ≡ false → Progress L bs out₀ w window kept out → InWindow L bs w window kept × Round L bs out₀ w kept out
   unfolding Progress
   unpack going p = unpacked (w .done) (w .writing) going refl p
 
-  pub ended-progress : w .done ≡ true → Progress L bs out₀ w window kept out → Ended L bs out₀ w out
+  pub ended-progress : w .done ≡ true → Progress L bs out₀ w window kept out → WriterEnded L bs out₀ w out
   unfolding Progress
   ended-progress done p = ended-by (w .done) done p
 
@@ -76,7 +76,7 @@ pub record Over (L : ℕ) (bs : List BlockAddr) (out₀ : List ℕ) (w : BlockAd
 
 module _ (L : ℕ) (bs : List BlockAddr) (out₀ : List ℕ) (w : BlockAddrStoreWriter) (window kept out : List ℕ)
     (progress : Progress L bs out₀ w window kept out) (going : w .done ≡ false) where
-  held : Held L bs w window kept
+  held : InWindow L bs w window kept
   held = unpack L bs out₀ w window kept out going progress .0
 
   pub more-to-come : w .next < length bs
@@ -89,7 +89,7 @@ module _ (L : ℕ) (bs : List BlockAddr) (out₀ : List ℕ) (w : BlockAddrStore
   may-hold = (hold-room held, omega (arith, held .more, held .count))
 
   module _ (b : BlockAddr) (is : b ≡ blockOf bs (w .next)) where
-    full : Full L bs out₀ (heldWith w b) (put b (3 * w .held) window) kept out
+    full : Full L bs out₀ (heldWith w b) (putRecord b (3 * w .held) window) kept out
     full = record {
       going = going;
       filled = filled held b is;
@@ -104,7 +104,7 @@ module _ (L : ℕ) (bs : List BlockAddr) (out₀ : List ℕ) (w : BlockAddrStore
         ⊎-elim (λ first. rw (going, first .0) (omega (arith, less))) (λ second. rw (going, second .0) (omega (arith, less)))
         (unpack L bs out₀ w window kept out going progress .1)
 
-    pub holds-one : (r : BlockAddrStoreWriter) (window′ : List ℕ) → (r ≡ heldWith w b) × (window′ ≡ put b (3 * w .held) window)
+    pub holds-one : (r : BlockAddrStoreWriter) (window′ : List ℕ) → (r ≡ heldWith w b) × (window′ ≡ putRecord b (3 * w .held) window)
         → Full L bs out₀ r window′ kept out × (turnsLeft r < turnsLeft w)
     holds-one r window′ got = (rw (got .0, got .1) full, rw (got .0) fewer)
 
@@ -182,7 +182,7 @@ module _ {L : ℕ} {bs : List BlockAddr} {out₀ : List ℕ} {w : BlockAddrStore
 -- ---- the round ends
 
 module _ {L : ℕ} {bs : List BlockAddr} {out₀ : List ℕ} {w : BlockAddrStoreWriter} {window kept out : List ℕ} (state : Over L bs out₀ w window kept out) where
-  pub may-end : w .writing ≡ false → seenNo (w .seen) (w .n) ≡ 0 → Few w
+  pub may-end : w .writing ≡ false → seenNo (w .seen) (w .n) ≡ 0 → FewGroups w
   may-end e none =
       ⊎-elim (λ first. end-few (state .behind) (first .1) none) (λ second. absurd (not-both (second .0) e)) (state .round)
 
@@ -190,7 +190,7 @@ module _ {L : ℕ} {bs : List BlockAddr} {out₀ : List ℕ} {w : BlockAddrStore
     abbrev Goal : Type 0
     Goal = Progress L bs out₀ r window kept out′ × (turnsLeft r ≤ turnsLeft w)
 
-    at-end : (row len : ℕ) → (r ≡ endedWith w row len) × (out′ ≡ out) → Ended L bs out₀ (endedWith w row len) out → Goal
+    at-end : (row len : ℕ) → (r ≡ endedWith w row len) × (out′ ≡ out) → WriterEnded L bs out₀ (endedWith w row len) out → Goal
     unfolding Progress ProgressBy
     at-end row len got answer = (rw (got .0, got .1) answer, rw (got .0) (omega arith))
 
@@ -223,7 +223,7 @@ module _ {L : ℕ} {bs : List BlockAddr} {out₀ : List ℕ} {w : BlockAddrStore
 
 -- a record that isn't the last of its group or of the list is only held
 pub keeps-on : (L : ℕ) (bs : List BlockAddr) (out₀ : List ℕ) (w : BlockAddrStoreWriter) (window kept out : List ℕ) → Progress L bs out₀ w window kept out → w .done ≡ false
-    → (b : BlockAddr) → b ≡ blockOf bs (w .next) → (r : BlockAddrStoreWriter) (window′ : List ℕ) → (r ≡ heldWith w b) × (window′ ≡ put b (3 * w .held) window)
+    → (b : BlockAddr) → b ≡ blockOf bs (w .next) → (r : BlockAddrStoreWriter) (window′ : List ℕ) → (r ≡ heldWith w b) × (window′ ≡ putRecord b (3 * w .held) window)
     → w .held + 1 < w .«group_len» → w .next + 1 < w .n → Progress L bs out₀ r window′ kept out × (turnsLeft r < turnsLeft w)
 keeps-on L bs out₀ w window kept out progress going b is r window′ got part more =
     let one = holds-one L bs out₀ w window kept out progress going b is r window′ got in

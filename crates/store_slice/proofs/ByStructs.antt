@@ -12,7 +12,7 @@ use Rattle.group.specs.Blocks.{blockOf}
 use Rattle.store.specs.Facts.{GroupLenOk}
 use Rattle.store.specs.Store.{groupCount}
 use Rattle.store_slice.specs.declared.writer.BlockAddrStoreWriter.{BlockAddrStoreWriter}
-use Rattle.store_slice.specs.Writer.{Rooms, Ended, ProgressBy, Progress, Handed}
+use Rattle.store_slice.specs.Writer.{Rooms, WriterEnded, ProgressBy, Progress, Handed}
 
 pub group-len-ok : GroupLenOk storeBlockLen
 group-len-ok = record { some = omega arith; few = omega arith }
@@ -43,13 +43,13 @@ module _ (L : ℕ) (bs : List BlockAddr) (out₀ : List ℕ) (w : BlockAddrStore
   unfolding Progress
   next-inside p e = by-more (w .done) (w .writing) p e
 
-  by-end : (d r : Bool) → ProgressBy d r L bs out₀ w window kept out → d ≡ true → Ended L bs out₀ w out
+  by-end : (d r : Bool) → ProgressBy d r L bs out₀ w window kept out → d ≡ true → WriterEnded L bs out₀ w out
   unfolding ProgressBy
   by-end true r p e = p
   by-end false r p e = absurd (subst T (sym e) tt)
 
   -- at the end
-  pub at-end : Progress L bs out₀ w window kept out → w .done ≡ true → Ended L bs out₀ w out
+  pub at-end : Progress L bs out₀ w window kept out → w .done ≡ true → WriterEnded L bs out₀ w out
   unfolding Progress
   at-end p e = by-end (w .done) (w .writing) p e
 

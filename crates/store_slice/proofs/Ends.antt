@@ -16,8 +16,8 @@ use Rattle.store.proofs.Groups.{group-count-zero, group-count-le}
 use Rattle.store.proofs.Stored.{length-storeBytes, sets-store}
 use Rattle.store_slice.specs.Slice.{blockListNo}
 use Rattle.store_slice.specs.Records.{seenNone, seenAll, seenNo}
-use Rattle.store_slice.specs.Steps.{Few, endedWith, secondRound, plannedLen}
-use Rattle.store_slice.specs.Writer.{Looked, Written, Writing, Ended}
+use Rattle.store_slice.specs.Steps.{FewGroups, endedWith, secondRound, plannedLen}
+use Rattle.store_slice.specs.Writer.{Looked, Written, Writing, WriterEnded}
 use Rattle.store_slice.specs.declared.rows.Seen.{Seen}
 use Rattle.store_slice.specs.declared.writer.BlockAddrStoreWriter.{BlockAddrStoreWriter}
 use Rattle.store_slice.proofs.Answer.{short-answer, whole-answer, stored-refused}
@@ -34,7 +34,7 @@ module _ {L : ℕ} {bs : List BlockAddr} {out₀ : List ℕ} {w : BlockAddrStore
         looked .seen ∙ ap (seenAll seenNone) (take-all (w .next) bs (omega (arith, behind .next))) in
         ap (seenNo (w .seen)) (behind .count) ∙ ap (λ (s : Seen). seenNo s (length bs)) all ∙ seen-no bs
 
-    pub end-refused : (seenNo (w .seen) (w .n) ≡ 0 → ⊥) → Ended L bs out₀ (endedWith w (seenNo (w .seen) (w .n)) 0) out
+    pub end-refused : (seenNo (w .seen) (w .n) ≡ 0 → ⊥) → WriterEnded L bs out₀ (endedWith w (seenNo (w .seen) (w .n)) 0) out
     end-refused hit =
         let answer = stored-refused L bs out₀ (seenNo (w .seen) (w .n)) (sym rows-are) hit in
         record { stored = answer .0; bytes = looked .same ∙ answer .1 }
@@ -46,7 +46,7 @@ module _ {L : ℕ} {bs : List BlockAddr} {out₀ : List ℕ} {w : BlockAddrStore
       planned : seenNo (w .seen) (length bs) ≡ 0
       planned = ap (seenNo (w .seen)) (sym (behind .count)) ∙ none
 
-      pub end-few : Few w
+      pub end-few : FewGroups w
       end-few = record {
         groups = omega (arith, behind .groups, group-count-le (behind .len .some) (length bs), seen-few (w .seen) (length bs) planned);
         bytes = looked .small;
@@ -58,7 +58,7 @@ module _ {L : ℕ} {bs : List BlockAddr} {out₀ : List ℕ} {w : BlockAddrStore
           looked .planned planned .1 ∙ ap (λ (g : ℕ). length (addrs bestSlope L g bs)) (behind .groups) in
           omega (arith, at, behind .groups, length-storeBytes bestSlope L bs (behind .len .some))
 
-      pub end-short : length out < plannedLen w → Ended L bs out₀ (endedWith w 9 0) out
+      pub end-short : length out < plannedLen w → WriterEnded L bs out₀ (endedWith w 9 0) out
       end-short h =
           let answer = short-answer L bs out₀ legal (omega (arith, len-is, ap length (looked .same))) in
           record { stored = answer .0; bytes = looked .same ∙ answer .1 }
@@ -72,7 +72,7 @@ module _ {L : ℕ} {bs : List BlockAddr} {out₀ : List ℕ} {w : BlockAddrStore
             ≡ sets out₀ 0 (storeBytes bestSlope L bs)
         rest = rw (head, looked .same, behind .groups) (sets-store bestSlope out₀ L bs (behind .len .some))
 
-        pub end-none : w .n ≡ 0 → Ended L bs out₀ (endedWith w 0 (plannedLen w)) out′
+        pub end-none : w .n ≡ 0 → WriterEnded L bs out₀ (endedWith w 0 (plannedLen w)) out′
         unfolding groupRecords addrs
         end-none empty =
             let zero : groupCount L (length bs) ≡ 0 = ap (groupCount L) (sym (behind .count) ∙ empty) ∙ group-count-zero (behind .len .some) in
@@ -107,7 +107,7 @@ module _ {L : ℕ} {bs : List BlockAddr} {out₀ : List ℕ} {w : BlockAddrStore
 
   -- ---- of the second
 
-  pub end-written : Written L bs out₀ w kept out → Ended L bs out₀ (endedWith w 0 (w .len)) out
+  pub end-written : Written L bs out₀ w kept out → WriterEnded L bs out₀ (endedWith w 0 (w .len)) out
   unfolding groupRecords addrs
   end-written written =
       let none : groupCount L (length bs) - w .g ≡ 0 = omega (arith, behind .groups) in

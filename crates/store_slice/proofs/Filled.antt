@@ -1,4 +1,4 @@
--- The window between two records: one is put into it, then it is taken as a group or the next one comes.
+-- The window between two records: one is putRecord into it, then it is taken as a group or the next one comes.
 use Prim.Native.Nat.{ℕ, suc, _+_, _-_, _*_, _≤_, _<_}
 use mathlib.Core.Path.{_≡_, refl, sym, ap, _∙_}
 use mathlib.Core.List.{List}
@@ -16,8 +16,8 @@ use Rattle.group.proofs.Blocks.{blocksAt-at, legal-same}
 use Rattle.store.specs.Store.{groupCount}
 use Rattle.store.specs.Facts.{GroupLenOk}
 use Rattle.store.proofs.Groups.{group-count-lt, group-count-below, legal-part}
-use Rattle.store_slice.specs.Steps.{put, heldWith, flushedWith, groupIn}
-use Rattle.store_slice.specs.Writer.{Rooms, Held}
+use Rattle.store_slice.specs.Steps.{putRecord, heldWith, flushedWith, groupIn}
+use Rattle.store_slice.specs.Writer.{Rooms, InWindow}
 use Rattle.store_slice.specs.declared.writer.BlockAddrStoreWriter.{BlockAddrStoreWriter}
 use Rattle.store_slice.proofs.Window.{length-put, held-more, take-most}
 
@@ -47,13 +47,13 @@ pub record Behind (L : ℕ) (bs : List BlockAddr) (w : BlockAddrStoreWriter) (wi
   pub groups : w .g ≡ groupCount L (length bs)
   pub rooms : Rooms L (length bs) window kept
 
--- ---- before a record is put into the window
+-- ---- before a record is putRecord into the window
 
-module _ {L : ℕ} {bs : List BlockAddr} {w : BlockAddrStoreWriter} {window kept : List ℕ} (held : Held L bs w window kept) where
+module _ {L : ℕ} {bs : List BlockAddr} {w : BlockAddrStoreWriter} {window kept : List ℕ} (held : InWindow L bs w window kept) where
   pub hold-room : 3 * w .held + 3 ≤ length window
   hold-room = omega (arith, held .rooms .records, held .partial, held .more, held .place)
 
-  pub filled : (b : BlockAddr) → b ≡ blockOf bs (w .next) → Filled L bs (heldWith w b) (put b (3 * w .held) window) kept
+  pub filled : (b : BlockAddr) → b ≡ blockOf bs (w .next) → Filled L bs (heldWith w b) (putRecord b (3 * w .held) window) kept
   filled b is = record {
     len = held .len;
     group = held .group;
@@ -62,7 +62,7 @@ module _ {L : ℕ} {bs : List BlockAddr} {w : BlockAddrStoreWriter} {window kept
     place = omega (arith, held .place);
     some = omega arith;
     most = omega (arith, held .partial);
-    rooms = rooms-same (held .rooms) (put b (3 * w .held) window) kept (length-put b (3 * w .held) window) refl;
+    rooms = rooms-same (held .rooms) (putRecord b (3 * w .held) window) kept (length-put b (3 * w .held) window) refl;
     holds = held-more window bs (L * w .g) (w .held) hold-room (omega (arith, held .more, held .place)) (held .holds) b (is ∙ ap (blockOf bs) (held .place));
   }
 
@@ -70,7 +70,7 @@ module _ {L : ℕ} {bs : List BlockAddr} {w : BlockAddrStoreWriter} {window kept
 
 module _ {L : ℕ} {bs : List BlockAddr} {w : BlockAddrStoreWriter} {window kept : List ℕ} (full : Filled L bs w window kept) where
   -- the group goes on
-  pub held-again : w .held < w .«group_len» → w .next < w .n → Held L bs w window kept
+  pub held-again : w .held < w .«group_len» → w .next < w .n → InWindow L bs w window kept
   held-again part more = record {
     len = full .len;
     group = full .group;
@@ -111,7 +111,7 @@ module _ {L : ℕ} {bs : List BlockAddr} {w : BlockAddrStoreWriter} {window kept
         ∙ take-most L (w .held) (drop (L * w .g) bs) (full .most)
         (λ h. omega (arith, whole h, full .place, full .within, length-drop (L * w .g) bs))
 
-    pub held-anew : (k : ℕ) (kept′ : List ℕ) → length kept′ ≡ length kept → w .next < w .n → Held L bs (flushedWith w k) window kept′
+    pub held-anew : (k : ℕ) (kept′ : List ℕ) → length kept′ ≡ length kept → w .next < w .n → InWindow L bs (flushedWith w k) window kept′
     unfolding blocksAt
     held-anew k kept′ long more =
         let all : w .held ≡ L =

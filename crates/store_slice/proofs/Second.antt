@@ -22,7 +22,7 @@ use Rattle.store_slice.proofs.Filled.{Filled, group-first, group-inside
 use Rattle.store_slice.proofs.Kept.{records-legal}
 use Rattle.store_slice.proofs.Taken.{bits-add}
 
--- a record is put into the window
+-- a record is putRecord into the window
 pub written-hold : {L : ℕ} {bs : List BlockAddr} {out₀ : List ℕ} {w : BlockAddrStoreWriter} {kept out : List ℕ} → Written L bs out₀ w kept out → (b : BlockAddr)
     → Written L bs out₀ (heldWith w b) kept out
 written-hold written b = record {

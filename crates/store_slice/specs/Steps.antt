@@ -16,11 +16,11 @@ use Rattle.store.specs.Plans.{groupPlan, StandsAt}
 use Rattle.store_slice.specs.Records.{seenWith, seenNo}
 use Rattle.store_slice.specs.declared.writer.BlockAddrStoreWriter.{BlockAddrStoreWriter}
 
--- ---- a record is put into the window
+-- ---- a record is putRecord into the window
 
 -- a record's three numbers from k on
-abbrev pub put : BlockAddr → ℕ → List ℕ → List ℕ
-put b k xs = set (set (set xs k (b .start)) (k + 1) (b .end)) (k + 2) (b .«first_ordinal»)
+abbrev pub putRecord : BlockAddr → ℕ → List ℕ → List ℕ
+putRecord b k xs = set (set (set xs k (b .start)) (k + 1) (b .end)) (k + 2) (b .«first_ordinal»)
 
 abbrev pub heldWith : BlockAddrStoreWriter → BlockAddr → BlockAddrStoreWriter
 heldWith w b = record {
@@ -47,14 +47,14 @@ abbrev pub bitsIn : BlockAddrStoreWriter → List ℕ → List ℕ
 bitsIn w window = groupAddrs bestSlope (groupIn w window)
 
 -- few groups, of whose bits each takes at most 3,577 bytes
-pub record Few (w : BlockAddrStoreWriter) : Type 0 where
+pub record FewGroups (w : BlockAddrStoreWriter) : Type 0 where
   pub groups : w .g ≤ maxBlocks
   pub bytes : w .offset ≤ 3577 * w .g
 
 pub record Plannable (w : BlockAddrStoreWriter) (window kept : List ℕ) : Type 0 where
   pub group : GroupArea window 3 0 (w .held)
   pub room : 2 * w .g + 2 ≤ length kept
-  pub few : Few w
+  pub few : FewGroups w
 
 pub record Writable (w : BlockAddrStoreWriter) (window kept out : List ℕ) : Type 0 where
   pub group : GroupArea window 3 0 (w .held)

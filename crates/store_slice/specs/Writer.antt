@@ -23,7 +23,7 @@ pub record Rooms (L n : ℕ) (window kept : List ℕ) : Type 0 where
   pub plans : n ≤ maxBlocks → 2 * groupCount L n ≤ length kept
 
 -- a record is still to come; the window holds those of its group that came before it
-pub record Held (L : ℕ) (bs : List BlockAddr) (w : BlockAddrStoreWriter) (window kept : List ℕ) : Type 0 where
+pub record InWindow (L : ℕ) (bs : List BlockAddr) (w : BlockAddrStoreWriter) (window kept : List ℕ) : Type 0 where
   pub len : GroupLenOk L
   pub group : w .«group_len» ≡ L
   pub count : w .n ≡ length bs
@@ -59,21 +59,21 @@ pub record Written (L : ℕ) (bs : List BlockAddr) (out₀ : List ℕ) (w : Bloc
 
 -- each round, while a record is still to come
 pub record Looking (L : ℕ) (bs : List BlockAddr) (out₀ : List ℕ) (w : BlockAddrStoreWriter) (window kept out : List ℕ) : Type 0 where
-  pub held : Held L bs w window kept
+  pub held : InWindow L bs w window kept
   pub looked : Looked L bs out₀ w kept out
 
 pub record Writing (L : ℕ) (bs : List BlockAddr) (out₀ : List ℕ) (w : BlockAddrStoreWriter) (window kept out : List ℕ) : Type 0 where
-  pub held : Held L bs w window kept
+  pub held : InWindow L bs w window kept
   pub written : Written L bs out₀ w kept out
 
 -- at the end: the answer, and what is left in the output
-pub record Ended (L : ℕ) (bs : List BlockAddr) (out₀ : List ℕ) (w : BlockAddrStoreWriter) (out : List ℕ) : Type 0 where
+pub record WriterEnded (L : ℕ) (bs : List BlockAddr) (out₀ : List ℕ) (w : BlockAddrStoreWriter) (out : List ℕ) : Type 0 where
   pub stored : record { no = w .no; len = w .len } ≡ sliceStoredBy L bs out₀
   pub bytes : out ≡ sliceOutBy L bs out₀
 
 -- each of them, by whether the writer is done, and whether it writes
 unfoldable pub ProgressBy : Bool → Bool → ℕ → List BlockAddr → List ℕ → BlockAddrStoreWriter → List ℕ → List ℕ → List ℕ → Type 0
-ProgressBy true writing L bs out₀ w window kept out = Ended L bs out₀ w out
+ProgressBy true writing L bs out₀ w window kept out = WriterEnded L bs out₀ w out
 ProgressBy false false L bs out₀ w window kept out = Looking L bs out₀ w window kept out
 ProgressBy false true L bs out₀ w window kept out = Writing L bs out₀ w window kept out
 
@@ -108,7 +108,7 @@ pub record Underway (bs : List BlockAddr) (w : BlockAddrStoreWriter) (window : L
   pub progress : Progress groupLen bs before w window kept out
 
 -- what holding records of bs leaves: it has come as far as that, and isn't handed more
-abbrev pub Holds : List BlockAddr → BlockAddrStoreWriter → List ℕ → BlockAddrStoreWriter → List ℕ → Type 0
-Holds bs w window w′ window′ =
+abbrev pub KeepsOn : List BlockAddr → BlockAddrStoreWriter → List ℕ → BlockAddrStoreWriter → List ℕ → Type 0
+KeepsOn bs w window w′ window′ =
     (L : ℕ) (out₀ kept out : List ℕ) → Progress L bs out₀ w window kept out
     → Progress L bs out₀ w′ window′ kept out × (turnsLeft w′ ≤ turnsLeft w)

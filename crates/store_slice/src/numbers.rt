@@ -5,7 +5,7 @@ ghost use lib.ListN.{length};
 ghost use Rattle.store_slice.specs.Slice.{sliceStoredBy, sliceOutBy};
 ghost use Rattle.store_slice.specs.Numbers.{blockOfNumbers, blocksOfNumbers};
 ghost use mathlib.Core.Bool.{false};
-ghost use Rattle.store_slice.specs.Writer.{Rooms, Underway, Holds};
+ghost use Rattle.store_slice.specs.Writer.{Rooms, Underway, KeepsOn};
 ghost use Rattle.store.specs.Facts.{GroupLenOk};
 use crate::Stored;
 use crate::writer::BlockAddrStoreWriter;
@@ -34,7 +34,7 @@ fn hold_group(
 ) -> BlockAddrStoreWriter
     requires { ⌜ (writer .done ≡ false) × Underway (blocksOfNumbers (now blocks)) writer (now window) ⌝ }
     ensures { λ r. ⌜ (r .done ≡ false)
-        × Holds (blocksOfNumbers (now (blocks .entry))) writer (now (window .entry)) r (now (window .exit)) ⌝ }
+        × KeepsOn (blocksOfNumbers (now (blocks .entry))) writer (now (window .entry)) r (now (window .exit)) ⌝ }
 {
     let mut held = writer;
     while held.is_within() {

@@ -8,7 +8,7 @@ ghost use lib.ListN.{length};
 ghost use Rattle.group.specs.declared.BlockAddr.{BlockAddr as Block};
 ghost use Rattle.store.specs.Facts.{GroupLenOk};
 ghost use Rattle.store_slice.specs.Records.{seenNo};
-ghost use Rattle.store_slice.specs.Steps.{put, heldWith, Few, Plannable, Writable, Flushed, RoundEnded, endedWith, secondRound};
+ghost use Rattle.store_slice.specs.Steps.{putRecord, heldWith, FewGroups, Plannable, Writable, Flushed, RoundEnded, endedWith, secondRound};
 ghost use Rattle.store_slice.specs.Writer.{Rooms, Progress, Handed, Advances};
 use crate::rows::Seen;
 use group::BlockAddr;
@@ -105,7 +105,7 @@ impl BlockAddrStoreWriter {
     // Puts the record into the window; in the first round it is looked at too.
     pub fn hold(self, block: BlockAddr, window: &mut [u64]) -> BlockAddrStoreWriter
         requires { ⌜ (3 * self .held + 3 ≤ length (now window)) × (self .next < self .n) ⌝ }
-        ensures { λ r. ⌜ (r ≡ heldWith self block) × (now (window .exit) ≡ put block (3 * self .held) (now (window .entry))) ⌝ }
+        ensures { λ r. ⌜ (r ≡ heldWith self block) × (now (window .exit) ≡ putRecord block (3 * self .held) (now (window .entry))) ⌝ }
     {
         let at = STRIDE * self.held;
         window[at] = block.start;
@@ -158,7 +158,7 @@ impl BlockAddrStoreWriter {
 
     // After the last record: the first round answers a row, or begins the second.
     fn end_round(self, out: &mut [u8]) -> BlockAddrStoreWriter
-        requires { ⌜ (self .writing ≡ false → seenNo (self .seen) (self .n) ≡ 0 → Few self) ⌝ }
+        requires { ⌜ (self .writing ≡ false → seenNo (self .seen) (self .n) ≡ 0 → FewGroups self) ⌝ }
         ensures { λ r. ⌜ RoundEnded self (now (out .entry)) r (now (out .exit)) ⌝ }
     {
         if self.writing {

@@ -55,7 +55,7 @@ use Rattle.group.proofs.BlockAddr.Laws as B′
 use Rattle.store_slice.specs.declared.Stored.{Stored}
 use Rattle.store_slice.specs.declared.writer.BlockAddrStoreWriter.{BlockAddrStoreWriter}
 use Rattle.store_slice.specs.Slice.{sliceStored, sliceOut}
-use Rattle.store_slice.specs.Writer.{Rooms, Ended, Progress, Handed, Advances, turnsLeft}
+use Rattle.store_slice.specs.Writer.{Rooms, WriterEnded, Progress, Handed, Advances, turnsLeft}
 use Rattle.store_slice.proofs.ByStructs.{group-len-ok, rooms-of, next-inside, at-end, handed}
 use Rattle.store_slice.proofs.Lent.{big-lit, zeros, length-zeros, emptied, makes-zeros, lent, lends-row, takes-back}
 use Rattle.store_slice.proofs.Stored as S
@@ -390,7 +390,7 @@ module _ {M : Type 1} (𝓤 : URA M) (H : Heap 𝓤) (A : Atoms 𝓤) (W : Given
             move ! (4 ∷ 12 ∷ []) $ free1 ! $ move ! (4 ∷ 11 ∷ []) $ free1 ! $ move ! (4 ∷ 10 ∷ []) $ free1 ! $ move ! (4 ∷ 9 ∷ []) $ free1 ! $ move ! (4 ∷ 8 ∷ []) $ free1 ! $ move ! (4 ∷ 7 ∷ []) $ free1 ! $ free0 ! $
             by ! (exits (t .out) answer gn gm (t .out-long) is-answer (ended .stored, ended .bytes))
           where
-            ended : Ended storeBlockLen ys outs (t .writer) (t .out)
+            ended : WriterEnded storeBlockLen ys outs (t .writer) (t .out)
             ended = at-end storeBlockLen ys outs (t .writer) (t .window) (t .kept) (t .out) (t .progress) over
 
             answer : Stored

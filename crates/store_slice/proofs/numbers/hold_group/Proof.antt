@@ -9,7 +9,7 @@ use native.Mathlib.Omega.{arith}
 use lib.ListN.{length, length-map}
 use Rattle.group.specs.Blocks.{blockOf}
 use Rattle.store_slice.specs.Numbers.{blockOfNumbers, blocksOfNumbers}
-use Rattle.store_slice.specs.Writer.{Progress, Holds}
+use Rattle.store_slice.specs.Writer.{Progress, KeepsOn}
 use Rattle.store_slice.proofs.Advance.{more-to-come, may-hold, group-open, keeps-on}
 use Rattle.store_slice.proofs.Triples.{record-at}
 use Rattle.store_slice.proofs.Window.{length-put}
@@ -18,7 +18,7 @@ use Rattle.store_slice.proofs.numbers.hold_group.Tie as tie
 
 abbrev Inv-loop : tie.InvT-loop
 Inv-loop blocks window₀ held₀ window held =
-    (held .done ≡ false) × Holds (blocksOfNumbers blocks) held₀ window₀ held window × (length window ≡ length window₀)
+    (held .done ≡ false) × KeepsOn (blocksOfNumbers blocks) held₀ window₀ held window × (length window ≡ length window₀)
 
 abbrev μ-loop : tie.MeasureT-loop
 μ-loop blocks window₀ held₀ window held = held .n - held .next
