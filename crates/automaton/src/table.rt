@@ -3,6 +3,9 @@ ghost use mathlib.Core.Path.{_≡_};
 ghost use Prim.Native.Nat.{_+_, _*_, _≤_, _<_};
 ghost use Rattle.automaton.specs.Bits.{Exactly};
 ghost use Rattle.automaton.specs.Table.{tableNo, WellFormed, states, flag, next, anyFrom};
+use layout::refusals::FLAG_BAD;
+use layout::refusals::STATE_BAD;
+use layout::refusals::TABLE_BAD;
 
 // Whether some byte is at or above the bound. It looks at all of them, byte against byte: so the loop takes many at once.
 fn any_from(bytes: &[u8], bound: u8) -> bool
@@ -22,24 +25,24 @@ pub fn check(table: &[u8]) -> u32
     ensures { λ r. ⌜ r ≡ tableNo (now (table .entry)) ⌝ }
 {
     if table.len() == 0 {
-        return 21;
+        return TABLE_BAD;
     }
     let m = table[0] as usize;
     if m < 1 {
-        return 21;
+        return TABLE_BAD;
     }
     if m > 64 {
-        return 21;
+        return TABLE_BAD;
     }
     if table.len() != 1 + 257 * m {
-        return 21;
+        return TABLE_BAD;
     }
     let rows = 1 + m;
     if any_from(&table[1..rows], 2) {
-        return 22;
+        return FLAG_BAD;
     }
     if any_from(&table[rows..], m as u8) {
-        return 23;
+        return STATE_BAD;
     }
     0
 }

@@ -9,6 +9,8 @@ use Rattle.group.specs.Blocks.{blocksAt}
 use Rattle.group.specs.Rows.{orRow}
 use Rattle.directory.specs.Directory.{directoryBytes}
 use Rattle.directory.specs.Keys.{keysAt}
+use Rattle.store.specs.Store.{groupCount}
+use Rattle.store.specs.Plans.{plans}
 use Rattle.builder.specs.View.{stride}
 use Rattle.builder.specs.Rows.{recordBad, areaBad, blockNo}
 use Rattle.builder.specs.Area.{keyField, areaBlock, areaPlace, areaKey, areaView, viewOf}
@@ -49,6 +51,10 @@ areaDirectory b B K = cond (ltb (b .n) 2) [] (directoryBytes (areaKeys b B K))
 
 unfoldable pub areaIndex : Settings → SSTableIndexBuilder → List ℕ → List ℕ → List ℕ
 areaIndex S b B K = cond (ltb (b .n) 2) [] (indexBytes S (blocksAt B stride 0 (b .n)) (areaKeys b B K))
+
+-- what is kept of the plans of the areas' store
+abbrev pub areaPlans : Settings → SSTableIndexBuilder → List ℕ → List ℕ
+areaPlans S b B = plans (S .choose) (S .groupLen) (groupCount (S .groupLen) (b .n)) (blocksAt B stride 0 (b .n))
 
 -- row 9: output shorter than the result
 unfoldable pub finishNo : Settings → SSTableIndexBuilder → List ℕ → List ℕ → List ℕ → ℕ

@@ -1,7 +1,6 @@
 // The index builder: `SSTableIndexBuilder` of src/index/mod.rs over two lent areas.
 mod add;
 mod finish;
-mod refusals;
 mod rows;
 mod shorten;
 
@@ -12,6 +11,11 @@ ghost use Rattle.builder.specs.Index.{standard};
 ghost use Rattle.builder.specs.Finish.{finishOf, FinishedCased, finishDef, finishLenDef};
 use group::BlockAddr;
 use layout::STORE_BLOCK_LEN;
+use layout::refusals::AREA_BAD;
+use layout::refusals::KEY_BAD;
+
+// As many blocks make 8 groups at most: their plans take a small area, so that a short list doesn't clear the large one.
+const FEW_BLOCKS: usize = 1_024;
 
 pub struct SSTableIndexBuilder {
     pub n: usize,
@@ -83,7 +87,7 @@ impl SSTableIndexBuilder {
         ensures { λ r. ⌜ AnswerCased r ⌝ }
     {
         if rows::area_bad(self, blocks, keys) {
-            return Answer::Refused(refusals::AREA_BAD, self);
+            return Answer::Refused(AREA_BAD, self);
         }
         let key_no = rows::key_no(next_key);
         if key_no != 0 {
@@ -91,7 +95,7 @@ impl SSTableIndexBuilder {
         }
         let common = rows::common_len(self, blocks, keys, next_key);
         if rows::key_bad_behind(self, blocks, keys, next_key, common) {
-            return Answer::Refused(refusals::KEY_BAD, self);
+            return Answer::Refused(KEY_BAD, self);
         }
         shorten::shorten_last(self, blocks, keys, common);
         Answer::Taken(self)
@@ -107,15 +111,12 @@ impl SSTableIndexBuilder {
         if no != 0 {
             return Finished::Unwritten(no, self);
         }
-        let total = finish::index_len(self, blocks, keys, STORE_BLOCK_LEN);
-        if out.len() < total {
-            return Finished::Unwritten(refusals::OUT_SHORT, self);
+        if self.n <= FEW_BLOCKS {
+            let mut kept = [0u64; 16];
+            return finish::finish_with(self, blocks, keys, STORE_BLOCK_LEN, &mut kept, out);
         }
-        if self.n < 2 {
-            return Finished::Written(self, 0, 0);
-        }
-        let directory = finish::write_index(self, blocks, keys, STORE_BLOCK_LEN, out);
-        Finished::Written(self, total, directory)
+        let mut kept = [0u64; 1_024];
+        finish::finish_with(self, blocks, keys, STORE_BLOCK_LEN, &mut kept, out)
     }
 
     // The total that a finish would need: rows 1 and 8 as finish has them.
@@ -126,6 +127,17 @@ impl SSTableIndexBuilder {
         if no != 0 {
             return FinishLen::Refused(no);
         }
-        FinishLen::Total(finish::index_len(self, blocks, keys, STORE_BLOCK_LEN))
+        if self.n <= FEW_BLOCKS {
+            let mut kept = [0u64; 16];
+            return FinishLen::Total(finish::plan_index(
+                self,
+                blocks,
+                keys,
+                STORE_BLOCK_LEN,
+                &mut kept,
+            ));
+        }
+        let mut kept = [0u64; 1_024];
+        FinishLen::Total(finish::plan_index(self, blocks, keys, STORE_BLOCK_LEN, &mut kept))
     }
 }

@@ -8,16 +8,16 @@ ghost use Rattle.builder.specs.View.{stride};
 ghost use Rattle.builder.specs.Rows.{recordBad, areaBad, AreaOk, keyNo, keyBad, roomBad, blockNo, addNo};
 ghost use Rattle.builder.specs.Area.{areaPlace, viewOf};
 use crate::SSTableIndexBuilder;
-use crate::refusals::AREA_BAD;
-use crate::refusals::JOIN_BAD;
-use crate::refusals::KEY_BAD;
-use crate::refusals::KEY_LONG;
-use crate::refusals::NUMBERS_BAD;
-use crate::refusals::ORDINAL_BAD;
-use crate::refusals::ROOM_BAD;
 use group::BlockAddr;
 use layout::MAX_BLOCKS;
 use layout::MAX_KEY_LEN;
+use layout::refusals::AREA_BAD;
+use layout::refusals::JOIN_BAD;
+use layout::refusals::KEY_BAD;
+use layout::refusals::KEY_LONG;
+use layout::refusals::NUMBERS_BAD;
+use layout::refusals::ORDINAL_BAD;
+use layout::refusals::ROOM_BAD;
 
 // A block's record: start, end, first ordinal, key offset, key length.
 pub const STRIDE: usize = 5;

@@ -1,7 +1,4 @@
 // Areas of numbers and of bytes: filled, copied and compared.
-ghost use Prim.Native.Nat.{_≤_};
-ghost use lib.ListN.{length};
-
 pub const NUMBER_MARK: u64 = 0xa5a5_a5a5_a5a5_a5a5;
 
 pub const MARK: u8 = 0xa5;
@@ -24,23 +21,25 @@ pub fn fill_bytes(area: &mut [u8]) {
     }
 }
 
-// Puts all of `from` at the front of `to`.
-pub fn copy_numbers(from: &[u64], to: &mut [u64])
-    requires { ⌜ length (now from) ≤ length (now to) ⌝ }
-{
+// Puts `from` at the front of `to`, as far as there is room.
+pub fn copy_numbers(from: &[u64], to: &mut [u64]) {
     let mut i: usize = 0;
     while i < from.len() {
+        if i >= to.len() {
+            return;
+        }
         to[i] = from[i];
         i += 1;
     }
 }
 
-// Puts all of `from` at the front of `to`.
-pub fn copy_bytes(from: &[u8], to: &mut [u8])
-    requires { ⌜ length (now from) ≤ length (now to) ⌝ }
-{
+// Puts `from` at the front of `to`, as far as there is room.
+pub fn copy_bytes(from: &[u8], to: &mut [u8]) {
     let mut i: usize = 0;
     while i < from.len() {
+        if i >= to.len() {
+            return;
+        }
         to[i] = from[i];
         i += 1;
     }

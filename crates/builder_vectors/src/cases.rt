@@ -8,6 +8,7 @@ use builder::FinishLen;
 use builder::Finished;
 use builder::SSTableIndexBuilder;
 use group::BlockAddr;
+use vectors::driver;
 
 const LONGEST: usize = 1024;
 
@@ -25,12 +26,7 @@ pub struct State {
 
 impl State {
     pub fn with(self, same: bool) -> State {
-        State {
-            n: self.n,
-            blocks: self.blocks,
-            keys: self.keys,
-            same,
-        }
+        self.counting(self.n, same)
     }
 
     fn counting(self, n: usize, same: bool) -> State {
@@ -40,6 +36,16 @@ impl State {
             keys: self.keys,
             same,
         }
+    }
+}
+
+// No area is lent yet.
+pub fn start() -> State {
+    State {
+        n: 0,
+        blocks: 0,
+        keys: 0,
+        same: true,
     }
 }
 
@@ -224,47 +230,51 @@ fn is_untouched(old_blocks: &[u64], blocks: &[u64], old_keys: &[u8], keys: &[u8]
     areas::bytes_same_but(old_keys, keys, 0, 0)
 }
 
-pub fn add(state: State, given: &[u64], key: &[u8], blocks: &mut [u64], keys: &mut [u8]) -> State {
-    let rooms = blocks.len();
-    let key_rooms = keys.len();
-    if given.len() != 4 {
-        return state.with(false);
+// The block of the first three numbers.
+pub fn block_of(given: &[u64]) -> BlockAddr {
+    BlockAddr {
+        start: vectors::number(given, 0),
+        end: vectors::number(given, 1),
+        first_ordinal: vectors::number(given, 2),
     }
-    if rooms > LONGEST {
-        return state.with(false);
-    }
-    if key_rooms > LONGEST_KEYS {
-        return state.with(false);
-    }
-    let mut old_blocks = [0u64; LONGEST];
-    let mut old_keys = [0u8; LONGEST_KEYS];
-    areas::copy_numbers(blocks, &mut old_blocks);
-    areas::copy_bytes(keys, &mut old_keys);
-    let block = BlockAddr {
-        start: given[0],
-        end: given[1],
-        first_ordinal: given[2],
-    };
-    let n = state.n;
-    let answer = SSTableIndexBuilder { n }.add_block(blocks, keys, key, block);
-    let got = read_answer(answer);
-    if got.no != given[3] {
-        return state.counting(got.n, false);
-    }
+}
+
+// Whether an added block gets the number given, and count and areas are as they must be then.
+fn is_answered(
+    n: usize,
+    block: BlockAddr,
+    key: &[u8],
+    got: Told,
+    old_blocks: &[u64],
+    blocks: &[u64],
+    old_keys: &[u8],
+    keys: &[u8],
+) -> bool {
     if got.no != 0 {
-        let same = is_untouched(&old_blocks[0..rooms], blocks, &old_keys[0..key_rooms], keys);
-        return state.counting(got.n, is_both(same, got.n == n));
+        return is_both(got.n == n, is_untouched(old_blocks, blocks, old_keys, keys));
     }
-    let same = is_added(
-        n,
-        block,
-        key,
-        &old_blocks[0..rooms],
-        blocks,
-        &old_keys[0..key_rooms],
-        keys,
-    );
-    state.counting(got.n, is_both(same, is_next(n, got.n)))
+    is_both(
+        is_next(n, got.n),
+        is_added(n, block, key, old_blocks, blocks, old_keys, keys),
+    )
+}
+
+// Adds a block. The areas before the call are in `old_blocks` and `old_keys`.
+fn add(
+    state: State,
+    given: &[u64],
+    key: &[u8],
+    old_blocks: &[u64],
+    blocks: &mut [u64],
+    old_keys: &[u8],
+    keys: &mut [u8],
+) -> State {
+    let n = state.n;
+    let block = block_of(given);
+    let builder = SSTableIndexBuilder::new(n);
+    let got = read_answer(builder.add_block(blocks, keys, key, block));
+    let same = is_answered(n, block, key, got, old_blocks, blocks, old_keys, keys);
+    state.counting(got.n, is_both(got.no == vectors::number(given, 3), same))
 }
 
 fn is_both(one: bool, other: bool) -> bool {
@@ -275,50 +285,70 @@ fn is_next(n: usize, next: usize) -> bool {
     if next == 0 { false } else { next - 1 == n }
 }
 
-pub fn shorten(
+// Whether a shortened key leaves count and areas as they must be.
+fn is_cut(
+    n: usize,
+    got: Told,
+    old_blocks: &[u64],
+    blocks: &[u64],
+    old_keys: &[u8],
+    keys: &[u8],
+) -> bool {
+    if got.n != n {
+        return false;
+    }
+    if got.no != 0 {
+        return is_untouched(old_blocks, blocks, old_keys, keys);
+    }
+    is_shortened(n, old_blocks, blocks, old_keys, keys)
+}
+
+// Shortens the last key. The areas before the call are in `old_blocks` and `old_keys`.
+fn shorten(
     state: State,
     given: &[u64],
     next_key: &[u8],
+    old_blocks: &[u64],
+    blocks: &mut [u64],
+    old_keys: &[u8],
+    keys: &mut [u8],
+) -> State {
+    let n = state.n;
+    let builder = SSTableIndexBuilder::new(n);
+    let answer = builder.shorten_last_block_key_given_next_key(blocks, keys, next_key);
+    let got = read_answer(answer);
+    let same = is_cut(n, got, old_blocks, blocks, old_keys, keys);
+    state.counting(got.n, is_both(got.no == vectors::number(given, 0), same))
+}
+
+// How many numbers a call that changes the areas has.
+fn numbers_of(kind: u8) -> usize {
+    if kind == b'a' { 4 } else { 1 }
+}
+
+// A call that changes the areas, beside copies of what they were.
+pub fn change(
+    kind: u8,
+    state: State,
+    given: &[u64],
+    key: &[u8],
     blocks: &mut [u64],
     keys: &mut [u8],
 ) -> State {
-    let rooms = blocks.len();
-    let key_rooms = keys.len();
-    if given.len() != 1 {
+    if given.len() != numbers_of(kind) {
         return state.with(false);
     }
-    if rooms > LONGEST {
-        return state.with(false);
+    let mut block_copy = [0u64; LONGEST];
+    let mut key_copy = [0u8; LONGEST_KEYS];
+    areas::copy_numbers(blocks, &mut block_copy);
+    areas::copy_bytes(keys, &mut key_copy);
+    let old_blocks = driver::given(&block_copy, blocks.len());
+    let old_keys = vectors::part(&key_copy, 0, keys.len());
+    match kind {
+        b'a' => add(state, given, key, old_blocks, blocks, old_keys, keys),
+        b'k' => shorten(state, given, key, old_blocks, blocks, old_keys, keys),
+        _ => state.with(false),
     }
-    if key_rooms > LONGEST_KEYS {
-        return state.with(false);
-    }
-    let mut old_blocks = [0u64; LONGEST];
-    let mut old_keys = [0u8; LONGEST_KEYS];
-    areas::copy_numbers(blocks, &mut old_blocks);
-    areas::copy_bytes(keys, &mut old_keys);
-    let n = state.n;
-    let answer = SSTableIndexBuilder { n }.shorten_last_block_key_given_next_key(
-        blocks,
-        keys,
-        next_key,
-    );
-    let got = read_answer(answer);
-    if got.no != given[0] {
-        return state.counting(got.n, false);
-    }
-    if got.no != 0 {
-        let same = is_untouched(&old_blocks[0..rooms], blocks, &old_keys[0..key_rooms], keys);
-        return state.counting(got.n, is_both(same, got.n == n));
-    }
-    let same = is_shortened(
-        n,
-        &old_blocks[0..rooms],
-        blocks,
-        &old_keys[0..key_rooms],
-        keys,
-    );
-    state.counting(got.n, is_both(same, got.n == n))
 }
 
 // Whether the builder's count is the one given, and its keys, joined, are `content`.
@@ -425,7 +455,7 @@ pub fn finishes(n: usize, given: &[u64], blocks: &[u64], keys: &[u8], out: &mut 
         return false;
     }
     let room = given[0] as usize;
-    let builder = SSTableIndexBuilder { n };
+    let builder = SSTableIndexBuilder::new(n);
     if !is_length(builder.finish_len(blocks, keys), given) {
         return false;
     }

@@ -10,6 +10,8 @@ ghost use Rattle.directory.specs.Read.{pairsBad, directoryBad, keysBad, 
 use layout::MAX_BLOCKS;
 use layout::MAX_KEY_LEN;
 use layout::PAIR_LEN;
+use layout::refusals::DIRECTORY_BAD;
+use layout::refusals::KEYS_UNSORTED;
 
 // The first key that isn't below the one looked for, that all are below it, or that a key lies outside the bytes.
 pub enum Found {
@@ -124,10 +126,10 @@ pub fn directory_no(directory: &[u8]) -> u32
     ensures { λ r. ⌜ r ≡ directoryNo (now (directory .entry)) ⌝ }
 {
     if directory_bad(directory) {
-        return 12;
+        return DIRECTORY_BAD;
     }
     if keys_bad(directory, number(directory, 0)) {
-        return 13;
+        return KEYS_UNSORTED;
     }
     0
 }

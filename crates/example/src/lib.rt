@@ -5,6 +5,8 @@ mod walk;
 
 use crate::walk::write_between;
 use crate::walk::write_range_end;
+use layout::refusals::NO_EXAMPLE;
+use layout::refusals::ROOM_SHORT;
 ghost use mathlib.Core.Path.{_≡_};
 ghost use Prim.Native.Nat.{_+_, _≤_, _<_};
 ghost use Rattle.automaton.specs.Bits.{Exactly};
@@ -42,7 +44,7 @@ fn answer(len: usize) -> ExampleAnswer
     ensures { λ r. ⌜ (len ≡ 0 → r ≡ ExampleAnswer.Refused 25) × (0 < len → r ≡ ExampleAnswer.Written len) ⌝ }
 {
     if len == 0 {
-        return ExampleAnswer::Refused(25);
+        return ExampleAnswer::Refused(NO_EXAMPLE);
     }
     ExampleAnswer::Written(len)
 }
@@ -64,7 +66,7 @@ pub fn example(
         return ExampleAnswer::Refused(no);
     }
     if !has_room(has_start, start_key, end_key, out.len()) {
-        return ExampleAnswer::Refused(24);
+        return ExampleAnswer::Refused(ROOM_SHORT);
     }
     let distances = distance::distances(table);
     if has_start {

@@ -1,5 +1,5 @@
 -- A group's bits (document 01, "Slopes and bits"), from its record and its blocks.
-use Prim.Native.Nat.{ℕ, suc, _-_}
+use Prim.Native.Nat.{ℕ, suc, _+_, _-_, _*_}
 use mathlib.Core.List.{List, [], _∷_}
 use lib.ListN.{length}
 use Rattle.serialize.specs.Digits.{leBytes}
@@ -36,6 +36,10 @@ metaOf choose offset b bs = record {
   «range_start_nbits» = widthOf (choose (rangeValues (b .start) b bs)) (rangeValues (b .start) b bs);
   «block_len» = length bs;
 }
+
+-- what is kept of a record from planning to writing: each slope with its width, as one number; the range's, then the ordinals'
+unfoldable pub planOf : BlockAddrBlockMetadata → List ℕ
+planOf m = (256 * m .«range_start_slope» + m .«range_start_nbits») ∷ (256 * m .«first_ordinal_slope» + m .«first_ordinal_nbits») ∷ []
 
 -- the group's fields as one number (SPECIFICATION 6.9)
 unfoldable pub groupNumber : BlockAddrBlockMetadata → BlockAddr → List BlockAddr → ℕ

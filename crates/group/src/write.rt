@@ -5,7 +5,8 @@ ghost use lib.ListN.{length};
 ghost use lib.Seq.{sets};
 ghost use Rattle.slope.specs.Slope.{bestSlope, storedOf};
 ghost use Rattle.group.specs.Blocks.{blockAt, blocksAt};
-ghost use Rattle.group.specs.Write.{metaOf, addrBytes};
+ghost use mathlib.Core.List.{[], _∷_};
+ghost use Rattle.group.specs.Write.{metaOf, planOf, addrBytes};
 ghost use Rattle.group.specs.Facts.{GroupArea, Fitting};
 use crate::BlockAddrBlockMetadata;
 use bitpacker::BitPacker;
@@ -48,6 +49,41 @@ pub fn plan_block(
         first_ordinal_nbits: ordinal.nbits,
         range_start_nbits: range.nbits,
         block_len: block_len as u16,
+    }
+}
+
+// A slope and its width as one number.
+pub fn packed(slope: u32, nbits: u8) -> u64
+    ensures { λ r. ⌜ r ≡ 256 * slope + nbits ⌝ }
+{
+    256 * (slope as u64) + nbits as u64
+}
+
+// The record that `plan_block` gave, from what was kept of it.
+pub fn planned_block(
+    range: u64,
+    ordinal: u64,
+    area: &[u64],
+    stride: usize,
+    first: usize,
+    count: usize,
+    offset: u64,
+) -> BlockAddrBlockMetadata
+    requires { ⌜ GroupArea (now area) stride first count × (range ∷ ordinal ∷ [] ≡ planOf
+        (metaOf bestSlope 0 (blockAt (now area) stride first) (blocksAt (now area) stride (first + 1) (count - 1)))) ⌝ }
+    ensures { λ r. ⌜ r ≡ metaOf bestSlope offset (blockAt (now (area .entry)) stride first)
+        (blocksAt (now (area .entry)) stride (first + 1) (count - 1)) ⌝ }
+{
+    let at = stride * first;
+    BlockAddrBlockMetadata {
+        offset,
+        range_start: area[at],
+        first_ordinal: area[at + FIRST_ORDINAL],
+        range_start_slope: (range / 256) as u32,
+        first_ordinal_slope: (ordinal / 256) as u32,
+        first_ordinal_nbits: (ordinal % 256) as u8,
+        range_start_nbits: (range % 256) as u8,
+        block_len: (count - 1) as u16,
     }
 }
 

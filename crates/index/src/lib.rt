@@ -10,9 +10,6 @@ ghost use Rattle.index.specs.Lookups.{openedBad, GetBlock, LocateWithOrd
 use group::BlockAddr;
 use layout::STORE_BLOCK_LEN;
 
-// Row 20 of the table: a record, or bytes that it names, don't fit.
-pub const UNFIT: u32 = 20;
-
 // An opened index: how many blocks, and where its parts stand in the bytes.
 pub struct SSTableIndexV3 {
     pub n: usize,

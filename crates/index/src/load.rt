@@ -10,17 +10,11 @@ ghost use Rattle.index.specs.Opening.{footerNo, groupRecordsBad, openDef
 use crate::Loaded;
 use crate::SSTableIndexV3;
 use layout::META_LEN;
+use layout::refusals::FILE_SHORT;
+use layout::refusals::NO_DIRECTORY;
+use layout::refusals::RECORDS_BAD;
 
 const FOOTER_LEN: usize = 8;
-
-// Row 10 of the table: fewer bytes than the lengths need.
-const TOO_SHORT: u32 = 10;
-
-// Row 11: no directory.
-const NO_DIRECTORY: u32 = 11;
-
-// Row 14: the group records' length.
-const RECORDS_BAD: u32 = 14;
 
 // Rows 10 and 11.
 fn footer_no(data: &[u8]) -> u32
@@ -28,17 +22,17 @@ fn footer_no(data: &[u8]) -> u32
 {
     let len = data.len();
     if len < FOOTER_LEN {
-        return TOO_SHORT;
+        return FILE_SHORT;
     }
     let directory = serialize::deserialize_u64(data, len - FOOTER_LEN);
     if directory == 0 {
         return NO_DIRECTORY;
     }
     if directory > len as u64 {
-        return TOO_SHORT;
+        return FILE_SHORT;
     }
     if len < directory as usize + 16 {
-        return TOO_SHORT;
+        return FILE_SHORT;
     }
     0
 }
@@ -52,7 +46,7 @@ fn records_bad(data: &[u8], directory_len: usize, n: usize, group_len: usize) ->
         × (n ≤ maxBlocks) ⌝ }
     ensures { λ r. ⌜ r ≡ groupRecordsBad «group_len» (now («data» .entry)) ⌝ }
 {
-    let metas_len = META_LEN * store::write::group_count(n, group_len);
+    let metas_len = META_LEN * store::grouping::group_count(n, group_len);
     if serialize::deserialize_u64(data, directory_len) != metas_len as u64 {
         return true;
     }

@@ -17,21 +17,15 @@ use crate::Located;
 use crate::LocatedId;
 use crate::Place;
 use crate::SSTableIndexV3;
-use crate::UNFIT;
 use directory::read::Found;
 use group::BlockAddr;
 use layout::MAX_BLOCKS;
 use layout::META_LEN;
+use layout::refusals::KEY_ABOVE;
+use layout::refusals::ORDINAL_BELOW;
+use layout::refusals::UNFIT;
+use layout::refusals::UNKNOWN_ID;
 use store::OrdFound;
-
-// Row 17 of the table: an id without a block.
-const UNKNOWN_ID: u32 = 17;
-
-// Row 18: an ordinal below the first.
-const ORDINAL_BELOW: u32 = 18;
-
-// Row 19: a key above the last separator.
-const KEY_ABOVE: u32 = 19;
 
 // Whether a part lies outside `len` bytes.
 fn part_outside(offset: usize, part_len: usize, len: usize) -> bool
@@ -72,7 +66,7 @@ pub fn opened_bad(opened: SSTableIndexV3, len: usize, group_len: usize) -> bool
     if part_outside(opened.addrs, opened.addrs_len, len) {
         return true;
     }
-    opened.metas_len < META_LEN * store::write::group_count(opened.n, group_len)
+    opened.metas_len < META_LEN * store::grouping::group_count(opened.n, group_len)
 }
 
 // Block `id` as the store gives it: where its group can't be read, its numbers break row 3.

@@ -2,6 +2,7 @@
 use index::BlockById;
 use index::Located;
 use index::LocatedId;
+use index::Place;
 
 const LIMIT: u64 = 1 << 48;
 
@@ -62,6 +63,20 @@ pub fn of_id(answer: LocatedId) -> Answer {
     }
 }
 
+// A separator's place: 1, where it begins and how long it is.
+pub fn of_place(place: Place) -> Answer {
+    match place {
+        Place::Part(offset, len) => Answer {
+            no: 1,
+            id: 0,
+            start: offset as u64,
+            end: len as u64,
+            ord: 0,
+        },
+        Place::Missing => refused(0),
+    }
+}
+
 pub fn equal(one: Answer, other: Answer) -> bool {
     if one.no != other.no {
         return false;
@@ -99,8 +114,10 @@ pub fn is_allowed(answer: Answer, row: u64, n: u64) -> bool {
     }
 }
 
-// Whether the part is the one of the data at these places, inside.
-pub fn is_part(data: &[u8], offset: usize, len: usize, part: &[u8]) -> bool {
+// Whether the part is the one of the data at a separator's place, inside.
+pub fn is_part(data: &[u8], place: Answer, part: &[u8]) -> bool {
+    let offset = place.start as usize;
+    let len = place.end as usize;
     if offset > data.len() {
         return false;
     }

@@ -1,8 +1,18 @@
 // Lookups in a file as it was opened: whether the answers are those of the list.
 use crate::answers;
 use crate::answers::Answer;
-use index::Place;
 use index::SSTableIndexV3;
+
+// ID NO START END ORD, without the id; zeros where the line ends before.
+fn due_of_id(given: &[u64]) -> Answer {
+    Answer {
+        no: vectors::number(given, 1),
+        id: 0,
+        start: vectors::number(given, 2),
+        end: vectors::number(given, 3),
+        ord: vectors::number(given, 4),
+    }
+}
 
 // ID NO START END ORD
 pub fn by_id(opened: SSTableIndexV3, data: &[u8], given: &[u64]) -> bool {
@@ -10,14 +20,7 @@ pub fn by_id(opened: SSTableIndexV3, data: &[u8], given: &[u64]) -> bool {
         return false;
     }
     let got = answers::of_block(opened.get_block(data, given[0]));
-    let due = Answer {
-        no: given[1],
-        id: 0,
-        start: given[2],
-        end: given[3],
-        ord: given[4],
-    };
-    answers::equal(got, due)
+    answers::equal(got, due_of_id(given))
 }
 
 // NO ID START END ORD; zeros where the line ends before.
@@ -58,37 +61,14 @@ pub fn block_by_key(opened: SSTableIndexV3, data: &[u8], key: &[u8], given: &[u6
     answers::equal(got, due(given))
 }
 
-// ID FOUND OFFSET LEN: the place, and the part that stands there.
+// ID FOUND OFFSET LEN: the place, and the part that stands there. A missing one is the empty part at 0.
 pub fn separator(opened: SSTableIndexV3, data: &[u8], given: &[u64]) -> bool {
     if given.len() != 4 {
         return false;
     }
-    let id = given[0];
-    let part = opened.separator(data, id);
-    match opened.separator_place(data, id) {
-        Place::Part(offset, len) => {
-            if given[1] != 1 {
-                return false;
-            }
-            if given[2] != offset as u64 {
-                return false;
-            }
-            if given[3] != len as u64 {
-                return false;
-            }
-            answers::is_part(data, offset, len, part)
-        }
-        Place::Missing => {
-            if given[1] != 0 {
-                return false;
-            }
-            if given[2] != 0 {
-                return false;
-            }
-            if given[3] != 0 {
-                return false;
-            }
-            part.len() == 0
-        }
+    let got = answers::of_place(opened.separator_place(data, given[0]));
+    if !answers::equal(got, due_of_id(given)) {
+        return false;
     }
+    answers::is_part(data, got, opened.separator(data, given[0]))
 }

@@ -1,6 +1,5 @@
 // Lookups whose record may not belong to the bytes: whether an answer is one that document 01 allows.
 use crate::answers;
-use index::Place;
 use index::SSTableIndexV3;
 
 // ID
@@ -48,15 +47,11 @@ pub fn separator(opened: SSTableIndexV3, data: &[u8], given: &[u64]) -> bool {
     if given.len() != 1 {
         return false;
     }
-    let id = given[0];
-    let part = opened.separator(data, id);
-    match opened.separator_place(data, id) {
-        Place::Part(offset, len) => {
-            if id >= opened.n as u64 {
-                return false;
-            }
-            answers::is_part(data, offset, len, part)
+    let got = answers::of_place(opened.separator_place(data, given[0]));
+    if got.no == 1 {
+        if given[0] >= opened.n as u64 {
+            return false;
         }
-        Place::Missing => part.len() == 0,
     }
+    answers::is_part(data, got, opened.separator(data, given[0]))
 }

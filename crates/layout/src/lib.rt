@@ -1,4 +1,5 @@
-// Lengths and limits of the layouts, each in one place: writers and readers rest on these.
+// Lengths and limits of the layouts, and the numbers of refusals, each in one place: writers and readers rest on these.
+pub mod refusals;
 
 // The most blocks that an index has.
 pub const MAX_BLOCKS: usize = 65536;

@@ -165,6 +165,30 @@ fn product(a: usize, b: usize) -> usize
     a * b
 }
 
+// Whether the bytes stand at PLACE and read as the fields in turn.
+fn is_packed(area: &[u8], bytes: &[u8], fields: &[u64], r: u8, o: u8) -> bool
+    requires { ⌜ (16 ≤ length (now area)) × (length (now fields) ≤ 512) ⌝ }
+{
+    if !holds(area, bytes, bytes) {
+        return false;
+    }
+    pack::read_back(bytes, fields, r, o)
+}
+
+fn packs_fields(width: u8, fields: &[u64], bytes: &[u8], area: &mut [u8]) -> bool
+    requires { ⌜ (width ≤ 56) × (length (now fields) ≤ 512) × (8192 ≤ length (now area)) ⌝ }
+{
+    if !pack::fit(fields, width, width) {
+        return false;
+    }
+    let len = (product(width as usize, fields.len()) + 7) / 8;
+    let end = PLACE + len;
+    if pack::pack_fields(&mut area[PLACE..end], fields, width) != len {
+        return false;
+    }
+    is_packed(area, bytes, fields, width, width)
+}
+
 pub fn same_fields(numbers: &[u64], bytes: &[u8], area: &mut [u8]) -> bool
     requires { ⌜ 8192 ≤ length (now area) ⌝ }
 {
@@ -175,26 +199,13 @@ pub fn same_fields(numbers: &[u64], bytes: &[u8], area: &mut [u8]) -> bool
     if n > 514 {
         return false;
     }
-    let fields = &numbers[2..];
-    if numbers[1] != fields.len() as u64 {
-        return false;
-    }
     if numbers[0] > 56 {
         return false;
     }
-    let width = numbers[0] as u8;
-    if !pack::fit(fields, width, width) {
+    if numbers[1] != (n - 2) as u64 {
         return false;
     }
-    let len = (product(width as usize, fields.len()) + 7) / 8;
-    let end = PLACE + len;
-    if pack::pack_fields(&mut area[PLACE..end], fields, width) != len {
-        return false;
-    }
-    if !holds(area, bytes, bytes) {
-        return false;
-    }
-    pack::read_back(bytes, fields, width, width)
+    packs_fields(numbers[0] as u8, &numbers[2..], bytes, area)
 }
 
 pub fn same_read(numbers: &[u64], bytes: &[u8]) -> bool {
@@ -207,10 +218,26 @@ pub fn same_read(numbers: &[u64], bytes: &[u8]) -> bool {
     pack::reads(bytes, numbers[0] as usize, numbers[1] as u8, numbers[2])
 }
 
+fn packs_group(r: u8, o: u8, count: usize, fields: &[u64], bytes: &[u8], area: &mut [u8]) -> bool
+    requires { ⌜ (r ≤ 56) × (o ≤ 56) × (count ≤ 255) ⌝ }
+    requires { ⌜ (length (now fields) ≡ 2 * count + 1) × (8192 ≤ length (now area)) ⌝ }
+{
+    if !pack::fit(fields, r, o) {
+        return false;
+    }
+    let len = (product(r as usize + o as usize, count) + r as usize + 7) / 8;
+    let end = PLACE + len;
+    if pack::pack_group(&mut area[PLACE..end], fields, r, o, count) != len {
+        return false;
+    }
+    is_packed(area, bytes, fields, r, o)
+}
+
 pub fn same_group(numbers: &[u64], bytes: &[u8], area: &mut [u8]) -> bool
     requires { ⌜ 8192 ≤ length (now area) ⌝ }
 {
-    if numbers.len() < 4 {
+    let n = numbers.len();
+    if n < 4 {
         return false;
     }
     if numbers[0] > 56 {
@@ -222,25 +249,18 @@ pub fn same_group(numbers: &[u64], bytes: &[u8], area: &mut [u8]) -> bool
     if numbers[2] > 255 {
         return false;
     }
-    let r = numbers[0] as u8;
-    let o = numbers[1] as u8;
     let count = numbers[2] as usize;
-    let fields = &numbers[3..];
-    if fields.len() != 2 * count + 1 {
+    if n - 3 != 2 * count + 1 {
         return false;
     }
-    if !pack::fit(fields, r, o) {
-        return false;
-    }
-    let len = (product(r as usize + o as usize, count) + r as usize + 7) / 8;
-    let end = PLACE + len;
-    if pack::pack_group(&mut area[PLACE..end], fields, r, o, count) != len {
-        return false;
-    }
-    if !holds(area, bytes, bytes) {
-        return false;
-    }
-    pack::read_back(bytes, fields, r, o)
+    packs_group(
+        numbers[0] as u8,
+        numbers[1] as u8,
+        count,
+        &numbers[3..],
+        bytes,
+        area,
+    )
 }
 
 // Puts the bytes at PLACE.

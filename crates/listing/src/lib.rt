@@ -18,14 +18,12 @@ use automaton::reach::can_match;
 use automaton::table::accept;
 use directory::read::key;
 use index::SSTableIndexV3;
-use index::UNFIT;
 use index::opened_bad;
+use layout::refusals::ROOM_SHORT;
+use layout::refusals::UNFIT;
 use pruning::block_match_automaton::accept_prefix;
 use pruning::block_match_automaton::can_block_match;
 use pruning::block_match_automaton::can_block_match_from;
-
-// Row 24 of the table: fewer bytes for marks than blocks.
-const FEW_MARKS: u32 = 24;
 
 // How many blocks are marked, or a row's number.
 pub enum Listed {
@@ -304,7 +302,7 @@ pub fn get_block_for_automaton(
         return Listed::Refused(no);
     }
     if marks.len() < opened.n {
-        return Listed::Refused(FEW_MARKS);
+        return Listed::Refused(ROOM_SHORT);
     }
     Listed::Count(mark_blocks(directory, opened.n, table, marks))
 }

@@ -4,6 +4,25 @@ use crate::files::State;
 use crate::listings;
 use pruning::Matched;
 
+// A call's number, and its mark.
+struct Decided {
+    no: u64,
+    mark: u64,
+}
+
+fn read_answer(answer: Matched) -> Decided {
+    match answer {
+        Matched::Matches(mark) => Decided {
+            no: 0,
+            mark: mark as u64,
+        },
+        Matched::Refused(no) => Decided {
+            no: no as u64,
+            mark: 0,
+        },
+    }
+}
+
 // HAS NO MARK
 fn is_marked(given: &[u64], start: &[u8], end: &[u8], table: &[u8]) -> bool {
     if given.len() != 3 {
@@ -12,20 +31,11 @@ fn is_marked(given: &[u64], start: &[u8], end: &[u8], table: &[u8]) -> bool {
     if given[0] > 1 {
         return false;
     }
-    match pruning::can_block_match_automaton(given[0] == 1, start, end, table) {
-        Matched::Matches(mark) => {
-            if given[1] != 0 {
-                return false;
-            }
-            given[2] == mark as u64
-        }
-        Matched::Refused(no) => {
-            if given[1] != no as u64 {
-                return false;
-            }
-            given[2] == 0
-        }
+    let got = read_answer(pruning::can_block_match_automaton(given[0] == 1, start, end, table));
+    if given[1] != got.no {
+        return false;
     }
+    given[2] == got.mark
 }
 
 // Whether a call's answers are those of the list.

@@ -58,6 +58,22 @@ fn is_example(has_start: bool, start: &[u8], end: &[u8], table: &[u8], word: &[u
     accepts(table, word)
 }
 
+// A call's number, and how many bytes it writes.
+struct Told {
+    no: u64,
+    len: usize,
+}
+
+fn read_answer(answer: ExampleAnswer) -> Told {
+    match answer {
+        ExampleAnswer::Written(len) => Told { no: 0, len },
+        ExampleAnswer::Refused(no) => Told {
+            no: no as u64,
+            len: 0,
+        },
+    }
+}
+
 fn is_told_over(fill: u8, given: &[u64], start: &[u8], end: &[u8], table: &[u8]) -> bool
     requires { ⌜ 3 ≤ length (now given) ⌝ }
 {
@@ -67,26 +83,20 @@ fn is_told_over(fill: u8, given: &[u64], start: &[u8], end: &[u8], table: &[u8])
     let has_start = given[0] == 1;
     let room = given[1] as usize;
     let mut out = [fill; AREA];
-    match example::example(has_start, start, end, table, &mut out[0..room]) {
-        ExampleAnswer::Written(len) => {
-            if given[2] != 0 {
-                return false;
-            }
-            if len > room {
-                return false;
-            }
-            if !areas::is_left(&out, len, fill) {
-                return false;
-            }
-            is_example(has_start, start, end, table, areas::front(&out, len))
-        }
-        ExampleAnswer::Refused(no) => {
-            if given[2] != no as u64 {
-                return false;
-            }
-            areas::is_left(&out, 0, fill)
-        }
+    let got = read_answer(example::example(has_start, start, end, table, &mut out[0..room]));
+    if got.no != given[2] {
+        return false;
     }
+    if got.len > room {
+        return false;
+    }
+    if !areas::is_left(&out, got.len, fill) {
+        return false;
+    }
+    if got.no != 0 {
+        return true;
+    }
+    is_example(has_start, start, end, table, areas::front(&out, got.len))
 }
 
 // HAS ROOM NO: whether the call has this number, and with number 0 writes an example.

@@ -83,7 +83,7 @@ pub fn make_calls(list: &[u8], blocks: &mut [u64], keys: &mut [u8], answers: &mu
     let count = format::call_count(list);
     let mut last = Called {
         no: 0,
-        builder: SSTableIndexBuilder { n: 0 },
+        builder: SSTableIndexBuilder::new(0),
         next: format::calls_from(list),
     };
     let mut i: usize = 0;

@@ -26,7 +26,7 @@ pub extern "C" fn rosmarel_add(
         ≡ addDef (builderOf (now (n .entry))) (now (blocks .entry)) (now (keys .entry)) (now (key .entry))
         (blockWith start end «first_ordinal») ⌝ }
 {
-    let builder = SSTableIndexBuilder { n: *n as usize };
+    let builder = SSTableIndexBuilder::new(*n as usize);
     let block = BlockAddr {
         start: start,
         end: end,
@@ -55,7 +55,7 @@ pub extern "C" fn rosmarel_shorten(
     ensures { λ r. ⌜ calledWith r (builderOf n) (now (blocks .exit)) (now (keys .exit))
         ≡ shortenDef (builderOf n) (now (blocks .entry)) (now (keys .entry)) (now («next_key» .entry)) ⌝ }
 {
-    let builder = SSTableIndexBuilder { n: n as usize };
+    let builder = SSTableIndexBuilder::new(n as usize);
     match builder.shorten_last_block_key_given_next_key(blocks, keys, next_key) {
         Answer::Taken(_) => 0,
         Answer::Refused(no, _) => no,
@@ -75,7 +75,7 @@ pub extern "C" fn rosmarel_finish(
     ensures { λ r. ⌜ finishWith r n (now (out .exit)) (now (total .exit)) (now («directory_len» .exit))
         ≡ finishDef standard (builderOf n) (now (blocks .entry)) (now (keys .entry)) (now (out .entry)) ⌝ }
 {
-    let builder = SSTableIndexBuilder { n: n as usize };
+    let builder = SSTableIndexBuilder::new(n as usize);
     match builder.finish(blocks, keys, out) {
         Finished::Written(_, len, directory) => {
             *total = len as u64;
@@ -96,7 +96,7 @@ pub extern "C" fn rosmarel_finish_len(n: u64, blocks: &[u64], keys: &[u8], total
     ensures { λ r. ⌜ r ≡ lenNo (finishLenDef standard (builderOf n) (now (blocks .entry)) (now (keys .entry))) ⌝ }
     ensures { λ _. ⌜ now (total .exit) ≡ lenTotal (finishLenDef standard (builderOf n) (now (blocks .entry)) (now (keys .entry))) ⌝ }
 {
-    let builder = SSTableIndexBuilder { n: n as usize };
+    let builder = SSTableIndexBuilder::new(n as usize);
     match builder.finish_len(blocks, keys) {
         FinishLen::Total(len) => {
             *total = len as u64;

@@ -2,6 +2,7 @@
 ghost use mathlib.Core.Path.{_≡_};
 ghost use Rattle.store_slice.specs.Slice.{sliceStored, sliceOut};
 ghost use Rattle.store_slice.specs.Numbers.{blocksOfNumbers};
+use layout::STORE_BLOCK_LEN;
 use store_slice::Stored;
 
 // Hands out the length of an answer, and returns its number.
@@ -19,5 +20,8 @@ pub extern "C" fn rosmarel_store(blocks: &[[u64; 3]], out: &mut [u8], len: &mut 
         × (now (out .exit) ≡ sliceOut (blocksOfNumbers (now (blocks .entry))) (now (out .entry)))
         × (now (len .exit) ≡ sliceStored (blocksOfNumbers (now (blocks .entry))) (now (out .entry)) .len) ⌝ }
 {
-    answer(store_slice::groups::serialize_numbers(blocks, out), len)
+    answer(
+        store_slice::numbers::serialize(blocks, STORE_BLOCK_LEN, out),
+        len,
+    )
 }

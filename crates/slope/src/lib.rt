@@ -127,8 +127,15 @@ pub fn best_slope(area: &[u64], at: usize, stride: usize, base: u64, count: usiz
         let v = area[p] - base;
         let i = j as u64 + 1;
         if !inside(low.slope, high.slope, i, v) {
-            low = lower_with(low, i, v);
-            high = higher_with(high, i, v);
+            // a slope that is cut is worked out once for both
+            if i <= v / 0x1_0000_0000 {
+                let cut = Point::new(i, v);
+                low = lower(low, cut);
+                high = higher(high, cut);
+            } else {
+                low = lower_with(low, i, v);
+                high = higher_with(high, i, v);
+            }
         }
         j += 1;
     }

@@ -1,5 +1,7 @@
 pub mod Groups
 pub mod Left
+pub mod Plans
+pub mod Planning
 pub mod Lookup
 pub mod Rows
 pub mod Passed

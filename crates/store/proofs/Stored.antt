@@ -54,7 +54,7 @@ module _ (choose : List ℕ → ℕ) where
 
   -- the group of `count` blocks from block `first` on, and what it leaves
   module _ {L : ℕ} (some : 1 ≤ L) (area : List ℕ) (stride n first count : ℕ) (is : count ≡ min L (n - first)) (more : first < n) where
-    next-group : take L (blocksAt area stride first (n - first)) ≡ blocksAt area stride first count
+    pub next-group : take L (blocksAt area stride first (n - first)) ≡ blocksAt area stride first count
     next-group = take-blocksAt area stride L first (n - first) ∙ ap (blocksAt area stride first) (sym is)
 
     pub addrs-turn : addrs choose L (groupCount L (n - first)) (blocksAt area stride first (n - first))
@@ -80,7 +80,7 @@ module _ (choose : List ℕ → ℕ) where
 
   -- no group is left behind the last block
   module _ {L : ℕ} (some : 1 ≤ L) (n first : ℕ) (none : n ≤ first) (bs : List BlockAddr) where
-    none-left : groupCount L (n - first) ≡ 0
+    pub none-left : groupCount L (n - first) ≡ 0
     none-left = ap (groupCount L) (let e : n - first ≡ 0 = omega arith in e) ∙ group-count-zero some
 
     pub addrs-none : addrs choose L (groupCount L (n - first)) bs ≡ []

@@ -1,5 +1,5 @@
 pub mod Store
-pub mod Answers
+pub mod Plans
 pub mod Read
 pub mod Check
 pub mod Facts

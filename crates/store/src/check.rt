@@ -14,10 +14,13 @@ ghost use Rattle.store.specs.Check.{groupsBad, firstsBad, blocksBad, sto
 ghost use Rattle.store.specs.Facts.{GroupLenOk, GroupRecordsOk};
 ghost use Rattle.store.specs.declared.Got.the-variants.{Block, Broken};
 use crate::Got;
+use crate::grouping;
 use group::BlockAddr;
 use group::BlockAddrBlockMetadata;
 use group::rows::LIMIT;
 use layout::META_LEN;
+use layout::refusals::BLOCK_BAD;
+use layout::refusals::GROUP_BAD;
 
 // Row 15: whether one of the groups breaks its rule.
 fn groups_bad(metas: &[u8], addrs: &[u8], n: usize, group_len: usize, groups: usize) -> bool
@@ -27,7 +30,7 @@ fn groups_bad(metas: &[u8], addrs: &[u8], n: usize, group_len: usize, groups: us
     let mut g: usize = 0;
     while g < groups {
         let meta = group::meta::deserialize(metas, META_LEN * g);
-        let count = crate::read::blocks_in(n, group_len, g);
+        let count = grouping::blocks_in(n, group_len, g);
         if group::read::group_bad(meta, count, addrs.len()) {
             return true;
         }
@@ -125,12 +128,12 @@ pub fn store_no(metas: &[u8], addrs: &[u8], n: usize, group_len: usize) -> u32
     requires { ⌜ GroupLenOk «group_len» × GroupRecordsOk «group_len» (now metas) n ⌝ }
     ensures { λ r. ⌜ r ≡ storeNo «group_len» (now (metas .entry)) (now (addrs .entry)) n ⌝ }
 {
-    let groups = crate::write::group_count(n, group_len);
+    let groups = grouping::group_count(n, group_len);
     if groups_bad(metas, addrs, n, group_len, groups) {
-        return 15;
+        return GROUP_BAD;
     }
     if blocks_bad(metas, addrs, n, group_len, groups) {
-        return 16;
+        return BLOCK_BAD;
     }
     0
 }

@@ -1,15 +1,10 @@
 // The address store: `BlockAddrStoreWriter` and `BlockAddrStore` of src/index/v3.rs.
 pub mod check;
+pub mod grouping;
 pub mod read;
 pub mod write;
 
 use group::BlockAddr;
-
-// The length of a store that was written, or that the output is shorter (row 9).
-pub enum Serialized {
-    Len(usize),
-    Short,
-}
 
 // A block that was looked up, or a group that breaks its rules.
 pub enum Got {

@@ -6,25 +6,17 @@ ghost use lib.Dec.{leb};
 ghost use lib.ListN.{length};
 ghost use Rattle.group.specs.Legal.{limit};
 ghost use Rattle.group.specs.Read.{groupBad};
-ghost use Rattle.store.specs.Read.{groupMeta, groupLen, blockOr, storeGet, storeBlock, StoreOk, OrdFoundIn, OrdFoundAs};
+ghost use Rattle.store.specs.Read.{groupMeta, blockOr, storeGet, storeBlock, StoreOk, OrdFoundIn, OrdFoundAs};
 ghost use Rattle.store.specs.Facts.{GroupLenOk, GroupRecordsOk};
 use crate::Got;
 use crate::OrdFound;
+use crate::grouping;
 use group::BlockAddr;
 use group::BlockAddrBlockMetadata;
 use layout::META_LEN;
 
 // The place of the first ordinal in a group record.
 const FIRST_ORDINAL: usize = 16;
-
-// How many blocks group g has.
-pub fn blocks_in(n: usize, group_len: usize, g: usize) -> usize
-    requires { ⌜ «group_len» * g ≤ n ⌝ }
-    ensures { λ r. ⌜ r ≡ groupLen «group_len» n g ⌝ }
-{
-    let left = n - group_len * g;
-    if group_len < left { group_len } else { left }
-}
 
 // Whether a group can't be read.
 fn meta_bad(meta: BlockAddrBlockMetadata, count: usize, addr_len: usize) -> bool
@@ -47,7 +39,7 @@ pub fn block(metas: &[u8], addrs: &[u8], n: usize, group_len: usize, block_id: u
 {
     let g = block_id / group_len;
     let meta = group::meta::deserialize(metas, META_LEN * g);
-    if meta_bad(meta, blocks_in(n, group_len, g), addrs.len()) {
+    if meta_bad(meta, grouping::blocks_in(n, group_len, g), addrs.len()) {
         return BlockAddr {
             start: 1,
             end: 0,
@@ -58,7 +50,8 @@ pub fn block(metas: &[u8], addrs: &[u8], n: usize, group_len: usize, block_id: u
     group::read::deserialize_block_addr(meta, &addrs[offset..], block_id % group_len)
 }
 
-// Block `block_id` of n, or that it can't be read.
+// `BlockAddrStore::get`, document 01's reference by id: block `block_id` of n, or that it can't be read. The index takes `block` and
+// tests row 3 itself.
 pub fn get(metas: &[u8], addrs: &[u8], n: usize, group_len: usize, block_id: usize) -> Got
     requires { ⌜ GroupLenOk «group_len» × GroupRecordsOk «group_len» (now metas) n × («block_id» < n) ⌝ }
     ensures { λ r. ⌜ r ≡ storeGet «group_len» (now (metas .entry)) (now (addrs .entry)) n «block_id» ⌝ }
@@ -102,9 +95,9 @@ pub fn binary_search_ord(
     ensures { λ r. ⌜ (StoreOk «group_len» (now (metas .entry)) (now (addrs .entry)) n
         → OrdFoundAs (storeBlock «group_len» (now (metas .entry)) (now (addrs .entry))) n ord r) ⌝ }
 {
-    let g = bisect_groups(metas, crate::write::group_count(n, group_len), ord);
+    let g = bisect_groups(metas, grouping::group_count(n, group_len), ord);
     let meta = group::meta::deserialize(metas, META_LEN * g);
-    if meta_bad(meta, blocks_in(n, group_len, g), addrs.len()) {
+    if meta_bad(meta, grouping::blocks_in(n, group_len, g), addrs.len()) {
         return OrdFound::Broken;
     }
     if meta.first_ordinal > ord {

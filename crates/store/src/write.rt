@@ -1,129 +1,142 @@
-// Writing a store from a lent area.
+// Writing a store from a lent area. Its length is known before a byte is written, and each group's slopes are worked out once: they
+// are planned first, and what is kept of a plan is two numbers a group.
 ghost use mathlib.Core.Path.{_≡_};
-ghost use Prim.Native.Nat.{_+_, _-_, _*_, _/_, _≤_, _<_, min};
+ghost use Prim.Native.Nat.{_+_, _*_, _≤_};
 ghost use lib.ListN.{length};
 ghost use lib.Seq.{sets};
 ghost use Rattle.slope.specs.Slope.{bestSlope};
 ghost use Rattle.group.specs.Blocks.{blocksAt};
 ghost use Rattle.group.specs.Facts.{GroupArea};
-ghost use Rattle.store.specs.Store.{groupCount, groupRecord, groupAddrs, addrs, storeBytes};
-ghost use Rattle.store.specs.Answers.{storeAnswer, storeOut};
+ghost use Rattle.store.specs.Store.{groupCount, groupRecord, groupAddrs, storeBytes};
+ghost use Rattle.store.specs.Plans.{groupPlan, plans, StandsAt};
 ghost use Rattle.store.specs.Facts.{GroupLenOk, StoreArea};
-use crate::Serialized;
+use crate::grouping;
 use layout::META_LEN;
 
-// How many groups n blocks make.
-pub fn group_count(n: usize, group_len: usize) -> usize
-    requires { ⌜ (n ≤ 65536) × GroupLenOk «group_len» ⌝ }
-    ensures { λ r. ⌜ r ≡ groupCount «group_len» n ⌝ }
+// The numbers that are kept of a group's plan.
+const PLAN_LEN: usize = 2;
+
+// Plans group g, the `count` blocks of the area from block `first` on. Returns how many bytes its bits take.
+pub fn plan_group(
+    area: &[u64],
+    stride: usize,
+    first: usize,
+    count: usize,
+    g: usize,
+    kept: &mut [u64],
+) -> usize
+    requires { ⌜ GroupArea (now area) stride first count × (2 * g + 2 ≤ length (now kept)) ⌝ }
+    ensures { λ r. ⌜ (r ≡ length (groupAddrs bestSlope (blocksAt (now (area .entry)) stride first count)))
+        × (now (kept .exit) ≡ sets (now (kept .entry)) (2 * g) (groupPlan bestSlope (blocksAt (now (area .entry)) stride first count))) ⌝ }
 {
-    (n + (group_len - 1)) / group_len
+    let meta = group::write::plan_block(area, stride, first, count, 0);
+    let at = PLAN_LEN * g;
+    kept[at] = group::write::packed(meta.range_start_slope, meta.range_start_nbits);
+    kept[at + 1] = group::write::packed(meta.first_ordinal_slope, meta.first_ordinal_nbits);
+    group::read::addr_len(meta)
 }
 
-// How many blocks the group from block `first` on has.
-pub fn blocks_from(first: usize, n: usize, group_len: usize) -> usize
-    requires { ⌜ first ≤ n ⌝ }
-    ensures { λ r. ⌜ r ≡ min «group_len» (n - first) ⌝ }
-{
-    let left = n - first;
-    if group_len < left { group_len } else { left }
-}
-
-// How many address bytes the blocks take.
-fn addr_len(area: &[u64], stride: usize, n: usize, group_len: usize) -> usize
-    requires { ⌜ StoreArea (now area) stride n × GroupLenOk «group_len» ⌝ }
-    ensures { λ r. ⌜ r ≡ length (addrs bestSlope «group_len» (groupCount «group_len» n) (blocksAt (now (area .entry)) stride 0 n)) ⌝ }
+// Plans all groups. Returns how many bytes the store takes.
+pub fn plan_store(
+    area: &[u64],
+    stride: usize,
+    n: usize,
+    group_len: usize,
+    kept: &mut [u64],
+) -> usize
+    requires { ⌜ StoreArea (now area) stride n × GroupLenOk «group_len» × (2 * groupCount «group_len» n ≤ length (now kept)) ⌝ }
+    ensures { λ r. ⌜ (r ≡ length (storeBytes bestSlope «group_len» (blocksAt (now (area .entry)) stride 0 n)))
+        × (now (kept .exit) ≡ sets (now (kept .entry)) 0
+        (plans bestSlope «group_len» (groupCount «group_len» n) (blocksAt (now (area .entry)) stride 0 n))) ⌝ }
 {
     let mut len: usize = 0;
+    let mut g: usize = 0;
     let mut first: usize = 0;
     while first < n {
-        let count = blocks_from(first, n, group_len);
-        let meta = group::write::plan_block(area, stride, first, count, 0);
-        len += group::read::addr_len(meta);
+        let count = grouping::blocks_from(first, n, group_len);
+        len += plan_group(area, stride, first, count, g, kept);
+        g += 1;
         first += count;
     }
-    len
+    8 + META_LEN * g + len
 }
 
-// How many bytes the store takes.
-pub fn store_len(area: &[u64], stride: usize, n: usize, group_len: usize) -> usize
-    requires { ⌜ StoreArea (now area) stride n × GroupLenOk «group_len» ⌝ }
-    ensures { λ r. ⌜ r ≡ length (storeBytes bestSlope «group_len» (blocksAt (now (area .entry)) stride 0 n)) ⌝ }
-{
-    8 + META_LEN * group_count(n, group_len) + addr_len(area, stride, n, group_len)
-}
-
-// Writes the record of a group at `meta_at` and its bits at `at`. Returns how many bytes the bits take.
+// Writes the record of group g, which was planned, from `meta_at` on and its bits from `at` on. Returns how many bytes the bits take.
 pub fn write_group(
     area: &[u64],
     stride: usize,
     first: usize,
     count: usize,
+    g: usize,
+    kept: &[u64],
     meta_at: usize,
     at: usize,
     offset: usize,
     out: &mut [u8],
 ) -> usize
-    requires { ⌜ GroupArea (now area) stride first count × («meta_at» + 36 ≤ at)
+    requires { ⌜ GroupArea (now area) stride first count
+        × StandsAt (now kept) (2 * g) (groupPlan bestSlope (blocksAt (now area) stride first count)) × («meta_at» + 36 ≤ at)
         × (at + length (groupAddrs bestSlope (blocksAt (now area) stride first count)) ≤ length (now out)) ⌝ }
     ensures { λ r. ⌜ (r ≡ length (groupAddrs bestSlope (blocksAt (now (area .entry)) stride first count)))
         × (now (out .exit) ≡ sets (sets (now (out .entry)) «meta_at»
         (groupRecord bestSlope offset (blocksAt (now (area .entry)) stride first count))) at
         (groupAddrs bestSlope (blocksAt (now (area .entry)) stride first count))) ⌝ }
 {
-    let meta = group::write::plan_block(area, stride, first, count, offset as u64);
-    group::meta::serialize(meta, out, meta_at);
+    let plan = PLAN_LEN * g;
+    let range = kept[plan];
+    let ordinal = kept[plan + 1];
+    let meta = group::write::planned_block(
+        range,
+        ordinal,
+        area,
+        stride,
+        first,
+        count,
+        offset as u64,
+    );
+    group::meta::serialize(meta, &mut out[meta_at..], 0);
     group::write::flush_block(meta, area, stride, first, count, &mut out[at..])
 }
 
-// Writes the store from the front of `out` on. Returns its length.
-pub fn serialize(area: &[u64], stride: usize, n: usize, group_len: usize, out: &mut [u8]) -> usize
+// Writes the store, which was planned, from the front of `out` on. Returns its length.
+pub fn serialize(
+    area: &[u64],
+    stride: usize,
+    n: usize,
+    group_len: usize,
+    kept: &[u64],
+    out: &mut [u8],
+) -> usize
     requires { ⌜ StoreArea (now area) stride n × GroupLenOk «group_len»
+        × StandsAt (now kept) 0 (plans bestSlope «group_len» (groupCount «group_len» n) (blocksAt (now area) stride 0 n))
         × (length (storeBytes bestSlope «group_len» (blocksAt (now area) stride 0 n)) ≤ length (now out)) ⌝ }
     ensures { λ r. ⌜ r ≡ length (storeBytes bestSlope «group_len» (blocksAt (now (area .entry)) stride 0 n)) ⌝ }
     ensures { λ _. ⌜ now (out .exit)
         ≡ sets (now (out .entry)) 0 (storeBytes bestSlope «group_len» (blocksAt (now (area .entry)) stride 0 n)) ⌝ }
 {
-    let metas = META_LEN * group_count(n, group_len);
+    let metas = META_LEN * grouping::group_count(n, group_len);
     serialize::serialize_u64(out, 0, metas as u64);
     let addrs = 8 + metas;
-    let mut meta_at: usize = 8;
+    let mut g: usize = 0;
     let mut offset: usize = 0;
     let mut first: usize = 0;
     while first < n {
-        let count = blocks_from(first, n, group_len);
+        let count = grouping::blocks_from(first, n, group_len);
         let len = write_group(
             area,
             stride,
             first,
             count,
-            meta_at,
+            g,
+            kept,
+            8 + META_LEN * g,
             addrs + offset,
             offset,
             out,
         );
         offset += len;
-        meta_at += META_LEN;
+        g += 1;
         first += count;
     }
     addrs + offset
-}
-
-// Writes the store from the front of `out` on; an output that is shorter than the store stays as it is.
-pub fn write_store(
-    area: &[u64],
-    stride: usize,
-    n: usize,
-    group_len: usize,
-    out: &mut [u8],
-) -> Serialized
-    requires { ⌜ StoreArea (now area) stride n × GroupLenOk «group_len» ⌝ }
-    ensures { λ r. ⌜ (r ≡ storeAnswer (now (out .entry)) (storeBytes bestSlope «group_len» (blocksAt (now (area .entry)) stride 0 n)))
-        × (now (out .exit) ≡ storeOut (now (out .entry)) (storeBytes bestSlope «group_len» (blocksAt (now (area .entry)) stride 0 n))) ⌝ }
-{
-    let len = store_len(area, stride, n, group_len);
-    if out.len() < len {
-        return Serialized::Short;
-    }
-    Serialized::Len(serialize(area, stride, n, group_len, out))
 }

@@ -1,6 +1,15 @@
+pub mod Advance
 pub mod Answer
-pub mod Copied
-pub mod Grouped
+pub mod Begin
+pub mod ByStructs
+pub mod Ends
+pub mod Filled
+pub mod First
 pub mod Kept
+pub mod Lent
 pub mod Scan
+pub mod Second
 pub mod Sized
+pub mod Taken
+pub mod Triples
+pub mod Window

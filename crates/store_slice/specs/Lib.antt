@@ -1,3 +1,5 @@
 pub mod Slice
 pub mod Records
 pub mod Numbers
+pub mod Writer
+pub mod Steps

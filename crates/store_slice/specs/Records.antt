@@ -1,4 +1,4 @@
--- What is known of records that were seen one after the other, and the numbers that records are copied out to.
+-- What is known of records that were seen one after the other.
 use Prim.Native.Nat.{ℕ}
 use mathlib.Core.List.{List, [], _∷_}
 use mathlib.Core.Bool.{true, false, _||_, _&&_, cond}
@@ -29,11 +29,11 @@ seenNone = record {
   «ordinal_bad» = false;
 }
 
+-- all of them, one after the other
+unfoldable pub seenAll : Seen → List BlockAddr → Seen
+seenAll s [] = s
+seenAll s (b ∷ bs) = seenAll (seenWith s b) bs
+
 -- the first row that was hit by n records
 unfoldable pub seenNo : Seen → ℕ → ℕ
 seenNo s n = cond (s .«numbers_bad») 3 (cond (s .«join_bad») 4 (cond (s .«ordinal_bad») 5 (cond (ltb maxBlocks n) 7 0)))
-
--- three numbers a record
-unfoldable pub numbersOf : List BlockAddr → List ℕ
-numbersOf [] = []
-numbersOf (b ∷ bs) = b .start ∷ b .end ∷ b .«first_ordinal» ∷ numbersOf bs

@@ -28,21 +28,28 @@ unfoldable pub blockListNo : List BlockAddr → ℕ
 blockListNo bs =
     cond (anyBad numbersBad bs) 3 (cond (pairBad joinBad bs) 4 (cond (pairBad ordinalBad bs) 5 (cond (ltb maxBlocks (length bs)) 7 0)))
 
--- then 9: the output is shorter than the store
-unfoldable pub sliceNo : List BlockAddr → ℕ → ℕ
-sliceNo bs room = orRow (blockListNo bs) (cond (ltb room (length (storeBytes bestSlope storeBlockLen bs))) 9 0)
+-- then 9: the output is shorter than the store, whose groups have L blocks
+unfoldable pub sliceNoBy : ℕ → List BlockAddr → ℕ → ℕ
+sliceNoBy L bs room = orRow (blockListNo bs) (cond (ltb room (length (storeBytes bestSlope L bs))) 9 0)
 
 -- the number and the store's length; the store from byte 0 on with the rest as it was, or what was there
-unfoldable pub storedStep : ℕ → List BlockAddr → Stored
-storedStep zero bs = record { no = 0; len = length (storeBytes bestSlope storeBlockLen bs) }
-storedStep (suc k) bs = record { no = suc k; len = 0 }
+unfoldable pub storedStep : ℕ → ℕ → List BlockAddr → Stored
+storedStep L zero bs = record { no = 0; len = length (storeBytes bestSlope L bs) }
+storedStep L (suc k) bs = record { no = suc k; len = 0 }
 
-unfoldable pub outStep : ℕ → List BlockAddr → List ℕ → List ℕ
-outStep zero bs out = sets out 0 (storeBytes bestSlope storeBlockLen bs)
-outStep (suc k) bs out = out
+unfoldable pub outStep : ℕ → ℕ → List BlockAddr → List ℕ → List ℕ
+outStep L zero bs out = sets out 0 (storeBytes bestSlope L bs)
+outStep L (suc k) bs out = out
 
+abbrev pub sliceStoredBy : ℕ → List BlockAddr → List ℕ → Stored
+sliceStoredBy L bs out = storedStep L (sliceNoBy L bs (length out)) bs
+
+abbrev pub sliceOutBy : ℕ → List BlockAddr → List ℕ → List ℕ
+sliceOutBy L bs out = outStep L (sliceNoBy L bs (length out)) bs out
+
+-- what the public calls use
 abbrev pub sliceStored : List BlockAddr → List ℕ → Stored
-sliceStored bs out = storedStep (sliceNo bs (length out)) bs
+sliceStored bs out = sliceStoredBy storeBlockLen bs out
 
 abbrev pub sliceOut : List BlockAddr → List ℕ → List ℕ
-sliceOut bs out = outStep (sliceNo bs (length out)) bs out
+sliceOut bs out = sliceOutBy storeBlockLen bs out

@@ -1,17 +1,14 @@
 // The address store of one lent slice of block records: `BlockAddrStoreWriter` over a list.
 ghost use mathlib.Core.Path.{_≡_};
-ghost use Prim.Native.Nat.{_≤_};
-ghost use lib.ListN.{length};
-ghost use Rattle.store_slice.specs.Slice.{blockListNo, sliceStored, sliceOut};
+ghost use Rattle.store_slice.specs.Slice.{sliceStored, sliceOut};
 
-mod area;
-pub mod groups;
+pub mod numbers;
 mod rows;
+mod writer;
 
 use group::BlockAddr;
-
-// As many records take the small area, so that a short list doesn't clear the large one.
-const FEW: usize = 1_024;
+use layout::STORE_BLOCK_LEN;
+use writer::BlockAddrStoreWriter;
 
 // A row's number, 0 where the store was written, and its length.
 pub struct Stored {
@@ -19,39 +16,20 @@ pub struct Stored {
     pub len: usize,
 }
 
-// Few records that hit no row, copied out to a small area.
-fn serialize_few(blocks: &[BlockAddr], out: &mut [u8]) -> Stored
-    requires { ⌜ (blockListNo (now blocks) ≡ 0) × (length (now blocks) ≤ 1024) ⌝ }
-    ensures { λ r. ⌜ (r ≡ sliceStored (now (blocks .entry)) (now (out .entry)))
-        × (now (out .exit) ≡ sliceOut (now (blocks .entry)) (now (out .entry))) ⌝ }
-{
-    let mut area = [0u64; 3_072];
-    area::copy_out(blocks, &mut area);
-    area::write_area(&area, blocks.len(), out)
-}
-
-// Records that hit no row, copied out to an area for as many as a store has: 1.5 MB of stack.
-fn serialize_many(blocks: &[BlockAddr], out: &mut [u8]) -> Stored
-    requires { ⌜ blockListNo (now blocks) ≡ 0 ⌝ }
-    ensures { λ r. ⌜ (r ≡ sliceStored (now (blocks .entry)) (now (out .entry)))
-        × (now (out .exit) ≡ sliceOut (now (blocks .entry)) (now (out .entry))) ⌝ }
-{
-    let mut area = [0u64; 196_608];
-    area::copy_out(blocks, &mut area);
-    area::write_area(&area, blocks.len(), out)
-}
-
 // Writes the store of the blocks from the front of `out` on.
 pub fn serialize(blocks: &[BlockAddr], out: &mut [u8]) -> Stored
     ensures { λ r. ⌜ (r ≡ sliceStored (now (blocks .entry)) (now (out .entry)))
         × (now (out .exit) ≡ sliceOut (now (blocks .entry)) (now (out .entry))) ⌝ }
 {
-    let no = rows::rows_no(blocks);
-    if no != 0 {
-        return Stored { no: no, len: 0 };
+    let mut window = [0u64; 768];
+    let mut kept = [0u64; 1_024];
+    let mut writer = BlockAddrStoreWriter::new(blocks.len(), STORE_BLOCK_LEN, out);
+    while !writer.done {
+        let at = writer.next;
+        writer = writer.write_block_meta(blocks[at], &mut window, &mut kept, out);
     }
-    if blocks.len() <= FEW {
-        return serialize_few(blocks, out);
+    Stored {
+        no: writer.no,
+        len: writer.len,
     }
-    serialize_many(blocks, out)
 }

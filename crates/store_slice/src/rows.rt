@@ -1,9 +1,12 @@
-// Rows 3, 4, 5 and 7 over all records of a slice.
+// Rows 3, 4, 5 and 7 over the records of a list, one after the other.
 ghost use mathlib.Core.Path.{_≡_};
-ghost use Rattle.store_slice.specs.Slice.{blockListNo};
 ghost use Rattle.store_slice.specs.Records.{seenNone, seenWith, seenNo};
 use group::BlockAddr;
 use layout::MAX_BLOCKS;
+use layout::refusals::JOIN_BAD;
+use layout::refusals::NUMBERS_BAD;
+use layout::refusals::ORDINAL_BAD;
+use layout::refusals::ROOM_BAD;
 
 // Whether records seen so far break rows 3, 4 and 5, and the last of them, if there is some.
 pub struct Seen {
@@ -51,30 +54,17 @@ impl Seen {
         ensures { λ r. ⌜ r ≡ seenNo self n ⌝ }
     {
         if self.numbers_bad {
-            return 3;
+            return NUMBERS_BAD;
         }
         if self.join_bad {
-            return 4;
+            return JOIN_BAD;
         }
         if self.ordinal_bad {
-            return 5;
+            return ORDINAL_BAD;
         }
         if n > MAX_BLOCKS {
-            return 7;
+            return ROOM_BAD;
         }
         0
     }
-}
-
-// The first row that the records hit, or 0. All of them are looked at.
-pub fn rows_no(blocks: &[BlockAddr]) -> u32
-    ensures { λ r. ⌜ r ≡ blockListNo (now (blocks .entry)) ⌝ }
-{
-    let mut seen = Seen::none();
-    let mut i: usize = 0;
-    while i < blocks.len() {
-        seen = seen.with(blocks[i]);
-        i += 1;
-    }
-    seen.no(blocks.len())
 }

@@ -6,6 +6,7 @@ ghost use lib.ListN.{length, take, drop};
 ghost use Rattle.store.specs.Facts.{StoreArea, GroupRecordsOk};
 use crate::blocks;
 use crate::hash;
+use crate::structs;
 use group::BlockAddr;
 use store::Got;
 use store::OrdFound;
@@ -23,7 +24,7 @@ const LENGTH: usize = 8;
 
 const RECORD: usize = 36;
 
-fn marks(area: &[u8]) -> bool {
+pub fn marks(area: &[u8]) -> bool {
     let mut i = 0;
     while i < area.len() {
         if area[i] != MARK {
@@ -53,11 +54,12 @@ fn write_store(area: &[u64], n: usize, len: usize, out: &mut [u8]) -> bool
     if len > out.len() - PLACE {
         return false;
     }
-    if store::write::store_len(area, blocks::STRIDE, n, GROUP) != len {
+    let mut kept = [0u64; 1_024];
+    if store::write::plan_store(area, blocks::STRIDE, n, GROUP, &mut kept) != len {
         return false;
     }
     let end = PLACE + len;
-    if store::write::serialize(area, blocks::STRIDE, n, GROUP, &mut out[PLACE..end]) != len {
+    if store::write::serialize(area, blocks::STRIDE, n, GROUP, &kept, &mut out[PLACE..end]) != len {
         return false;
     }
     if !marks(&out[0..PLACE]) {
@@ -84,7 +86,7 @@ fn addrs_at(store: &[u8], n: usize) -> usize
     if len > (store.len() - LENGTH) as u64 {
         return 0;
     }
-    if (len as usize) < RECORD * store::write::group_count(n, GROUP) {
+    if (len as usize) < RECORD * store::grouping::group_count(n, GROUP) {
         return 0;
     }
     LENGTH + len as usize
@@ -140,6 +142,9 @@ pub fn same_store(numbers: &[u64], bytes: &[u8], out: &mut [u8]) -> bool
     if !check::same(&out[PLACE..end], bytes) {
         return false;
     }
+    if !structs::is_stored(area, n, bytes) {
+        return false;
+    }
     gets_all(&out[PLACE..end], area, n)
 }
 
@@ -164,6 +169,9 @@ pub fn same_large(numbers: &[u64], out: &mut [u8]) -> bool
     }
     let end = PLACE + len;
     if hash::fnv1a(&out[PLACE..end]) != numbers[3] {
+        return false;
+    }
+    if !structs::is_stored(&area, n, &out[PLACE..end]) {
         return false;
     }
     gets_all(&out[PLACE..end], &area, n)

@@ -1,5 +1,6 @@
 // Lists of cases as text. One case a line: a kind letter, then tokens, each behind one space. A token that begins with `x` is a
 // byte string in lower-case hex, any other a decimal number. A line that begins with `#` is a comment.
+pub mod driver;
 pub mod tally;
 
 ghost use mathlib.Core.Path.{_≡_};
@@ -251,6 +252,53 @@ fn behind(place: usize, end: usize) -> usize
     if place < end { place + 1 } else { place }
 }
 
+// A line's kind, the places of its tokens, if it may have any, and the place behind its end.
+struct Bounds {
+    kind: u8,
+    from: usize,
+    end: usize,
+    next: usize,
+    has_tokens: bool,
+    good: bool,
+}
+
+impl Bounds {
+    fn empty(kind: u8, next: usize) -> Bounds
+        ensures { λ r. ⌜ (r .from ≡ next) × (r .end ≡ next) × (r .next ≡ next) ⌝ }
+    {
+        Bounds {
+            kind,
+            from: next,
+            end: next,
+            next,
+            has_tokens: false,
+            good: false,
+        }
+    }
+}
+
+fn bounds_at(text: &[u8], at: usize) -> Bounds
+    ensures { λ r. ⌜ (at < length (now (text .entry)) → at < r .next) × (r .next ≤ length (now (text .entry)))
+        × (r .from ≤ r .end) × (r .end ≤ length (now (text .entry))) ⌝ }
+{
+    if at >= text.len() {
+        return Bounds::empty(0, text.len());
+    }
+    let kind = text[at];
+    if kind == b'\n' {
+        return Bounds::empty(kind, at + 1);
+    }
+    let end = place_of(text, at + 1, text.len(), b'\n');
+    Bounds {
+        kind,
+        from: at + 1,
+        end,
+        next: behind(end, text.len()),
+        has_tokens: is_letter(kind),
+        good: kind == b'#',
+    }
+}
+
 // Reads the line at `at`. Its numbers go to the front of `numbers`, the bytes of its byte strings to the front of `bytes`; string k
 // begins and ends there at spans[2k] and spans[2k + 1].
 pub fn parse(
@@ -263,24 +311,14 @@ pub fn parse(
     ensures { λ r. ⌜ (at < length (now (text .entry)) → at < r .next) × (r .next ≤ length (now (text .entry)))
         × (r .numbers ≤ length (now (numbers .entry))) ⌝ }
 {
-    if at >= text.len() {
-        return Line::empty(0, text.len(), false);
+    let found = bounds_at(text, at);
+    let next = found.next;
+    if !found.has_tokens {
+        return Line::empty(found.kind, next, found.good);
     }
-    let kind = text[at];
-    if kind == b'\n' {
-        return Line::empty(kind, at + 1, false);
-    }
-    let end = place_of(text, at + 1, text.len(), b'\n');
-    let next = behind(end, text.len());
-    if kind == b'#' {
-        return Line::empty(kind, next, true);
-    }
-    if !is_letter(kind) {
-        return Line::empty(kind, next, false);
-    }
-    let taken = take_tokens(text, at + 1, end, numbers, bytes, spans);
+    let taken = take_tokens(text, found.from, found.end, numbers, bytes, spans);
     Line {
-        kind,
+        kind: found.kind,
         numbers: taken.numbers,
         strings: taken.strings,
         next,
@@ -295,18 +333,21 @@ pub fn number(numbers: &[u64], k: usize) -> u64
     if k < numbers.len() { numbers[k] } else { 0 }
 }
 
-// Byte string k of a line; the empty one where its places aren't inside.
-pub fn string<'a>(bytes: &'a [u8], spans: &[usize], k: usize) -> &'a [u8] {
-    if k >= spans.len() / 2 {
-        return &bytes[..0];
-    }
-    let from = spans[2 * k];
-    let end = spans[2 * k + 1];
-    if from > end {
-        return &bytes[..0];
-    }
+// The bytes between two places; none where these aren't inside.
+pub fn part(bytes: &[u8], from: usize, end: usize) -> &[u8] {
     if end > bytes.len() {
         return &bytes[..0];
     }
+    if from > end {
+        return &bytes[..0];
+    }
     &bytes[from..end]
+}
+
+// Byte string k of a line; the empty one where its places aren't inside.
+pub fn string<'a>(bytes: &'a [u8], spans: &[usize], k: usize) -> &'a [u8] {
+    if k >= spans.len() / 2 {
+        return part(bytes, 0, 0);
+    }
+    part(bytes, spans[2 * k], spans[2 * k + 1])
 }

@@ -1,4 +1,5 @@
-//! Writes the lists of answers, and the folder of files, into the folder that it is given.
+//! Writes the lists of answers, and the folder of files, into the folder that it is given; with `--stores SEED` it prints a list of
+//! other stores.
 
 mod addresses;
 mod calls;
@@ -23,6 +24,11 @@ use std::{env, fs};
 
 fn main() {
     let folder = env::args().nth(1).expect("the folder to write to");
+    if folder == "--stores" {
+        let seed = env::args().nth(2).and_then(|word| word.parse().ok()).expect("a seed");
+        print!("{}", stores::list_from(seed, seed + 1));
+        return;
+    }
     worked::check();
     let (replays, answers) = replays::lists();
     let lists = [

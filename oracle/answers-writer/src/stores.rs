@@ -9,6 +9,11 @@ use tantivy_sstable::access::Block;
 use crate::text::{List, hex, numbers};
 
 pub fn list() -> String {
+    list_from(2, 3)
+}
+
+/// The list of these seeds: of the large stores, and of the small ones.
+pub fn list_from(large_seed: u64, small_seed: u64) -> String {
     let mut list = List::new();
     list.comment(&[
         "Stores, written by oracle/write-answers.",
@@ -18,7 +23,7 @@ pub fn list() -> String {
         "",
         "s COUNT S1 E1 O1 .. SCOUNT ECOUNT OCOUNT BYTES: start, end and first ordinal of each block; the store",
     ]);
-    for blocks in small() {
+    for blocks in small_from(small_seed) {
         let bytes = store(&blocks);
         list.case(format!(
             "s {} {}{}",
@@ -36,7 +41,7 @@ pub fn list() -> String {
         "the ordinal b. For each block draw a, then b: it has 0 bytes if a mod 8 = 0, else a * 2^k; the next block starts",
         "at its end, with its ordinal + 1 + b * 2^j.",
     ]);
-    let mut rng = Numbers::from_seed(2);
+    let mut rng = Numbers::from_seed(large_seed);
     for count in [127, 128, 129, 255, 256, 257, 1000] {
         for (k, j) in [
             (0, 0),
@@ -60,6 +65,10 @@ pub fn list() -> String {
 
 /// Lists of at most 20 blocks, 01's worked case first.
 pub fn small() -> Vec<Vec<Block>> {
+    small_from(3)
+}
+
+fn small_from(seed: u64) -> Vec<Vec<Block>> {
     let one = |start, end, ord| vec![Block { start, end, ord }];
     let top = LIMIT - 1;
     let mut lists = vec![
@@ -87,7 +96,7 @@ pub fn small() -> Vec<Vec<Block>> {
         touching(1 << 47, &[0; 20], top - 19, &[1; 19]),
         touching(0, &[1; 16], 0, &[1; 15]),
     ];
-    let mut rng = Numbers::from_seed(3);
+    let mut rng = Numbers::from_seed(seed);
     for round in 0..9 {
         for count in 1..=20 {
             let (length_bits, step_bits) = match round % 3 {

@@ -7,6 +7,7 @@ use mathlib.Core.Logic.{⊎-elim}
 use native.Mathlib.Omega.{arith}
 use Rattle.slope.specs.Slope.{bestSlope}
 use Rattle.slope.specs.Column.{column, ValueOk}
+use Rattle.slope.proofs.Step.{lowerPoint-new, higherPoint-new}
 use Rattle.slope.proofs.Points.{Kept, first-value, kept-start, kept-stays, kept-step, kept-stop}
 use Rattle.slope.proofs.best_slope.Statement.{statement}
 use Rattle.slope.proofs.best_slope.Tie as tie
@@ -69,6 +70,15 @@ add-i c = search needs
 inside-requires : tie.Need-inside-requires Inv-loop μ-loop
 inside-requires c κs = search needs
 
+new-requires-2 : tie.Need-new-requires-2 Inv-loop μ-loop
+new-requires-2 c κs = search needs
+
+lower-requires : tie.Need-lower-requires Inv-loop μ-loop
+lower-requires c κs = search needs
+
+higher-requires : tie.Need-higher-requires Inv-loop μ-loop
+higher-requires c κs = search needs
+
 lower-with-requires : tie.Need-lower-with-requires Inv-loop μ-loop
 lower-with-requires c κs = search needs
 
@@ -87,9 +97,13 @@ loop-again c =
     let kept = before .before .loop .inv in
     let ok = value before in
     ⊎-elim
-    (λ w. rw (w .3, w .4) (kept-step _ _ _ _ _ _ _ (w .1 .result) (w .2 .result) _ _ (before .loop-test .taken) kept ok refl (w .1 .ensures) (w .2 .ensures)))
+    (λ w. rw (w .5, w .6) (kept-step _ _ _ _ _ _ _ (w .3 .result) (w .4 .result) _ _ (before .loop-test .taken) kept ok refl
+    (lowerPoint-new _ (w .2 .result) (w .3 .result) _ _ (w .2 .ensures) (w .3 .ensures))
+    (higherPoint-new _ (w .2 .result) (w .4 .result) _ _ (w .2 .ensures) (w .4 .ensures))))
+    (⊎-elim
+    (λ w. rw (w .4, w .5) (kept-step _ _ _ _ _ _ _ (w .2 .result) (w .3 .result) _ _ (before .loop-test .taken) kept ok refl (w .2 .ensures) (w .3 .ensures)))
     (λ w. let h = c .before .inside .ensures (not-false _ (w .0 .left)) in
-    rw (w .1, w .2) (kept-stays _ _ _ _ _ _ _ _ _ (before .loop-test .taken) kept ok refl (h .0) (h .1)))
+    rw (w .1, w .2) (kept-stays _ _ _ _ _ _ _ _ _ (before .loop-test .taken) kept ok refl (h .0) (h .1))))
     (c .if2 .came)
 
 between-requires : tie.Need-between-requires Inv-loop μ-loop
@@ -117,6 +131,9 @@ best-slope-spec =
     sub-v
     add-i
     inside-requires
+    new-requires-2
+    lower-requires
+    higher-requires
     lower-with-requires
     higher-with-requires
     add-j

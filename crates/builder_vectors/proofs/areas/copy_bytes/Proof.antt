@@ -1,5 +1,5 @@
 -- `builder_vectors::areas::copy_bytes` is safe and ends: the area keeps its length.
-use Prim.Native.Nat.{_≤_, _-_}
+use Prim.Native.Nat.{_-_}
 use mathlib.Core.Path.{_≡_}
 use lib.ListN.{length}
 use borrow.Author.Needs.{needs}
@@ -7,13 +7,19 @@ use Rattle.builder_vectors.proofs.areas.copy_bytes.Statement.{statement
 use Rattle.builder_vectors.proofs.areas.copy_bytes.Tie as tie
 
 abbrev Inv-loop : tie.InvT-loop
-Inv-loop from to₀ i₀ to i = (i ≤ length from) × (length to ≡ length to₀)
+Inv-loop from to₀ i₀ to i = (length to ≡ length to₀)
 
 abbrev μ-loop : tie.MeasureT-loop
 μ-loop from to₀ i₀ to i = length from - i
 
 loop-holds : tie.Need-loop-holds Inv-loop μ-loop
 loop-holds c = search needs
+
+same-length : tie.Need-same-length Inv-loop μ-loop
+same-length c = search needs
+
+returns : tie.Need-returns Inv-loop μ-loop
+returns c = search needs
 
 shared-slice-read-to : tie.Need-shared-slice-read-to Inv-loop μ-loop
 shared-slice-read-to c = search needs
@@ -30,11 +36,11 @@ loop-less c = search needs
 loop-again : tie.Need-loop-again Inv-loop μ-loop
 loop-again c = search needs
 
-same-length : tie.Need-same-length Inv-loop μ-loop
-same-length c = search needs
+same-length-2 : tie.Need-same-length-2 Inv-loop μ-loop
+same-length-2 c = search needs
 
-returns : tie.Need-returns Inv-loop μ-loop
-returns c = search needs
+returns-2 : tie.Need-returns-2 Inv-loop μ-loop
+returns-2 c = search needs
 
 pub copy-bytes-spec : {M : Type 1} → statement M
 copy-bytes-spec =
@@ -43,10 +49,12 @@ copy-bytes-spec =
     Inv-loop
     μ-loop
     loop-holds
+    same-length
+    returns
     shared-slice-read-to
     slice-write-to
     add-i
     loop-less
     loop-again
-    same-length
-    returns)
+    same-length-2
+    returns-2)

@@ -1,5 +1,5 @@
 -- `builder_vectors::areas::copy_numbers` is safe and ends: the area keeps its length.
-use Prim.Native.Nat.{_≤_, _-_}
+use Prim.Native.Nat.{_-_}
 use mathlib.Core.Path.{_≡_}
 use lib.ListN.{length}
 use borrow.Author.Needs.{needs}
@@ -7,13 +7,19 @@ use Rattle.builder_vectors.proofs.areas.copy_numbers.Statement.{stateme
 use Rattle.builder_vectors.proofs.areas.copy_numbers.Tie as tie
 
 abbrev Inv-loop : tie.InvT-loop
-Inv-loop from to₀ i₀ to i = (i ≤ length from) × (length to ≡ length to₀)
+Inv-loop from to₀ i₀ to i = (length to ≡ length to₀)
 
 abbrev μ-loop : tie.MeasureT-loop
 μ-loop from to₀ i₀ to i = length from - i
 
 loop-holds : tie.Need-loop-holds Inv-loop μ-loop
 loop-holds c = search needs
+
+same-length : tie.Need-same-length Inv-loop μ-loop
+same-length c = search needs
+
+returns : tie.Need-returns Inv-loop μ-loop
+returns c = search needs
 
 mul-to : tie.Need-mul-to Inv-loop μ-loop
 mul-to c = search needs
@@ -36,11 +42,11 @@ loop-less c = search needs
 loop-again : tie.Need-loop-again Inv-loop μ-loop
 loop-again c = search needs
 
-same-length : tie.Need-same-length Inv-loop μ-loop
-same-length c = search needs
+same-length-2 : tie.Need-same-length-2 Inv-loop μ-loop
+same-length-2 c = search needs
 
-returns : tie.Need-returns Inv-loop μ-loop
-returns c = search needs
+returns-2 : tie.Need-returns-2 Inv-loop μ-loop
+returns-2 c = search needs
 
 pub copy-numbers-spec : {M : Type 1} → statement M
 copy-numbers-spec =
@@ -49,6 +55,8 @@ copy-numbers-spec =
     Inv-loop
     μ-loop
     loop-holds
+    same-length
+    returns
     mul-to
     shared-slice-read-to
     mul-to-2
@@ -56,5 +64,5 @@ copy-numbers-spec =
     add-i
     loop-less
     loop-again
-    same-length
-    returns)
+    same-length-2
+    returns-2)

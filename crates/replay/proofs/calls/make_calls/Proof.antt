@@ -19,25 +19,28 @@ abbrev μ-loop : tie.MeasureT-loop
 μ-loop list blocks₀ keys₀ answers₀ count last₀ i₀ blocks keys answers last i = count - i
 
 -- the next call is there
-there : (c : tie.In-loop Inv-loop μ-loop) → 0 < callLen (c .before .before .before .before .before .before .before .before .args .list .now) (c .before .loop .last .next)
+there : (c : tie.In-loop Inv-loop μ-loop) → 0 < callLen (c .before .before .before .before .before .before .before .before .before .args .list .now) (c .before .loop .last .next)
 there c =
-    let s = c .before .before .before .before .before .before .before .before in
+    let s = c .before .before .before .before .before .before .before .before .before in
     next-there _ _ _ _ _ _ _ _ _ _ (c .before .loop .inv) (list-ok (s .args .list .now) (s .pre .0) .calls-there) (c .loop-test .taken)
 
 -- its five numbers have room
 room : (c : tie.In-loop Inv-loop μ-loop) → 5 * c .before .loop .i + 5 ≤ length (c .before .loop .answers)
 room c =
-    let s = c .before .before .before .before .before .before .before .before in
-    omega (arith, c .before .loop .inv .answers, s .pre .1, c .before .before .before .call-count .ensures .0)
+    let s = c .before .before .before .before .before .before .before .before .before in
+    omega (arith, c .before .loop .inv .answers, s .pre .1, c .before .before .before .before .call-count .ensures .0)
 
 call-count-requires : tie.Need-call-count-requires Inv-loop μ-loop
 call-count-requires c κs = list-ok (c .before .before .before .before .args .list .now) (c .before .before .before .before .pre .0) .head
 
+new-requires : tie.Need-new-requires Inv-loop μ-loop
+new-requires c κs = search needs
+
 calls-from-requires : tie.Need-calls-from-requires Inv-loop μ-loop
-calls-from-requires c κs = list-ok _ (c .before .before .before .before .before .pre .0) .head
+calls-from-requires c κs = list-ok _ (c .before .before .before .before .before .before .pre .0) .head
 
 loop-holds : tie.Need-loop-holds Inv-loop μ-loop
-loop-holds c = left-start _ _ _ _ _ _ (c .calls-from .ensures) (c .before .call-count .ensures .0)
+loop-holds c = rw (c .before .new .ensures) (left-start _ _ _ _ _ _ (c .calls-from .ensures) (c .before .before .call-count .ensures .0))
 
 make-call-requires : tie.Need-make-call-requires Inv-loop μ-loop
 make-call-requires c κs = there (c .before .before)
@@ -83,6 +86,7 @@ make-calls-spec =
     Inv-loop
     μ-loop
     call-count-requires
+    new-requires
     calls-from-requires
     loop-holds
     make-call-requires

@@ -3,6 +3,9 @@ use borrow.Author.Needs.{needs}
 use Rattle.rosmarel.proofs.build.rosmarel_add.Statement.{statement}
 use Rattle.rosmarel.proofs.build.rosmarel_add.Tie as tie
 
+new-requires : tie.Need-new-requires
+new-requires c κs = search needs
+
 add-block-requires : tie.Need-add-block-requires
 add-block-requires c κs = search needs
 
@@ -19,7 +22,7 @@ same-length-2 : tie.Need-same-length-2
 same-length-2 c = search needs
 
 returns : tie.Need-returns
-returns c = rw (c .before .next .given .1) at (c .before .before .before .before .before .before .before .add-block .ensures .0)
+returns c = rw (c .before .next .given .1, c .before .before .before .before .before .before .before .before .before .before .new .ensures) at (c .before .before .before .before .before .before .before .add-block .ensures .0)
 
 same-length-3 : tie.Need-same-length-3
 same-length-3 c = search needs
@@ -28,12 +31,13 @@ same-length-4 : tie.Need-same-length-4
 same-length-4 c = search needs
 
 returns-2 : tie.Need-returns-2
-returns-2 c = rw (c .before .no .given .1) at (c .before .before .before .before .before .before .before .add-block .ensures .0)
+returns-2 c = rw (c .before .no .given .1, c .before .before .before .before .before .before .before .before .before .before .new .ensures) at (c .before .before .before .before .before .before .before .add-block .ensures .0)
 
 pub rosmarel-add-spec : {M : Type 1} → statement M
 rosmarel-add-spec =
     tie.close
     (tie.spec
+    new-requires
     add-block-requires
     enum-known-next
     enum-known-no

@@ -4,6 +4,9 @@ use Rattle.rosmarel.proofs.Kept.{finish-with}
 use Rattle.rosmarel.proofs.build.rosmarel_finish.Statement.{statement}
 use Rattle.rosmarel.proofs.build.rosmarel_finish.Tie as tie
 
+new-requires : tie.Need-new-requires
+new-requires c κs = search needs
+
 finish-requires : tie.Need-finish-requires
 finish-requires c κs = search needs
 
@@ -17,18 +20,19 @@ same-length : tie.Need-same-length
 same-length c = search needs
 
 returns : tie.Need-returns
-returns c = finish-with _ _ _ _ _ _ _ _ _ _ (rw (c .before .len .given .1) at (c .before .before .before .before .before .finish .ensures .0))
+returns c = finish-with _ _ _ _ _ _ _ _ _ _ (rw (c .before .len .given .1, c .before .before .before .before .before .before .before .new .ensures) at (c .before .before .before .before .before .finish .ensures .0))
 
 same-length-2 : tie.Need-same-length-2
 same-length-2 c = search needs
 
 returns-2 : tie.Need-returns-2
-returns-2 c = finish-with _ _ _ _ _ _ _ _ _ _ (rw (c .before .no .given .1) at (c .before .before .before .before .before .finish .ensures .0))
+returns-2 c = finish-with _ _ _ _ _ _ _ _ _ _ (rw (c .before .no .given .1, c .before .before .before .before .before .before .before .new .ensures) at (c .before .before .before .before .before .finish .ensures .0))
 
 pub rosmarel-finish-spec : {M : Type 1} → statement M
 rosmarel-finish-spec =
     tie.close
     (tie.spec
+    new-requires
     finish-requires
     enum-known-len
     enum-known-no

@@ -9,6 +9,9 @@ use Rattle.rosmarel.proofs.build.rosmarel_finish_len.Tie as tie
 parts : {a d : FinishLen} → a ≡ d → (lenNo a ≡ lenNo d) × (lenTotal a ≡ lenTotal d)
 parts e = (ap lenNo e, ap lenTotal e)
 
+new-requires : tie.Need-new-requires
+new-requires c κs = search needs
+
 finish-len-requires : tie.Need-finish-len-requires
 finish-len-requires c κs = search needs
 
@@ -19,11 +22,11 @@ enum-known-no : tie.Need-enum-known-no
 enum-known-no c = search needs
 
 returns : tie.Need-returns
-returns c = parts (rw (c .before .len .given .1) at (c .before .before .before .finish-len .ensures))
+returns c = parts (rw (c .before .len .given .1, c .before .before .before .before .new .ensures) at (c .before .before .before .finish-len .ensures))
 
 returns-2 : tie.Need-returns-2
-returns-2 c = parts (rw (c .before .no .given .1) at (c .before .before .before .finish-len .ensures))
+returns-2 c = parts (rw (c .before .no .given .1, c .before .before .before .before .new .ensures) at (c .before .before .before .finish-len .ensures))
 
 pub rosmarel-finish-len-spec : {M : Type 1} → statement M
 rosmarel-finish-len-spec =
-    tie.close (tie.spec finish-len-requires enum-known-len enum-known-no returns returns-2)
+    tie.close (tie.spec new-requires finish-len-requires enum-known-len enum-known-no returns returns-2)

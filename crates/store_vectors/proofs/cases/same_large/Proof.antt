@@ -78,6 +78,29 @@ same-length-2 c = search needs
 returns-5 : tie.Need-returns-5
 returns-5 c = search needs
 
+slice-aggregate-is-stored : tie.Need-slice-aggregate-is-stored
+slice-aggregate-is-stored c = search needs
+
+sub-is-stored : tie.Need-sub-is-stored
+sub-is-stored c = search needs
+
+part-is-stored-start : tie.Need-part-is-stored-start
+part-is-stored-start c = search needs
+
+part-is-stored-end : tie.Need-part-is-stored-end
+part-is-stored-end c =
+    let h = c .before .before .before .before .before .before .before .before .before .before .write-store .ensures (not-false _ (c .before .before .before .before .before .before .before .if4 .left)) in
+    omega arith
+
+is-stored-requires : tie.Need-is-stored-requires
+is-stored-requires c κs = search needs
+
+same-length-3 : tie.Need-same-length-3
+same-length-3 c = search needs
+
+returns-6 : tie.Need-returns-6
+returns-6 c = search needs
+
 sub-gets-all : tie.Need-sub-gets-all
 sub-gets-all c = search needs
 
@@ -86,7 +109,7 @@ part-gets-all-start c = search needs
 
 part-gets-all-end : tie.Need-part-gets-all-end
 part-gets-all-end c =
-    let h = c .before .before .before .before .before .before .before .before .before .write-store .ensures (not-false _ (c .before .before .before .before .before .before .if4 .left)) in
+    let h = c .before .before .before .before .before .before .before .before .before .before .before .before .before .before .write-store .ensures (not-false _ (c .before .before .before .before .before .before .before .before .before .before .before .if4 .left)) in
     omega arith
 
 slice-aggregate-gets-all : tie.Need-slice-aggregate-gets-all
@@ -95,11 +118,11 @@ slice-aggregate-gets-all c = search needs
 gets-all-requires : tie.Need-gets-all-requires
 gets-all-requires c κs = search needs
 
-same-length-3 : tie.Need-same-length-3
-same-length-3 c = search needs
+same-length-4 : tie.Need-same-length-4
+same-length-4 c = search needs
 
-returns-6 : tie.Need-returns-6
-returns-6 c = search needs
+returns-7 : tie.Need-returns-7
+returns-7 c = search needs
 
 pub same-large-spec : {M : Type 1} → statement M
 same-large-spec =
@@ -128,10 +151,17 @@ same-large-spec =
     shared-slice-read-if5
     same-length-2
     returns-5
+    slice-aggregate-is-stored
+    sub-is-stored
+    part-is-stored-start
+    part-is-stored-end
+    is-stored-requires
+    same-length-3
+    returns-6
     sub-gets-all
     part-gets-all-start
     part-gets-all-end
     slice-aggregate-gets-all
     gets-all-requires
-    same-length-3
-    returns-6)
+    same-length-4
+    returns-7)

@@ -66,6 +66,15 @@ same-length-2 c = search needs
 returns-5 : tie.Need-returns-5
 returns-5 c = search needs
 
+is-stored-requires : tie.Need-is-stored-requires
+is-stored-requires c κs = search needs
+
+same-length-3 : tie.Need-same-length-3
+same-length-3 c = search needs
+
+returns-6 : tie.Need-returns-6
+returns-6 c = search needs
+
 sub-gets-all : tie.Need-sub-gets-all
 sub-gets-all c = search needs
 
@@ -74,17 +83,17 @@ part-gets-all-start c = search needs
 
 part-gets-all-end : tie.Need-part-gets-all-end
 part-gets-all-end c =
-    let h = c .before .before .before .before .before .before .before .before .write-store .ensures (not-false _ (c .before .before .before .before .before .if4 .left)) in
+    let h = c .before .before .before .before .before .before .before .before .before .before .write-store .ensures (not-false _ (c .before .before .before .before .before .before .before .if4 .left)) in
     omega arith
 
 gets-all-requires : tie.Need-gets-all-requires
 gets-all-requires c κs = search needs
 
-same-length-3 : tie.Need-same-length-3
-same-length-3 c = search needs
+same-length-4 : tie.Need-same-length-4
+same-length-4 c = search needs
 
-returns-6 : tie.Need-returns-6
-returns-6 c = search needs
+returns-7 : tie.Need-returns-7
+returns-7 c = search needs
 
 pub same-store-spec : {M : Type 1} → statement M
 same-store-spec =
@@ -109,9 +118,12 @@ same-store-spec =
     same-requires
     same-length-2
     returns-5
+    is-stored-requires
+    same-length-3
+    returns-6
     sub-gets-all
     part-gets-all-start
     part-gets-all-end
     gets-all-requires
-    same-length-3
-    returns-6)
+    same-length-4
+    returns-7)

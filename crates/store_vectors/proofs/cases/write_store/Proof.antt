@@ -1,6 +1,10 @@
 -- `store_vectors::cases::write_store` meets its contract: the part is as long as the store.
 use Rattle.store_vectors.proofs.Tests.{never}
 use borrow.Author.Needs.{needs}
+use native.Mathlib.Omega.{arith}
+use Prim.Native.Nat.{_+_, _-_}
+use lib.ListN.{drop, length-take, length-drop}
+use Rattle.store.proofs.Plans.{plans-stand}
 use Rattle.store_vectors.proofs.cases.write_store.Statement.{statement}
 use Rattle.store_vectors.proofs.cases.write_store.Tie as tie
 
@@ -10,14 +14,20 @@ sub-if1 c = search needs
 returns : tie.Need-returns
 returns c = never
 
-store-len-requires : tie.Need-store-len-requires
-store-len-requires c κs = search needs
+slice-aggregate-plan-store : tie.Need-slice-aggregate-plan-store
+slice-aggregate-plan-store c = search needs
+
+plan-store-requires : tie.Need-plan-store-requires
+plan-store-requires c κs = search needs
 
 returns-2 : tie.Need-returns-2
 returns-2 c = search needs
 
 add-end : tie.Need-add-end
 add-end c = search needs
+
+slice-aggregate-serialize : tie.Need-slice-aggregate-serialize
+slice-aggregate-serialize c = search needs
 
 sub-serialize : tie.Need-sub-serialize
 sub-serialize c = search needs
@@ -29,7 +39,14 @@ part-serialize-end : tie.Need-part-serialize-end
 part-serialize-end c = search needs
 
 serialize-requires : tie.Need-serialize-requires
-serialize-requires c κs = search needs
+serialize-requires c κs =
+    let start = c .before .before .before .before .before .before .before .before .before in
+    let planned = c .before .before .before .before .plan-store .ensures in (
+      start .pre .0,
+      record { some = omega arith; few = omega arith },
+      plans-stand _ (omega arith) (start .args .area .now) 3 (start .args .n) _ _ (omega (arith, start .pre .0 .few)) (planned .1),
+      omega (arith, planned .0, c .before .before .if2 .left, length-take (16 + start .args .len - 16) (drop 16 (start .args .out .now)), length-drop 16 (start .args .out .now)),
+    )
 
 same-length : tie.Need-same-length
 same-length c = search needs
@@ -79,9 +96,11 @@ write-store-spec =
     (tie.spec
     sub-if1
     returns
-    store-len-requires
+    slice-aggregate-plan-store
+    plan-store-requires
     returns-2
     add-end
+    slice-aggregate-serialize
     sub-serialize
     part-serialize-start
     part-serialize-end
