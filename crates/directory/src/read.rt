@@ -144,19 +144,6 @@ fn lesser(a: usize, b: usize) -> usize
     b
 }
 
-// Whether `at` is below `key`, if `shared` is how many bytes they have in common at the front.
-fn below(at: &[u8], key: &[u8], shared: usize) -> bool
-    ensures { λ r. ⌜ (shared ≡ commonPrefixLen (now (at .entry)) (now (key .entry)) → r ≡ less (now (at .entry)) (now (key .entry))) ⌝ }
-{
-    if shared >= key.len() {
-        return false;
-    }
-    if shared >= at.len() {
-        return true;
-    }
-    at[shared] < key[shared]
-}
-
 // The first of n keys that isn't below `key`: a binary search. The key before `left` and the key at `right` share
 // `left_shared` and `right_shared` bytes with `key`; where keys rise, those between them share at least the lesser of the two.
 // The search ends at a key equal to `key`: neither has a byte behind the shared ones.
@@ -182,7 +169,7 @@ pub fn locate_with_key(directory: &[u8], n: usize, key: &[u8]) -> Found
             }
             right = mid;
             right_shared = shared;
-        } else if below(at, key, shared) {
+        } else if keys::lt_behind(at, key, shared) {
             left = mid + 1;
             left_shared = shared;
         } else {

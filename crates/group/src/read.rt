@@ -3,50 +3,13 @@ ghost use mathlib.Core.Path.{_≡_};
 ghost use Prim.Native.Nat.{_+_, _-_, _*_, _/_, _%_, _^_, _≤_, _<_};
 ghost use lib.ListN.{length};
 ghost use Rattle.serialize.specs.Digits.{leVal};
-ghost use Rattle.bitpacker.specs.Fields.{rangeBit, ordinalBit, groupBits};
-ghost use Rattle.bitpacker.specs.Bits.{bytesOf};
 ghost use Rattle.group.specs.Legal.{limit};
 ghost use Rattle.group.specs.Read.{widthBad, groupBad, valueRead, rangeRead, ordinalRead, blockRead};
 ghost use Rattle.group.specs.Facts.{Readable};
 use crate::BlockAddr;
 use crate::BlockAddrBlockMetadata;
+use crate::bits;
 use crate::rows::LIMIT;
-
-// The first bit of range field i, the first of ordinal field i, and the bits of all fields of a group with n blocks
-// behind its first: the only places that count bits.
-fn range_bit(range_nbits: u8, ordinal_nbits: u8, i: usize) -> usize
-    requires { ⌜ («range_nbits» ≤ 56) × («ordinal_nbits» ≤ 56) × (i ≤ 65536) ⌝ }
-    ensures { λ r. ⌜ r ≡ rangeBit «range_nbits» «ordinal_nbits» i ⌝ }
-{
-    (range_nbits as usize + ordinal_nbits as usize) * i
-}
-
-fn ordinal_bit(range_nbits: u8, ordinal_nbits: u8, i: usize) -> usize
-    requires { ⌜ («range_nbits» ≤ 56) × («ordinal_nbits» ≤ 56) × (i ≤ 65536) ⌝ }
-    ensures { λ r. ⌜ r ≡ ordinalBit «range_nbits» «ordinal_nbits» i ⌝ }
-{
-    (range_nbits as usize + ordinal_nbits as usize) * i + range_nbits as usize
-}
-
-fn group_bits(range_nbits: u8, ordinal_nbits: u8, n: usize) -> usize
-    requires { ⌜ («range_nbits» ≤ 56) × («ordinal_nbits» ≤ 56) × (n ≤ 65536) ⌝ }
-    ensures { λ r. ⌜ r ≡ groupBits «range_nbits» «ordinal_nbits» n ⌝ }
-{
-    (range_nbits as usize + ordinal_nbits as usize) * n + range_nbits as usize
-}
-
-// How many bytes the group's bits take.
-pub fn addr_len(meta: BlockAddrBlockMetadata) -> usize
-    requires { ⌜ (meta .«range_start_nbits» ≤ 56) × (meta .«first_ordinal_nbits» ≤ 56) ⌝ }
-    ensures { λ r. ⌜ r ≡ bytesOf (groupBits (meta .«range_start_nbits») (meta .«first_ordinal_nbits») (meta .«block_len»)) ⌝ }
-{
-    let bits = group_bits(
-        meta.range_start_nbits,
-        meta.first_ordinal_nbits,
-        meta.block_len as usize,
-    );
-    (bits + 7) / 8
-}
 
 fn width_bad(nbits: u8) -> bool
     ensures { λ r. ⌜ r ≡ widthBad nbits ⌝ }
@@ -71,7 +34,7 @@ pub fn group_bad(meta: BlockAddrBlockMetadata, count: usize, addr_len: usize) ->
     if block_len + 1 != count {
         return true;
     }
-    let bits = group_bits(meta.range_start_nbits, meta.first_ordinal_nbits, block_len);
+    let bits = bits::group_bits(meta.range_start_nbits, meta.first_ordinal_nbits, block_len);
     if meta.offset > addr_len as u64 {
         return true;
     }
@@ -100,7 +63,7 @@ pub fn range_start(meta: BlockAddrBlockMetadata, data: &[u8], i: usize) -> u64
         return meta.range_start;
     }
     let nbits = meta.range_start_nbits;
-    let bit = range_bit(nbits, meta.first_ordinal_nbits, i - 1);
+    let bit = bits::range_bit(nbits, meta.first_ordinal_nbits, i - 1);
     let field = bitpacker::extract_bits(data, bit, nbits);
     value(meta.range_start, field, meta.range_start_slope, i, nbits)
 }
@@ -114,7 +77,7 @@ pub fn first_ordinal(meta: BlockAddrBlockMetadata, data: &[u8], i: usize) -> u64
         return meta.first_ordinal;
     }
     let nbits = meta.first_ordinal_nbits;
-    let bit = ordinal_bit(meta.range_start_nbits, nbits, i - 1);
+    let bit = bits::ordinal_bit(meta.range_start_nbits, nbits, i - 1);
     let field = bitpacker::extract_bits(data, bit, nbits);
     value(
         meta.first_ordinal,

@@ -33,7 +33,7 @@ pub fn plan_group(
     let at = PLAN_LEN * g;
     kept[at] = group::write::packed(meta.range_start_slope, meta.range_start_nbits);
     kept[at + 1] = group::write::packed(meta.first_ordinal_slope, meta.first_ordinal_nbits);
-    group::read::addr_len(meta)
+    group::bits::addr_len(meta)
 }
 
 // Plans all groups. Returns how many bytes the store takes.

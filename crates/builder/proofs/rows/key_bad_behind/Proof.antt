@@ -27,9 +27,7 @@ last-key-requires : tie.Need-last-key-requires
 last-key-requires c κs = search needs
 
 lt-behind-requires : tie.Need-lt-behind-requires
-lt-behind-requires c κs =
-    let s = c .before .before .before .before .before .before in
-    s .pre .1 ∙ ap (λ (last : List ℕ). commonPrefixLen last (s .args .key .now)) (sym (c .last-key .ensures))
+lt-behind-requires c κs = search needs
 
 some : (c : tie.Else1)
     → let a = c .before .before .before .before .before .args in
@@ -38,7 +36,10 @@ unfolding areaView
 some c = c .if1 .left
 
 returns-2 : tie.Need-returns-2
-returns-2 c = behind-block _ _ _ _ (some (c .before .before)) (c .before .last-key .ensures) (c .lt-behind .ensures)
+returns-2 c =
+    let s = c .before .before .before .before .before .before .before in
+    let counted = s .pre .1 ∙ ap (λ (last : List ℕ). commonPrefixLen last (s .args .key .now)) (sym (c .before .last-key .ensures)) in
+    behind-block _ _ _ _ (some (c .before .before)) (c .before .last-key .ensures) (c .lt-behind .ensures counted)
 
 pub key-bad-behind-spec : {M : Type 1} → statement M
 key-bad-behind-spec = tie.close (tie.spec returns last-key-requires lt-behind-requires returns-2)

@@ -157,8 +157,8 @@ loop-less c = search needs
 loop-again : tie.Need-loop-again Inv-loop μ-loop
 loop-again c = turned-right (c .before .before) (not-below-shared (c .before))
 
-below-requires : tie.Need-below-requires Inv-loop μ-loop
-below-requires c κs = search needs
+lt-behind-requires : tie.Need-lt-behind-requires Inv-loop μ-loop
+lt-behind-requires c κs = search needs
 
 add-left : tie.Need-add-left Inv-loop μ-loop
 add-left c = search needs
@@ -175,7 +175,7 @@ loop-again-2 c =
     let mid = middle (l .loop .left) (l .loop .right) in (
       omega arith,
       l .loop .inv .1,
-      λ sorted. all-below (a .directory .now) (a .n) sorted mid (a .key .now) (omega arith) (tested (a .key .now) (k .key .ensures) (f .common-prefix-len-by-runs .result) (shared-is f sorted) (c .before .below .ensures) (c .if4 .taken)),
+      λ sorted. all-below (a .directory .now) (a .n) sorted mid (a .key .now) (omega arith) (tested (a .key .now) (k .key .ensures) (f .common-prefix-len-by-runs .result) (shared-is f sorted) (c .before .lt-behind .ensures) (c .if4 .taken)),
       l .loop .inv .3,
       λ sorted i h g r. rw (shared-is f sorted) (shared-below (a .directory .now) (a .n) sorted mid (a .key .now) i h g r),
       l .loop .inv .5,
@@ -190,7 +190,7 @@ loop-again-3 c =
     let k = f .before .before in
     let a = k .before .before .before .before .before .before .before .args in
     turned-right f
-    (λ sorted. tested (a .key .now) (k .key .ensures) (f .common-prefix-len-by-runs .result) (shared-is f sorted) (c .before .below .ensures) (c .if4 .left))
+    (λ sorted. tested (a .key .now) (k .key .ensures) (f .common-prefix-len-by-runs .result) (shared-is f sorted) (c .before .lt-behind .ensures) (c .if4 .left))
 
 returns-3 : tie.Need-returns-3 Inv-loop μ-loop
 unfolding FoundIn FoundAs
@@ -231,7 +231,7 @@ locate-with-key-spec =
     returns-2
     loop-less
     loop-again
-    below-requires
+    lt-behind-requires
     add-left
     loop-less-2
     loop-again-2

@@ -1,9 +1,9 @@
--- `group::read::group_bits` meets its contract: the sum stays far below a word.
+-- `group::bits::group_bits` meets its contract: the sum stays far below a word.
 use borrow.Author.Needs.{needs}
 use native.Mathlib.Omega.{arith}
 use Rattle.group.proofs.Reading.{bits-small}
-use Rattle.group.proofs.read.group_bits.Statement.{statement}
-use Rattle.group.proofs.read.group_bits.Tie as tie
+use Rattle.group.proofs.bits.group_bits.Statement.{statement}
+use Rattle.group.proofs.bits.group_bits.Tie as tie
 
 add-result : tie.Need-add-result
 add-result c = search needs

@@ -1,9 +1,9 @@
--- `group::read::addr_len` meets its contract.
+-- `group::bits::addr_len` meets its contract.
 use borrow.Author.Needs.{needs}
 use native.Mathlib.Omega.{arith}
 use Rattle.group.proofs.Reading.{bits-small}
-use Rattle.group.proofs.read.addr_len.Statement.{statement}
-use Rattle.group.proofs.read.addr_len.Tie as tie
+use Rattle.group.proofs.bits.addr_len.Statement.{statement}
+use Rattle.group.proofs.bits.addr_len.Tie as tie
 
 cast-group-bits : tie.Need-cast-group-bits
 cast-group-bits c = search needs

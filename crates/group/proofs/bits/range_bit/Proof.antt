@@ -1,9 +1,9 @@
--- `group::read::range_bit` meets its contract: the product stays far below a word.
+-- `group::bits::range_bit` meets its contract: the product stays far below a word.
 use borrow.Author.Needs.{needs}
 use native.Mathlib.Omega.{arith}
 use Rattle.group.proofs.Reading.{bits-small}
-use Rattle.group.proofs.read.range_bit.Statement.{statement}
-use Rattle.group.proofs.read.range_bit.Tie as tie
+use Rattle.group.proofs.bits.range_bit.Statement.{statement}
+use Rattle.group.proofs.bits.range_bit.Tie as tie
 
 add-result : tie.Need-add-result
 add-result c = search needs

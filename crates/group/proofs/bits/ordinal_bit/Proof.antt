@@ -1,9 +1,9 @@
--- `group::read::ordinal_bit` meets its contract: the sum stays far below a word.
+-- `group::bits::ordinal_bit` meets its contract: the sum stays far below a word.
 use borrow.Author.Needs.{needs}
 use native.Mathlib.Omega.{arith}
 use Rattle.group.proofs.Reading.{bits-small}
-use Rattle.group.proofs.read.ordinal_bit.Statement.{statement}
-use Rattle.group.proofs.read.ordinal_bit.Tie as tie
+use Rattle.group.proofs.bits.ordinal_bit.Statement.{statement}
+use Rattle.group.proofs.bits.ordinal_bit.Tie as tie
 
 add-result : tie.Need-add-result
 add-result c = search needs
