@@ -1,6 +1,4 @@
 // What the program `blocks` prints: a line per block of an index, or one line that says why there is none.
-mod put;
-
 ghost use mathlib.Core.Path.{_≡_};
 ghost use Prim.Native.Nat.{_≤_, _<_};
 ghost use lib.ListN.{length};
@@ -25,7 +23,7 @@ fn block(opened: SSTableIndexV3, data: &[u8], id: usize) -> BlockAddr
     requires { ⌜ Opens (now «data») opened × (id < opened .n) ⌝ }
     ensures { λ r. ⌜ (r ≡ openedBlock opened (now («data» .entry)) id) × NumbersOk r ⌝ }
 {
-    let BlockById::Block(block) = opened.get_block(data, id as u64) else {
+    let BlockById::Block(block) = index_lookup::get_block(opened, data, id as u64) else {
         // No block of an opened index is refused; a refusal's address is zero.
         return BlockAddr {
             start: 0,
@@ -43,8 +41,8 @@ pub fn line(opened: SSTableIndexV3, data: &[u8], id: usize, out: &mut [u8]) -> u
     ensures { λ _. ⌜ now (out .exit) ≡ sets (now (out .entry)) 0 (lineAt opened (now («data» .entry)) id) ⌝ }
 {
     let addr = block(opened, data, id);
-    let separator = opened.separator(data, id as u64);
-    put::put_line(out, id, addr, separator)
+    let separator = index_lookup::separator(opened, data, id as u64);
+    line_text::put_line(out, id, addr, separator)
 }
 
 // How many pieces the text has for these bytes, of which `loaded` is what opening answers.
@@ -67,10 +65,10 @@ pub fn piece(loaded: Loaded, data: &[u8], i: usize, out: &mut [u8]) -> usize
     ensures { λ r. ⌜ WritesPiece (now («data» .entry)) i (now (out .entry)) (now (out .exit)) r ⌝ }
 {
     if data.len() > MAX_LEN {
-        return put::put_too_long(out);
+        return line_text::put_too_long(out);
     }
     match loaded {
         Loaded::Opened(opened) => line(opened, data, i, out),
-        Loaded::Refused(row) => put::put_refusal(out, row),
+        Loaded::Refused(row) => line_text::put_refusal(out, row),
     }
 }

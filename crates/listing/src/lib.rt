@@ -13,12 +13,12 @@ ghost use Rattle.pruning.specs.Prepared.{Prepared};
 ghost use Rattle.directory.specs.Read.{keyOf};
 ghost use Rattle.listing.specs.Listing.{keysOutside, Listing, GetBlockForAutomaton, listedNo, listedCount, ListedCased};
 ghost use Rattle.listing.specs.Followed.{Followed, Turned};
-use automaton::live::UNKNOWN;
-use automaton::reach::can_match;
 use automaton::table::accept;
-use directory::read::key;
+use automaton_live::UNKNOWN;
+use automaton_reach::can_match;
+use directory_read::key;
 use index::SSTableIndexV3;
-use index::opened_bad;
+use index_lookup::opened_bad;
 use layout::refusals::ROOM_SHORT;
 use layout::refusals::UNFIT;
 use pruning::block_match_automaton::accept_prefix;
@@ -44,7 +44,7 @@ fn keys_outside(directory: &[u8], n: usize) -> bool
 {
     let mut i: usize = 0;
     while i < n {
-        if directory::read::key_outside(directory, n, i) {
+        if directory_read::key_outside(directory, n, i) {
             return true;
         }
         i += 1;
@@ -240,7 +240,7 @@ fn mark_blocks(directory: &[u8], n: usize, table: &[u8], marks: &mut [u8]) -> us
     requires { ⌜ ((1 ≤ n) × (n ≤ 65536)) × (keysOutside (now directory) n n ≡ false) × WellFormed (now table) × (n ≤ length (now marks)) ⌝ }
     ensures { λ r. ⌜ Listing (now (table .entry)) (keyOf (now (directory .entry)) n) n (now (marks .entry)) (now (marks .exit)) r ⌝ }
 {
-    let reach = automaton::reach::reach(table);
+    let reach = automaton_reach::reach(table);
     let mut firsts: [u16; 64] = [UNKNOWN; 64];
     let mut ends: [u16; 64] = [UNKNOWN; 64];
     let first_key = key(directory, n, 0);

@@ -1,7 +1,7 @@
 // The walk over a block's two keys, by the bytes that lead to acceptance from each state.
 ghost use mathlib.Core.Path.{_≡_};
 ghost use mathlib.Core.List.{[]};
-ghost use Prim.Native.Nat.{ℕ, _≤_, _<_};
+ghost use Prim.Native.Nat.{_≤_, _<_};
 ghost use lib.ListN.{length, take, getD};
 ghost use Rattle.keys.specs.Order.{commonPrefixLen};
 ghost use Rattle.automaton.specs.Bits.{Exactly};
@@ -10,11 +10,11 @@ ghost use Rattle.automaton.specs.Words.{run, Reach};
 ghost use Rattle.automaton.specs.Live.{Firsts, Ends};
 ghost use Rattle.pruning.specs.Interval.{startOf, Marked, MatchAbove, MatchBetween};
 ghost use Rattle.pruning.specs.Prepared.{Prepared};
-use automaton::live::any_byte;
-use automaton::live::end;
-use automaton::live::first;
 use automaton::table::accept;
 use automaton::table::is_match;
+use automaton_live::any_byte;
+use automaton_live::end;
+use automaton_live::first;
 
 // Whether a string above `start_key` can match from `state` on. Where the highest byte that leads on is the key's,
 // the walk goes on behind it; a higher one matches, and below it the key's own leads nowhere.

@@ -1,7 +1,7 @@
 // Whether a block can hold a key that an automaton accepts: src/block_match_automaton.rs.
 pub mod block_match_automaton;
 
-use automaton::live::UNKNOWN;
+use automaton_live::UNKNOWN;
 ghost use Rattle.pruning.specs.Interval.{startOf};
 ghost use Rattle.pruning.specs.Answers.{matchedNo, matches, MatchedCased, CanBlockMatch};
 
@@ -26,7 +26,7 @@ pub fn can_block_match_automaton(
     if no != 0 {
         return Matched::Refused(no);
     }
-    let reach = automaton::reach::reach(table);
+    let reach = automaton_reach::reach(table);
     let mut firsts: [u16; 64] = [UNKNOWN; 64];
     let mut ends: [u16; 64] = [UNKNOWN; 64];
     Matched::Matches(block_match_automaton::can_block_match(

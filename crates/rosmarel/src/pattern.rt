@@ -1,5 +1,4 @@
 // Patterns: the blocks that can hold a key of one, and an example of such a key.
-ghost use mathlib.Core.Path.{_≡_};
 ghost use Prim.Native.Nat.{_≤_};
 ghost use lib.Dec.{eqb};
 ghost use Rattle.pruning.specs.Interval.{startOf};

@@ -134,7 +134,7 @@ impl BlockAddrStoreWriter {
         flushed.held = 0;
         flushed.g = self.g + 1;
         if self.writing {
-            let len = store::write::write_group(
+            let len = store_write::write_group(
                 window,
                 STRIDE,
                 0,
@@ -151,7 +151,7 @@ impl BlockAddrStoreWriter {
         }
         let seen = self.seen;
         if seen.no(self.n) == 0 {
-            let len = store::write::plan_group(window, STRIDE, 0, self.held, self.g, kept);
+            let len = store_write::plan_group(window, STRIDE, 0, self.held, self.g, kept);
             flushed.offset = self.offset + len;
         }
         flushed
