@@ -48,7 +48,7 @@ pub extern "C" fn rosmarel_can_block_match(
         (eqb (now (matches .exit)) 1) ⌝ }
     ensures { λ _. ⌜ now (matches .exit) ≤ 1 ⌝ }
 {
-    match pruning::can_block_match_automaton(has_start, start, end, automaton) {
+    match pruning_match::can_block_match_automaton(has_start, start, end, automaton) {
         Matched::Matches(can) => {
             *matches = can as u64;
             0
