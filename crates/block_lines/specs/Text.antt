@@ -12,7 +12,7 @@ use Rattle.index.specs.declared.Loaded.the-variants.{Opened, Refused}
 use Rattle.index.specs.Parts.{separatorIn}
 use Rattle.index.specs.Opening.{loadDef}
 use Rattle.block_lines.specs.Opened.{openedBlock}
-use Rattle.line_text.specs.Lines.{lineOf, tooLongLine, refusedLine}
+use Rattle.line_text.specs.Lines.{lineOf, tooLongLine, refusedLine, lineLen}
 
 -- the longest input that is taken
 abbrev pub maxLen : ℕ
@@ -47,4 +47,4 @@ pieceAt f i = getD (blocksPieces f) i []
 pub record WritesPiece (f : List ℕ) (i : ℕ) (out written : List ℕ) (r : ℕ) : Type 0 where
   pub whole : r ≡ length (pieceAt f i)
   pub front : written ≡ sets out 0 (pieceAt f i)
-  pub short : r ≤ 2103
+  pub short : r ≤ lineLen

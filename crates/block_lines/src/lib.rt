@@ -4,6 +4,7 @@ ghost use Prim.Native.Nat.{_≤_, _<_};
 ghost use lib.ListN.{length};
 ghost use lib.Seq.{sets};
 ghost use Rattle.group.specs.Legal.{NumbersOk};
+ghost use Rattle.line_text.specs.Lines.{lineLen};
 ghost use Rattle.index.specs.Opening.{loadDef, Opens};
 ghost use Rattle.block_lines.specs.Opened.{openedBlock};
 ghost use Rattle.block_lines.specs.Text.{lineAt, blocksPieces, WritesPiece};
@@ -36,7 +37,7 @@ fn block(opened: SSTableIndexV3, data: &[u8], id: usize) -> BlockAddr
 
 // Writes the line of a block of an opened index to the front of `out`. Returns its length.
 pub fn line(opened: SSTableIndexV3, data: &[u8], id: usize, out: &mut [u8]) -> usize
-    requires { ⌜ Opens (now «data») opened × (id < opened .n) × (2103 ≤ length (now out)) ⌝ }
+    requires { ⌜ Opens (now «data») opened × (id < opened .n) × (lineLen ≤ length (now out)) ⌝ }
     ensures { λ r. ⌜ r ≡ length (lineAt opened (now («data» .entry)) id) ⌝ }
     ensures { λ _. ⌜ now (out .exit) ≡ sets (now (out .entry)) 0 (lineAt opened (now («data» .entry)) id) ⌝ }
 {
@@ -61,7 +62,7 @@ pub fn pieces(loaded: Loaded, data: &[u8]) -> usize
 
 // Writes piece i of the text to the front of `out`. Returns its length.
 pub fn piece(loaded: Loaded, data: &[u8], i: usize, out: &mut [u8]) -> usize
-    requires { ⌜ (loaded ≡ loadDef (now «data»)) × (i < length (blocksPieces (now «data»))) × (2103 ≤ length (now out)) ⌝ }
+    requires { ⌜ (loaded ≡ loadDef (now «data»)) × (i < length (blocksPieces (now «data»))) × (lineLen ≤ length (now out)) ⌝ }
     ensures { λ r. ⌜ WritesPiece (now («data» .entry)) i (now (out .entry)) (now (out .exit)) r ⌝ }
 {
     if data.len() > MAX_LEN {

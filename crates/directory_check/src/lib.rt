@@ -3,6 +3,7 @@ ghost use mathlib.Core.Path.{_≡_};
 ghost use mathlib.Core.Bool.{false};
 ghost use Prim.Native.Nat.{_+_, _*_, _≤_, _<_};
 ghost use lib.ListN.{length};
+ghost use Rattle.layout.specs.Layout.{maxBlocks, pairLen};
 ghost use Rattle.directory.specs.Read.{countOf};
 ghost use Rattle.directory.specs.Read.{pairsBad, directoryBad, keysBad, directoryNo};
 use directory_read::key;
@@ -15,7 +16,7 @@ use layout::refusals::KEYS_UNSORTED;
 
 // Whether one of the first n pairs breaks the offsets' rule, or its key is too long.
 fn pairs_bad(directory: &[u8], n: usize) -> bool
-    requires { ⌜ (n ≤ 65536) × (4 + 8 * n ≤ length (now directory)) ⌝ }
+    requires { ⌜ (n ≤ maxBlocks) × (4 + pairLen * n ≤ length (now directory)) ⌝ }
     ensures { λ r. ⌜ r ≡ pairsBad (now (directory .entry)) n ⌝ }
 {
     let mut begin: usize = 0;

@@ -3,6 +3,7 @@ ghost use mathlib.Core.Path.{_≡_};
 ghost use mathlib.Core.Bool.{false};
 ghost use Prim.Native.Nat.{_+_, _*_, _^_, _≤_, _<_, min};
 ghost use lib.ListN.{length};
+ghost use Rattle.layout.specs.Layout.{maxBlocks};
 ghost use Rattle.serialize.specs.Digits.{numberAt};
 ghost use Rattle.directory.specs.Read.{keyPosition, keyOf, keyOutside};
 ghost use Rattle.directory.specs.Read.{Sorted, FoundIn, FoundAs};
@@ -19,7 +20,7 @@ pub fn number(directory: &[u8], at: usize) -> usize
 
 // Where key i of n begins.
 pub fn key_position(directory: &[u8], n: usize, i: usize) -> usize
-    requires { ⌜ (n ≤ 65536) × (i < n) × (keyOutside (now directory) n i ≡ false) ⌝ }
+    requires { ⌜ (n ≤ maxBlocks) × (i < n) × (keyOutside (now directory) n i ≡ false) ⌝ }
     ensures { λ r. ⌜ r ≡ keyPosition (now (directory .entry)) n i ⌝ }
 {
     4 + PAIR_LEN * n + number(directory, 4 + PAIR_LEN * i)
@@ -27,7 +28,7 @@ pub fn key_position(directory: &[u8], n: usize, i: usize) -> usize
 
 // Key i of n.
 pub fn key(directory: &[u8], n: usize, i: usize) -> &[u8]
-    requires { ⌜ (n ≤ 65536) × (i < n) × (keyOutside (now directory) n i ≡ false) ⌝ }
+    requires { ⌜ (n ≤ maxBlocks) × (i < n) × (keyOutside (now directory) n i ≡ false) ⌝ }
     ensures { λ r. ⌜ now r ≡ keyOf (now (directory .entry)) n i ⌝ }
 {
     let from = key_position(directory, n, i);
@@ -37,7 +38,7 @@ pub fn key(directory: &[u8], n: usize, i: usize) -> &[u8]
 
 // Row 20 for key i: whether its pair or the key lies outside the bytes.
 pub fn key_outside(directory: &[u8], n: usize, i: usize) -> bool
-    requires { ⌜ (n ≤ 65536) × (i < n) ⌝ }
+    requires { ⌜ (n ≤ maxBlocks) × (i < n) ⌝ }
     ensures { λ r. ⌜ r ≡ keyOutside (now (directory .entry)) n i ⌝ }
 {
     let at = 4 + PAIR_LEN * i;
@@ -61,7 +62,7 @@ fn lesser(a: usize, b: usize) -> usize
 // `left_shared` and `right_shared` bytes with `key`; where keys rise, those between them share at least the lesser of the two.
 // The search ends at a key equal to `key`: neither has a byte behind the shared ones.
 pub fn locate_with_key(directory: &[u8], n: usize, key: &[u8]) -> Found
-    requires { ⌜ (1 ≤ n) × (n ≤ 65536) ⌝ }
+    requires { ⌜ (1 ≤ n) × (n ≤ maxBlocks) ⌝ }
     ensures { λ r. ⌜ FoundIn n r ⌝ }
     ensures { λ r. ⌜ (Sorted (now (directory .entry)) n → FoundAs (keyOf (now (directory .entry)) n) n (now (key .entry)) r) ⌝ }
 {

@@ -2,6 +2,7 @@
 ghost use mathlib.Core.Path.{_≡_};
 ghost use Prim.Native.Nat.{_+_, _-_, _*_, _/_, _^_, _≤_, _<_};
 ghost use lib.ListN.{length};
+ghost use Rattle.layout.specs.Layout.{maxBlocks};
 ghost use Rattle.serialize.specs.Digits.{leVal};
 ghost use Rattle.group.specs.Legal.{limit};
 ghost use Rattle.group.specs.Read.{widthBad, groupBad, valueRead, rangeRead, ordinalRead, blockRead};
@@ -43,7 +44,7 @@ pub fn group_bad(meta: BlockAddrBlockMetadata, count: usize, addr_len: usize) ->
 
 // The value of a field: first + field + slope × i - 2^(nbits-1), or the limit where that is below 0.
 fn value(first: u64, field: u64, slope: u32, i: usize, nbits: u8) -> u64
-    requires { ⌜ (first < limit) × (field < 2 ^ 56) × (i ≤ 65536) × (1 ≤ nbits) × (nbits ≤ 56) ⌝ }
+    requires { ⌜ (first < limit) × (field < 2 ^ 56) × (i ≤ maxBlocks) × (1 ≤ nbits) × (nbits ≤ 56) ⌝ }
     ensures { λ r. ⌜ r ≡ valueRead first field slope i nbits ⌝ }
 {
     let sum = first + field + (slope as u64) * (i as u64);

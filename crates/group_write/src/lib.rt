@@ -3,6 +3,7 @@ ghost use mathlib.Core.Path.{_≡_};
 ghost use Prim.Native.Nat.{_+_, _-_, _*_, _^_, _≤_, _<_};
 ghost use lib.ListN.{length};
 ghost use lib.Seq.{sets};
+ghost use Rattle.layout.specs.Layout.{maxBlocks};
 ghost use Rattle.slope.specs.Slope.{bestSlope, storedOf};
 ghost use Rattle.group.specs.Blocks.{blockAt, blocksAt};
 ghost use mathlib.Core.List.{[], _∷_};
@@ -89,7 +90,7 @@ pub fn planned_block(
 
 // What is stored of the point (i, value).
 fn stored(value: u64, slope: u32, i: usize, nbits: u8) -> u64
-    requires { ⌜ (value < 2 ^ 62) × (i ≤ 65536) × (1 ≤ nbits) × (nbits ≤ 56) × (slope * i ≤ value + 2 ^ (nbits - 1)) ⌝ }
+    requires { ⌜ (value < 2 ^ 62) × (i ≤ maxBlocks) × (1 ≤ nbits) × (nbits ≤ 56) × (slope * i ≤ value + 2 ^ (nbits - 1)) ⌝ }
     ensures { λ r. ⌜ r ≡ storedOf slope nbits i value ⌝ }
 {
     value + (1u64 << (nbits - 1)) - (slope as u64) * (i as u64)

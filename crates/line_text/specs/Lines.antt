@@ -44,3 +44,7 @@ refusedText = 114 ∷ 101 ∷ 102 ∷ 117 ∷ 115 ∷ 101 ∷ 100 ∷ 32 ∷ []
 -- `refused k`, and a line's end
 unfoldable pub refusedLine : ℕ → List ℕ
 refusedLine k = refusedText ++ (decimal k ++ (10 ∷ []))
+
+-- no line is longer: an id of 5 digits, three numbers of 15, a key of 1,024 bytes, five signs between and behind
+abbrev pub lineLen : ℕ
+lineLen = 2103

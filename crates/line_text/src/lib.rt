@@ -4,8 +4,9 @@ ghost use mathlib.Core.List.{[], _∷_};
 ghost use Prim.Native.Nat.{_+_, _*_, _≤_, _<_};
 ghost use lib.ListN.{length, drop};
 ghost use lib.Seq.{sets};
+ghost use Rattle.layout.specs.Layout.{maxBlocks, maxKeyLen};
 ghost use Rattle.group.specs.Legal.{NumbersOk};
-ghost use Rattle.line_text.specs.Lines.{decimal, hexDigit, hex, separatorText, lineOf};
+ghost use Rattle.line_text.specs.Lines.{decimal, hexDigit, hex, separatorText, lineOf, lineLen};
 ghost use Rattle.line_text.specs.Lines.{tooLongLine, refusedLine};
 use group::BlockAddr;
 
@@ -95,7 +96,7 @@ fn put_end(out: &mut [u8], at: usize) -> usize
 
 // Writes a line to the front of `out`. Returns its length.
 pub fn put_line(out: &mut [u8], id: usize, block: BlockAddr, separator: &[u8]) -> usize
-    requires { ⌜ (id < 65536) × NumbersOk block × (length (now separator) ≤ 1024) × (2103 ≤ length (now out)) ⌝ }
+    requires { ⌜ (id < maxBlocks) × NumbersOk block × (length (now separator) ≤ maxKeyLen) × (lineLen ≤ length (now out)) ⌝ }
     ensures { λ r. ⌜ r ≡ length (lineOf id block (now (separator .entry))) ⌝ }
     ensures { λ _. ⌜ now (out .exit) ≡ sets (now (out .entry)) 0 (lineOf id block (now (separator .entry))) ⌝ }
 {
@@ -109,7 +110,7 @@ pub fn put_line(out: &mut [u8], id: usize, block: BlockAddr, separator: &[u8]) -
 
 // Writes the line of an input that is too long to the front of `out`. Returns its length.
 pub fn put_too_long(out: &mut [u8]) -> usize
-    requires { ⌜ 2103 ≤ length (now out) ⌝ }
+    requires { ⌜ lineLen ≤ length (now out) ⌝ }
     ensures { λ r. ⌜ (r ≡ length tooLongLine) × (now (out .exit) ≡ sets (now (out .entry)) 0 tooLongLine) ⌝ }
 {
     bytes::copy(b"too long\n", out)
@@ -117,7 +118,7 @@ pub fn put_too_long(out: &mut [u8]) -> usize
 
 // Writes the line of a refusal to the front of `out`. Returns its length.
 pub fn put_refusal(out: &mut [u8], row: u32) -> usize
-    requires { ⌜ 2103 ≤ length (now out) ⌝ }
+    requires { ⌜ lineLen ≤ length (now out) ⌝ }
     ensures { λ r. ⌜ (r ≡ length (refusedLine row)) × (now (out .exit) ≡ sets (now (out .entry)) 0 (refusedLine row)) ⌝ }
 {
     let mut at = bytes::copy(b"refused ", out);

@@ -3,6 +3,7 @@ ghost use mathlib.Core.Path.{_≡_};
 ghost use mathlib.Core.Bool.{true, false, cond};
 ghost use Prim.Native.Nat.{_+_, _≤_, _<_};
 ghost use lib.ListN.{length, set, getD};
+ghost use Rattle.layout.specs.Layout.{maxBlocks, maxKeyLen};
 ghost use Rattle.keys.specs.Order.{commonPrefixLen};
 ghost use Rattle.automaton.specs.Bits.{bit, Exactly};
 ghost use Rattle.automaton.specs.Table.{WellFormed, next};
@@ -38,7 +39,7 @@ struct Turn {
 
 // Whether one of n keys or its pair lies outside the directory.
 fn keys_outside(directory: &[u8], n: usize) -> bool
-    requires { ⌜ n ≤ 65536 ⌝ }
+    requires { ⌜ n ≤ maxBlocks ⌝ }
     ensures { λ r. ⌜ r ≡ keysOutside (now (directory .entry)) n n ⌝ }
 {
     let mut i: usize = 0;
@@ -53,7 +54,7 @@ fn keys_outside(directory: &[u8], n: usize) -> bool
 
 // Whether the state behind `known` bytes can't match.
 fn is_dead(reach: u64, states: &[u8; 1025], known: usize) -> bool
-    requires { ⌜ (known ≤ 1024) × (getD (now states) known 0 < 64) ⌝ }
+    requires { ⌜ (known ≤ maxKeyLen) × (getD (now states) known 0 < 64) ⌝ }
     ensures { λ r. ⌜ Exactly r (bit reach (getD (now (states .entry)) known 0) ≡ 0) ⌝ }
 {
     !can_match(reach, states[known] as usize)
@@ -70,7 +71,7 @@ fn shares_dead(
 ) -> bool
     requires { ⌜ WellFormed (now table) × Reach (now table) reach
         × Followed (now table) (now «start_key») (now states) known
-        × ((known ≤ 1024) × (known ≤ length (now «start_key»))) ⌝ }
+        × ((known ≤ maxKeyLen) × (known ≤ length (now «start_key»))) ⌝ }
     ensures { λ r. ⌜ (r ≡ true → (known ≤ commonPrefixLen (now («start_key» .entry)) (now («end_key» .entry)))
         × (MatchBetween (now (table .entry)) 0 (now («start_key» .entry)) (now («end_key» .entry)) → ⊥)) ⌝ }
 {
@@ -107,7 +108,7 @@ fn match_block(
 ) -> Turn
     requires { ⌜ Prepared (now table) reach (now firsts) (now ends)
         × Followed (now table) (now «start_key») (now states) known
-        × (known ≤ 1024) × (known ≤ length (now «start_key»)) ⌝ }
+        × (known ≤ maxKeyLen) × (known ≤ length (now «start_key»)) ⌝ }
     ensures { λ r. ⌜ Turned (now (table .entry)) (now («start_key» .entry)) (now («end_key» .entry))
         (now (states .exit)) (r .matches) (r .known) ⌝ }
     ensures { λ _. ⌜ Prepared (now (table .entry)) reach (now (firsts .exit)) (now (ends .exit)) ⌝ }
@@ -135,7 +136,7 @@ fn match_block(
 
 // Marks the n blocks of a directory, 0 or 1 each. Returns how many are 1.
 fn mark_blocks(directory: &[u8], n: usize, table: &[u8], marks: &mut [u8]) -> usize
-    requires { ⌜ ((1 ≤ n) × (n ≤ 65536)) × (keysOutside (now directory) n n ≡ false) × WellFormed (now table) × (n ≤ length (now marks)) ⌝ }
+    requires { ⌜ ((1 ≤ n) × (n ≤ maxBlocks)) × (keysOutside (now directory) n n ≡ false) × WellFormed (now table) × (n ≤ length (now marks)) ⌝ }
     ensures { λ r. ⌜ Listing (now (table .entry)) (keyOf (now (directory .entry)) n) n (now (marks .entry)) (now (marks .exit)) r ⌝ }
 {
     let reach = automaton_reach::reach(table);

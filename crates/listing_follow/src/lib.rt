@@ -4,12 +4,14 @@ ghost use mathlib.Core.Bool.{true};
 ghost use Prim.Native.Nat.{ℕ, _+_, _≤_, _<_};
 ghost use lib.ListN.{length, take, getD, replicate};
 ghost use lib.Seq.{sets};
+ghost use Rattle.layout.specs.Layout.{maxKeyLen};
 ghost use Rattle.automaton.specs.Bits.{Exactly};
 ghost use Rattle.automaton.specs.Table.{WellFormed, states as stateCount, next};
 ghost use Rattle.automaton.specs.Words.{run};
 ghost use Rattle.listing_follow.specs.Followed.{Followed};
 use automaton::table::accept;
 use automaton_reach::can_match;
+use layout::MAX_KEY_LEN;
 use pruning::block_match_automaton::accept_prefix;
 
 // Whether each of the eight bytes from `at` on leads from the state to itself. It looks at all of them, so that no look
@@ -30,7 +32,7 @@ fn stays(table: &[u8], key: &[u8], at: usize, state: usize) -> bool
 
 // Writes the state behind each of the eight bytes from `at` on.
 fn fill_eight(states: &mut [u8; 1025], at: usize, state: u8)
-    requires { ⌜ at + 8 ≤ 1024 ⌝ }
+    requires { ⌜ at + 8 ≤ maxKeyLen ⌝ }
     ensures { λ _. ⌜ now (states .exit) ≡ sets (now (states .entry)) (at + 1) (replicate 8 state) ⌝ }
 {
     let mut i: usize = 0;
@@ -52,7 +54,7 @@ fn follow_loops(
 ) -> usize
     requires { ⌜ WellFormed (now table) × Followed (now table) (now key) (now states) from
         × ((state ≡ run (now table) 0 (take from (now key))) × (state < stateCount (now table)))
-        × (from ≤ end) × ((end ≤ 1024) × (end ≤ length (now key))) ⌝ }
+        × (from ≤ end) × ((end ≤ maxKeyLen) × (end ≤ length (now key))) ⌝ }
     ensures { λ r. ⌜ ((from ≤ r) × (r ≤ end))
         × Followed (now (table .entry)) (now (key .entry)) (now (states .exit)) r
         × (state ≡ run (now (table .entry)) 0 (take r (now (key .entry)))) ⌝ }
@@ -81,10 +83,10 @@ pub fn follow(
     known: usize,
     n: usize,
 ) -> usize
-    requires { ⌜ WellFormed (now table) × Followed (now table) (now key) (now states) known × (known ≤ 1024) × (n ≤ length (now key)) ⌝ }
-    ensures { λ r. ⌜ (r ≤ n) × (r ≤ 1024) × Followed (now (table .entry)) (now (key .entry)) (now (states .exit)) r ⌝ }
+    requires { ⌜ WellFormed (now table) × Followed (now table) (now key) (now states) known × (known ≤ maxKeyLen) × (n ≤ length (now key)) ⌝ }
+    ensures { λ r. ⌜ (r ≤ n) × (r ≤ maxKeyLen) × Followed (now (table .entry)) (now (key .entry)) (now (states .exit)) r ⌝ }
 {
-    let end = if n < 1024 { n } else { 1024 };
+    let end = if n < MAX_KEY_LEN { n } else { MAX_KEY_LEN };
     let mut i = if known < end { known } else { end };
     let mut state = states[i] as usize;
     while i < end {
@@ -104,7 +106,7 @@ pub fn follow(
 
 // The state behind the first n bytes of a key, where `known` are followed: all of them, but in a key that no file has.
 pub fn state_behind(table: &[u8], key: &[u8], states: &[u8; 1025], known: usize, n: usize) -> usize
-    requires { ⌜ WellFormed (now table) × Followed (now table) (now key) (now states) known × (known ≤ 1024) × (n ≤ length (now key)) ⌝ }
+    requires { ⌜ WellFormed (now table) × Followed (now table) (now key) (now states) known × (known ≤ maxKeyLen) × (n ≤ length (now key)) ⌝ }
     ensures { λ r. ⌜ (r ≡ run (now (table .entry)) 0 (take n (now (key .entry)))) × (r < stateCount (now (table .entry))) ⌝ }
 {
     if n == known {

@@ -4,6 +4,7 @@ ghost use mathlib.Core.Bool.{false};
 ghost use mathlib.Core.List.{List};
 ghost use Prim.Native.Nat.{ℕ, _+_, _*_, _≤_, _<_};
 ghost use lib.ListN.{length, getD};
+ghost use Rattle.layout.specs.Layout.{maxBlocks};
 ghost use Rattle.builder.specs.Index.{Settings};
 ghost use Rattle.machine.specs.Plain.{Entry};
 ghost use Rattle.index.specs.Answers.{loadNo, locatedNo, locatedId, locatedAddr};
@@ -136,7 +137,7 @@ fn listed(answer: Listed) -> Cells
 
 // Lists the table's blocks in marks that are all 0: how many, and mark i.
 fn mark_in(opened: SSTableIndexV3, data: &[u8], i: u64, table: &[u8], marks: &mut [u8]) -> Cells
-    requires { ⌜ (65536 ≤ length (now marks)) × ((j : ℕ) → getD (now marks) j 0 ≡ 0) ⌝ }
+    requires { ⌜ (maxBlocks ≤ length (now marks)) × ((j : ℕ) → getD (now marks) j 0 ≡ 0) ⌝ }
     ensures { λ r. ⌜ ((S : Settings) (es : List Entry) → Indexed S es (now («data» .entry)) opened
         → MarkAnswer es i (now (table .entry)) (cellsOf r)) ⌝ }
 {

@@ -4,6 +4,7 @@ ghost use mathlib.Core.Bool.{_||_};
 ghost use Prim.Native.Nat.{_+_, _*_, _≤_, _<_};
 ghost use lib.Dec.{leb};
 ghost use lib.ListN.{length};
+ghost use Rattle.layout.specs.Layout.{maxBlocks, metaLen};
 ghost use Rattle.group.specs.Legal.{limit};
 ghost use Rattle.group.specs.Read.{groupBad};
 ghost use Rattle.store.specs.Read.{groupMeta, blockOr, storeGet, storeBlock, StoreOk, OrdFoundIn, OrdFoundAs};
@@ -65,7 +66,7 @@ pub fn get(metas: &[u8], addrs: &[u8], n: usize, group_len: usize, block_id: usi
 
 // The last group whose first ordinal is at or below `ord`, if ordinals rise and the first group's is.
 fn bisect_groups(metas: &[u8], groups: usize, ord: u64) -> usize
-    requires { ⌜ (1 ≤ groups) × (groups ≤ 65536) × (36 * groups ≤ length (now metas)) ⌝ }
+    requires { ⌜ (1 ≤ groups) × (groups ≤ maxBlocks) × (metaLen * groups ≤ length (now metas)) ⌝ }
     ensures { λ r. ⌜ (r < groups) × (0 < r → groupMeta (now (metas .entry)) r .«first_ordinal» ≤ ord)
         × (r + 1 < groups → ord < groupMeta (now (metas .entry)) (r + 1) .«first_ordinal») ⌝ }
 {
