@@ -1,9 +1,5 @@
-// A block's record in the area: start, end, first ordinal, key offset, key length.
+// A block's record in the area: start, end and first ordinal as group::area has them, then the key's offset and length.
 pub const STRIDE: usize = 5;
-
-pub const END: usize = 1;
-
-pub const FIRST_ORDINAL: usize = 2;
 
 pub const KEY_OFFSET: usize = 3;
 

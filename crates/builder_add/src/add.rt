@@ -7,13 +7,13 @@ ghost use Rattle.builder.specs.View.{stride};
 ghost use Rattle.builder.specs.Rows.{AreaOk};
 ghost use Rattle.builder.specs.Area.{recordNumbers, viewOf};
 use builder::SSTableIndexBuilder;
-use builder::record::END;
-use builder::record::FIRST_ORDINAL;
 use builder::record::KEY_LEN;
 use builder::record::KEY_OFFSET;
 use builder::record::STRIDE;
 use builder_rows::next_key;
 use group::BlockAddr;
+use group::area::END;
+use group::area::FIRST_ORDINAL;
 
 // Writes a block's record and its key after those that are there.
 pub fn append(

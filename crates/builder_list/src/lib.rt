@@ -6,12 +6,12 @@ ghost use Rattle.builder.specs.Rows.{AreaOk};
 ghost use Rattle.builder.specs.Area.{areaView, viewOf};
 ghost use Rattle.builder.specs.Finish.{ruleBad, placesBad, rulesBad, listNo};
 use builder::SSTableIndexBuilder;
-use builder::record::END;
-use builder::record::FIRST_ORDINAL;
 use builder::record::KEY_LEN;
 use builder::record::KEY_OFFSET;
 use builder::record::STRIDE;
 use group::BlockAddr;
+use group::area::END;
+use group::area::FIRST_ORDINAL;
 use layout::refusals::AREA_BAD;
 use layout::refusals::LIST_BAD;
 

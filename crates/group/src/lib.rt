@@ -1,4 +1,5 @@
 // One group of block addresses: `BlockAddrBlockMetadata` and `flush_block` of src/index/v3.rs.
+pub mod area;
 pub mod bits;
 pub mod meta;
 pub mod rows;

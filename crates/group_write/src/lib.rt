@@ -11,11 +11,8 @@ ghost use Rattle.group.specs.Write.{metaOf, planOf, addrBytes};
 ghost use Rattle.group.specs.Facts.{GroupArea, Fitting};
 use bitpacker::BitPacker;
 use group::BlockAddrBlockMetadata;
-
-// The places of a block's numbers in its part of the area.
-const END: usize = 1;
-
-const FIRST_ORDINAL: usize = 2;
+use group::area::END;
+use group::area::FIRST_ORDINAL;
 
 // The record of the group of `count` blocks from block `first` on; its bits are to stand at `offset`.
 pub fn plan_block(
