@@ -1,6 +1,6 @@
 // Bits of one word.
 ghost use mathlib.Core.Path.{_≡_};
-ghost use Prim.Native.Nat.{ℕ, _+_, _-_, _^_, _<_};
+ghost use Prim.Native.Nat.{ℕ, _-_, _^_, _<_};
 ghost use lib.Count.{trailingZeros};
 ghost use Rattle.automaton.specs.Bits.{bit, Exactly};
 

@@ -1,6 +1,6 @@
 // The table: its check, the start state, one step, acceptance.
 ghost use mathlib.Core.Path.{_≡_};
-ghost use Prim.Native.Nat.{_+_, _*_, _≤_, _<_};
+ghost use Prim.Native.Nat.{_+_, _*_, _<_};
 ghost use Rattle.automaton.specs.Bits.{Exactly};
 ghost use Rattle.automaton.specs.Table.{tableNo, WellFormed, states, flag, next, anyFrom};
 use layout::refusals::FLAG_BAD;

@@ -14,8 +14,8 @@ use Rattle.index.specs.Answers.{partAt}
 use Rattle.index.specs.Lookups.{placeDef}
 use Rattle.index.proofs.OpenFacts.{OpenFacts, opens-facts}
 use Rattle.index.proofs.LookupLaws.{opened-legal, place-separator}
-use Rattle.block_lines.specs.Lines.{lineOf}
-use Rattle.block_lines.proofs.Written.{line-short}
+use Rattle.line_text.specs.Lines.{lineOf}
+use Rattle.line_text.proofs.Written.{line-short}
 
 module _ (f : List ℕ) (opened : SSTableIndexV3) (o : Opens f opened) (id : ℕ) (h : id < opened .n) where
   facts : OpenFacts storeBlockLen f opened

@@ -9,9 +9,10 @@ use borrow.Author.Tests.{lt-ltb, le-ltb}
 use Rattle.index.specs.declared.SSTableIndexV3.{SSTableIndexV3}
 use Rattle.index.specs.declared.Loaded.{Loaded}
 use Rattle.index.specs.Opening.{loadDef}
-use Rattle.block_lines.specs.Lines.{decimal}
-use Rattle.block_lines.specs.Text.{maxLen, tooLongLine, refusedText, refusedLine, lineAt, linesFrom, loadedPieces, blocksPieces}
-use Rattle.block_lines.proofs.Digits.{length-fuel}
+use Rattle.line_text.specs.Lines.{decimal}
+use Rattle.line_text.specs.Lines.{tooLongLine, refusedText, refusedLine}
+use Rattle.block_lines.specs.Text.{maxLen, lineAt, linesFrom, loadedPieces, blocksPieces}
+use Rattle.line_text.proofs.Decimal.{length-fuel}
 
 module _ (f : List ℕ) where
   pub long-pieces : maxLen < length f → blocksPieces f ≡ tooLongLine ∷ []

@@ -1,3 +1,2 @@
 pub mod Opened
-pub mod Lines
 pub mod Text

@@ -12,23 +12,11 @@ use Rattle.index.specs.declared.Loaded.the-variants.{Opened, Refused}
 use Rattle.index.specs.Parts.{separatorIn}
 use Rattle.index.specs.Opening.{loadDef}
 use Rattle.block_lines.specs.Opened.{openedBlock}
-use Rattle.block_lines.specs.Lines.{decimal, lineOf}
+use Rattle.line_text.specs.Lines.{lineOf, tooLongLine, refusedLine, lineLen}
 
 -- the longest input that is taken
 abbrev pub maxLen : ℕ
 maxLen = 65536
-
--- `too long`, and a line's end
-abbrev pub tooLongLine : List ℕ
-tooLongLine = 116 ∷ 111 ∷ 111 ∷ 32 ∷ 108 ∷ 111 ∷ 110 ∷ 103 ∷ 10 ∷ []
-
--- `refused` and a space
-abbrev pub refusedText : List ℕ
-refusedText = 114 ∷ 101 ∷ 102 ∷ 117 ∷ 115 ∷ 101 ∷ 100 ∷ 32 ∷ []
-
--- `refused k`, and a line's end
-unfoldable pub refusedLine : ℕ → List ℕ
-refusedLine k = refusedText ++ (decimal k ++ (10 ∷ []))
 
 -- the line of block id of an opened index
 abbrev pub lineAt : SSTableIndexV3 → List ℕ → ℕ → List ℕ
@@ -59,4 +47,4 @@ pieceAt f i = getD (blocksPieces f) i []
 pub record WritesPiece (f : List ℕ) (i : ℕ) (out written : List ℕ) (r : ℕ) : Type 0 where
   pub whole : r ≡ length (pieceAt f i)
   pub front : written ≡ sets out 0 (pieceAt f i)
-  pub short : r ≤ 2103
+  pub short : r ≤ lineLen

@@ -1,13 +1,12 @@
 // What the program `blocks` does: it reads an index and prints a line for each block.
 use block_lines::LINE_LEN;
 use block_lines::MAX_LEN;
-use index::SSTableIndexV3;
 use libc::STDIN_FILENO;
 use libc::STDOUT_FILENO;
 
 // Prints the text for these bytes, piece by piece.
 fn print(data: &[u8]) {
-    let loaded = SSTableIndexV3::load(data);
+    let loaded = index_load::load(data);
     let mut text = [0u8; LINE_LEN];
     for i in 0..block_lines::pieces(loaded, data) {
         let len = block_lines::piece(loaded, data, i, &mut text);

@@ -1,7 +1,5 @@
 // One function for each kind of line: what it leaves of the builder, and whether the answers are those of the list.
 // The areas that these functions get are the lent ones, no longer than LONGEST and LONGEST_KEYS.
-ghost use Prim.Native.Nat.{_≤_};
-ghost use lib.ListN.{length};
 use crate::areas;
 use builder::Answer;
 use builder::FinishLen;
@@ -272,7 +270,7 @@ fn add(
     let n = state.n;
     let block = block_of(given);
     let builder = SSTableIndexBuilder::new(n);
-    let got = read_answer(builder.add_block(blocks, keys, key, block));
+    let got = read_answer(builder_add::add_block(builder, blocks, keys, key, block));
     let same = is_answered(n, block, key, got, old_blocks, blocks, old_keys, keys);
     state.counting(got.n, is_both(got.no == vectors::number(given, 3), same))
 }
@@ -315,7 +313,12 @@ fn shorten(
 ) -> State {
     let n = state.n;
     let builder = SSTableIndexBuilder::new(n);
-    let answer = builder.shorten_last_block_key_given_next_key(blocks, keys, next_key);
+    let answer = builder_add::shorten_last_block_key_given_next_key(
+        builder,
+        blocks,
+        keys,
+        next_key,
+    );
     let got = read_answer(answer);
     let same = is_cut(n, got, old_blocks, blocks, old_keys, keys);
     state.counting(got.n, is_both(got.no == vectors::number(given, 0), same))
@@ -456,11 +459,11 @@ pub fn finishes(n: usize, given: &[u64], blocks: &[u64], keys: &[u8], out: &mut 
     }
     let room = given[0] as usize;
     let builder = SSTableIndexBuilder::new(n);
-    if !is_length(builder.finish_len(blocks, keys), given) {
+    if !is_length(builder_finish::finish_len(builder, blocks, keys), given) {
         return false;
     }
     is_ended(
-        read_finished(builder.finish(blocks, keys, &mut out[0..room])),
+        read_finished(builder_finish::finish(builder, blocks, keys, &mut out[0..room])),
         n,
         given,
     )

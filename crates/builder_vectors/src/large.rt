@@ -4,7 +4,6 @@ use crate::areas;
 use crate::cases;
 use builder::SSTableIndexBuilder;
 use group::BlockAddr;
-use vectors::driver;
 
 // Areas with room for one block more than there may be.
 const ROOM: usize = 327685;
@@ -40,7 +39,7 @@ fn add_one(i: u64, blocks: &mut [u64; ROOM], keys: &mut [u8; KEY_ROOM]) -> bool
         first_ordinal: ordinal_of(i),
     };
     let builder = SSTableIndexBuilder::new(i as usize);
-    let got = cases::read_answer(builder.add_block(blocks, keys, &key, block));
+    let got = cases::read_answer(builder_add::add_block(builder, blocks, keys, &key, block));
     if got.no != 0 {
         return false;
     }
@@ -69,7 +68,7 @@ fn is_last(given: &[u64], key: &[u8], blocks: &mut [u64; ROOM], keys: &mut [u8; 
     }
     let builder = SSTableIndexBuilder::new(given[0] as usize);
     let block = cases::block_of(&given[1..]);
-    let got = cases::read_answer(builder.add_block(blocks, keys, key, block));
+    let got = cases::read_answer(builder_add::add_block(builder, blocks, keys, key, block));
     got.no == given[4]
 }
 

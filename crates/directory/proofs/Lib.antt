@@ -4,4 +4,4 @@ pub mod Opened
 pub mod ReadBack
 pub mod Reader
 pub mod Rules
-mod Written
+pub mod Written

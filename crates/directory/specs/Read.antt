@@ -8,8 +8,8 @@ use lib.ListN.{length, take, drop}
 use Rattle.layout.specs.Layout.{maxBlocks, maxKeyLen}
 use Rattle.serialize.specs.Digits.{numberAt}
 use Rattle.keys.specs.Order.{less, _≺_, _≼_}
-use Rattle.directory.specs.declared.read.Found.{Found}
-use Rattle.directory.specs.declared.read.Found.the-variants.{At, Above, Outside}
+use Rattle.directory.specs.declared.Found.{Found}
+use Rattle.directory.specs.declared.Found.the-variants.{At, Above, Outside}
 
 -- n, and the pair of key i
 abbrev pub countOf : List ℕ → ℕ

@@ -1,3 +1,7 @@
 // The key directory, which stands for the FST.
-pub mod read;
-pub mod write;
+// The first key that isn't below the one looked for, that all are below it, or that a key lies outside the bytes.
+pub enum Found {
+    At(usize),
+    Above,
+    Outside,
+}

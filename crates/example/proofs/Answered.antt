@@ -18,10 +18,10 @@ use Rattle.automaton.specs.Words.{Accepts}
 use Rattle.automaton.proofs.Strings.{hits-nil, word-cases, hits-cons}
 use Rattle.pruning.specs.Interval.{startOf, Marked}
 use Rattle.example.specs.Example.{longer, ExampleNo, Shown, exampleAnswerNo, exampleAnswerLen, ExampleAnswerCased, ExampleLeaves, ExampleFor}
-use Rattle.example.specs.Walk.{FromByte, InFront}
+use Rattle.example_walk.specs.Walk.{FromByte, InFront}
 use Rattle.example.specs.declared.ExampleAnswer.{ExampleAnswer}
 use Rattle.example.specs.declared.ExampleAnswer.the-variants.{Written, Refused}
-use Rattle.example.proofs.Bounds.{next-string}
+use Rattle.example_walk.proofs.Bounds.{next-string}
 
 -- ---- room
 pub longer-end : (h : Bool) (start end : List ℕ) → length end ≤ longer (startOf h start) end

@@ -1,10 +1,6 @@
 // A string that a block's pattern finds: some accepted string of an interval of keys.
-pub mod distance;
-mod tail;
-mod walk;
-
-use crate::walk::write_between;
-use crate::walk::write_range_end;
+use example_walk::write_between;
+use example_walk::write_range_end;
 use layout::refusals::NO_EXAMPLE;
 use layout::refusals::ROOM_SHORT;
 ghost use mathlib.Core.Path.{_≡_};
@@ -68,7 +64,7 @@ pub fn example(
     if !has_room(has_start, start_key, end_key, out.len()) {
         return ExampleAnswer::Refused(ROOM_SHORT);
     }
-    let distances = distance::distances(table);
+    let distances = example_distance::distances(table);
     if has_start {
         return answer(write_between(table, &distances, start_key, end_key, out));
     }

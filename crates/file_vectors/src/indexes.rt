@@ -23,7 +23,7 @@ fn same_blocks(opened: SSTableIndexV3, data: &[u8], expected: &[u8]) -> bool
 }
 
 fn same_answer(data: &[u8], expected: &[u8]) -> bool {
-    match SSTableIndexV3::load(data) {
+    match index_load::load(data) {
         Loaded::Opened(opened) => same_blocks(opened, data, expected),
         Loaded::Refused(no) => is_refusal(expected, no),
     }

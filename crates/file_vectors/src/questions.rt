@@ -31,7 +31,7 @@ fn by_id(opened: SSTableIndexV3, data: &[u8], given: &[u64]) -> bool {
     if given.len() != 5 {
         return false;
     }
-    match opened.get_block(data, given[0]) {
+    match index_lookup::get_block(opened, data, given[0]) {
         BlockById::Block(block) => are(
             &given[1..],
             [0, block.start, block.end, block.first_ordinal],
@@ -45,7 +45,7 @@ fn by_ordinal(opened: SSTableIndexV3, data: &[u8], given: &[u64]) -> bool {
     if given.len() != 3 {
         return false;
     }
-    match opened.locate_with_ord(data, given[0]) {
+    match index_lookup::locate_with_ord(opened, data, given[0]) {
         Located::At(id, _) => are(&given[1..], [0, id as u64, 0, 0]),
         Located::Refused(no) => are(&given[1..], [no as u64, 0, 0, 0]),
     }
@@ -56,7 +56,7 @@ fn by_key(opened: SSTableIndexV3, data: &[u8], key: &[u8], given: &[u64]) -> boo
     if given.len() != 2 {
         return false;
     }
-    match opened.locate_with_key(data, key) {
+    match index_lookup::locate_with_key(opened, data, key) {
         LocatedId::Id(id) => are(given, [0, id as u64, 0, 0]),
         LocatedId::Refused(no) => are(given, [no as u64, 0, 0, 0]),
     }
@@ -126,7 +126,7 @@ fn counted_lines(
 }
 
 fn counted_answers(data: &[u8], text: &[u8], tallies: [Tally; ROWS], row: usize) -> [Tally; ROWS] {
-    match SSTableIndexV3::load(data) {
+    match index_load::load(data) {
         Loaded::Opened(opened) => counted_lines(text, opened, data, tallies, row),
         Loaded::Refused(_) => tally::counted(tallies, row, false),
     }

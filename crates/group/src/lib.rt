@@ -1,8 +1,8 @@
 // One group of block addresses: `BlockAddrBlockMetadata` and `flush_block` of src/index/v3.rs.
+pub mod area;
+pub mod bits;
 pub mod meta;
-pub mod read;
 pub mod rows;
-pub mod write;
 
 // A block: where it starts and ends in the file, and its first term's ordinal.
 #[repr(C)]

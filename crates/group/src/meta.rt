@@ -3,12 +3,13 @@ ghost use mathlib.Core.Path.{_≡_};
 ghost use Prim.Native.Nat.{_+_, _≤_};
 ghost use lib.ListN.{length};
 ghost use lib.Seq.{sets};
+ghost use Rattle.layout.specs.Layout.{metaLen};
 ghost use Rattle.group.specs.Meta.{metaBytes, metaAt};
 use crate::BlockAddrBlockMetadata;
 
 // Writes the record's 36 bytes from `at` on.
 pub fn serialize(meta: BlockAddrBlockMetadata, out: &mut [u8], at: usize)
-    requires { ⌜ at + 36 ≤ length (now out) ⌝ }
+    requires { ⌜ at + metaLen ≤ length (now out) ⌝ }
     ensures { λ _. ⌜ now (out .exit) ≡ sets (now (out .entry)) at (metaBytes meta) ⌝ }
 {
     serialize::serialize_u64(out, at, meta.offset);
@@ -23,7 +24,7 @@ pub fn serialize(meta: BlockAddrBlockMetadata, out: &mut [u8], at: usize)
 
 // The record whose 36 bytes stand at `at`.
 pub fn deserialize(bytes: &[u8], at: usize) -> BlockAddrBlockMetadata
-    requires { ⌜ at + 36 ≤ length (now bytes) ⌝ }
+    requires { ⌜ at + metaLen ≤ length (now bytes) ⌝ }
     ensures { λ r. ⌜ r ≡ metaAt (now (bytes .entry)) at ⌝ }
 {
     BlockAddrBlockMetadata {

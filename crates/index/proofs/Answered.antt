@@ -19,9 +19,9 @@ use Rattle.store.specs.declared.OrdFound.the-variants.{At as OrdAt, Below, Brok
 use Rattle.store.proofs.OrdFound as ord-found
 use Rattle.store.proofs.Lookup.{read-block}
 use Rattle.directory.specs.Read.{keyOf, Sorted, foundNo, FoundAs}
-use Rattle.directory.specs.declared.read.Found.{Found}
-use Rattle.directory.specs.declared.read.Found.the-variants.{At, Above, Outside}
-use Rattle.directory.proofs.read.Found as found
+use Rattle.directory.specs.declared.Found.{Found}
+use Rattle.directory.specs.declared.Found.the-variants.{At, Above, Outside}
+use Rattle.directory.proofs.Found as found
 use Rattle.index.specs.declared.SSTableIndexV3.{SSTableIndexV3}
 use Rattle.index.specs.Parts.{groupRecordsPart, addrsPart, directoryPart, countIn, blockIn, separatorIn}
 use Rattle.index.specs.Opening.{OpensBy}

@@ -1,4 +1,4 @@
--- Each lookup has one answer: two that are exact for the same bytes are equal.
+-- Each lookup has one answer: two that are exact for the same bytes are equal. An id below n has its block.
 use mathlib.Core.Path.{_≡_, sym, ap, _∙_}
 use mathlib.Core.Bool.{true≢false}
 use mathlib.Core.List.{List}
@@ -15,6 +15,11 @@ use Rattle.directory.proofs.Reader.{first-unique}
 use Rattle.index.specs.Lookups.{ByIdExact, ByOrdExact, ByKeyExact, AddrByKeyExact}
 
 module _ (block : ℕ → BlockAddr) (n : ℕ) where
+  -- each id below n has its block
+  pub by-id-some : (id k : ℕ) (a : BlockAddr) → ByIdExact block n id k a → id < n → (k ≡ 0) × (a ≡ block id)
+  by-id-some id k a (inl p) below = (p .0, p .2)
+  by-id-some id k a (inr p) below = absurd (let z : ⊥ = omega arith in z)
+
   pub by-id-unique : (id k l : ℕ) (a b : BlockAddr) → ByIdExact block n id k a → ByIdExact block n id l b → (k ≡ l) × (a ≡ b)
   by-id-unique id k l a b (inl p) (inl q) = (p .0 ∙ sym (q .0), p .2 ∙ sym (q .2))
   by-id-unique id k l a b (inl p) (inr q) = absurd (let z : ⊥ = omega arith in z)

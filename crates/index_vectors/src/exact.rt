@@ -19,7 +19,7 @@ pub fn by_id(opened: SSTableIndexV3, data: &[u8], given: &[u64]) -> bool {
     if given.len() != 5 {
         return false;
     }
-    let got = answers::of_block(opened.get_block(data, given[0]));
+    let got = answers::of_block(index_lookup::get_block(opened, data, given[0]));
     answers::equal(got, due_of_id(given))
 }
 
@@ -39,7 +39,7 @@ pub fn by_ord(opened: SSTableIndexV3, data: &[u8], given: &[u64]) -> bool {
     if given.len() != 6 {
         return false;
     }
-    let got = answers::of_located(opened.locate_with_ord(data, given[0]));
+    let got = answers::of_located(index_lookup::locate_with_ord(opened, data, given[0]));
     answers::equal(got, due(&given[1..]))
 }
 
@@ -48,7 +48,7 @@ pub fn by_key(opened: SSTableIndexV3, data: &[u8], key: &[u8], given: &[u64]) ->
     if given.len() != 2 {
         return false;
     }
-    let got = answers::of_id(opened.locate_with_key(data, key));
+    let got = answers::of_id(index_lookup::locate_with_key(opened, data, key));
     answers::equal(got, due(given))
 }
 
@@ -57,7 +57,7 @@ pub fn block_by_key(opened: SSTableIndexV3, data: &[u8], key: &[u8], given: &[u6
     if given.len() != 5 {
         return false;
     }
-    let got = answers::of_located(opened.get_block_with_key(data, key));
+    let got = answers::of_located(index_lookup::get_block_with_key(opened, data, key));
     answers::equal(got, due(given))
 }
 
@@ -66,9 +66,9 @@ pub fn separator(opened: SSTableIndexV3, data: &[u8], given: &[u64]) -> bool {
     if given.len() != 4 {
         return false;
     }
-    let got = answers::of_place(opened.separator_place(data, given[0]));
+    let got = answers::of_place(index_lookup::separator_place(opened, data, given[0]));
     if !answers::equal(got, due_of_id(given)) {
         return false;
     }
-    answers::is_part(data, got, opened.separator(data, given[0]))
+    answers::is_part(data, got, index_lookup::separator(opened, data, given[0]))
 }

@@ -4,7 +4,6 @@ ghost use lib.ListN.{length};
 use crate::records;
 use crate::records::State;
 use crate::rule;
-use index::SSTableIndexV3;
 
 // The most bytes that a change replaces.
 const LONGEST: usize = 128;
@@ -16,7 +15,7 @@ pub fn open(state: State, given: &[u64], content: &[u8], file: &mut [u8]) -> Sta
         return state.with(false);
     }
     bytes::copy(content, file);
-    records::told(SSTableIndexV3::load(&file[0..len]), len, given)
+    records::told(index_load::load(&file[0..len]), len, given)
 }
 
 // Opens the file by the rule for so many blocks.
@@ -28,7 +27,7 @@ pub fn by_rule(state: State, given: &[u64], file: &mut [u8]) -> State {
     if len > file.len() {
         return state.with(false);
     }
-    records::told(SSTableIndexV3::load(&file[0..len]), len, &given[1..])
+    records::told(index_load::load(&file[0..len]), len, &given[1..])
 }
 
 // Whether the bytes with `part` in place of their own from `at` on open as given. They are put back.
@@ -43,7 +42,7 @@ fn opens_with(part: &[u8], at: usize, given: &[u64], data: &mut [u8]) -> bool
     let mut old = [0u8; LONGEST];
     bytes::copy(&data[at..end], &mut old);
     bytes::copy(part, &mut data[at..end]);
-    let same = records::is_told(SSTableIndexV3::load(data), given);
+    let same = records::is_told(index_load::load(data), given);
     bytes::copy(&old[0..count], &mut data[at..end]);
     same
 }

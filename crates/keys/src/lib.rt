@@ -142,10 +142,10 @@ pub fn common_prefix<'a>(left: &'a [u8], right: &[u8]) -> &'a [u8]
     &left[..len]
 }
 
-// Whether left is below right; `len` is their common prefix's length.
+// Whether left is below right, if `len` is their common prefix's length.
 pub fn lt_behind(left: &[u8], right: &[u8], len: usize) -> bool
-    requires { ⌜ len ≡ commonPrefixLen (now left) (now right) ⌝ }
-    ensures { λ r. ⌜ r ≡ less (now (left .entry)) (now (right .entry)) ⌝ }
+    ensures { λ r. ⌜ (len ≡ commonPrefixLen (now (left .entry)) (now (right .entry))
+        → r ≡ less (now (left .entry)) (now (right .entry))) ⌝ }
 {
     if len >= right.len() {
         return false;

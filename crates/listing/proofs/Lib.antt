@@ -1,5 +1,3 @@
-pub mod Eights
-pub mod Following
 pub mod ListedOpened
 pub mod ListedOnce
 pub mod Outside

@@ -1,29 +1,29 @@
 // The blocks that can hold a key of a pattern: `get_block_for_automaton` of src/index/v3.rs.
 ghost use mathlib.Core.Path.{_≡_};
 ghost use mathlib.Core.Bool.{true, false, cond};
-ghost use Prim.Native.Nat.{ℕ, _+_, _≤_, _<_};
-ghost use lib.ListN.{length, take, set, getD, replicate};
-ghost use lib.Seq.{sets};
+ghost use Prim.Native.Nat.{_+_, _≤_, _<_};
+ghost use lib.ListN.{length, set, getD};
+ghost use Rattle.layout.specs.Layout.{maxBlocks, maxKeyLen};
 ghost use Rattle.keys.specs.Order.{commonPrefixLen};
 ghost use Rattle.automaton.specs.Bits.{bit, Exactly};
-ghost use Rattle.automaton.specs.Table.{WellFormed, states as stateCount, next};
-ghost use Rattle.automaton.specs.Words.{run, Reach};
+ghost use Rattle.automaton.specs.Table.{WellFormed, next};
+ghost use Rattle.automaton.specs.Words.{Reach};
 ghost use Rattle.pruning.specs.Interval.{MatchBetween};
 ghost use Rattle.pruning.specs.Prepared.{Prepared};
 ghost use Rattle.directory.specs.Read.{keyOf};
 ghost use Rattle.listing.specs.Listing.{keysOutside, Listing, GetBlockForAutomaton, listedNo, listedCount, ListedCased};
-ghost use Rattle.listing.specs.Followed.{Followed, Turned};
-use automaton::live::UNKNOWN;
-use automaton::reach::can_match;
-use automaton::table::accept;
-use directory::read::key;
+ghost use Rattle.listing_follow.specs.Followed.{Followed, Turned};
+use automaton_live::UNKNOWN;
+use automaton_reach::can_match;
+use directory_read::key;
 use index::SSTableIndexV3;
-use index::opened_bad;
+use index_lookup::opened_bad;
 use layout::refusals::ROOM_SHORT;
 use layout::refusals::UNFIT;
-use pruning::block_match_automaton::accept_prefix;
-use pruning::block_match_automaton::can_block_match;
-use pruning::block_match_automaton::can_block_match_from;
+use listing_follow::follow;
+use listing_follow::state_behind;
+use pruning_match::can_block_match;
+use pruning_match::can_block_match_from;
 
 // How many blocks are marked, or a row's number.
 pub enum Listed {
@@ -39,12 +39,12 @@ struct Turn {
 
 // Whether one of n keys or its pair lies outside the directory.
 fn keys_outside(directory: &[u8], n: usize) -> bool
-    requires { ⌜ n ≤ 65536 ⌝ }
+    requires { ⌜ n ≤ maxBlocks ⌝ }
     ensures { λ r. ⌜ r ≡ keysOutside (now (directory .entry)) n n ⌝ }
 {
     let mut i: usize = 0;
     while i < n {
-        if directory::read::key_outside(directory, n, i) {
+        if directory_read::key_outside(directory, n, i) {
             return true;
         }
         i += 1;
@@ -54,7 +54,7 @@ fn keys_outside(directory: &[u8], n: usize) -> bool
 
 // Whether the state behind `known` bytes can't match.
 fn is_dead(reach: u64, states: &[u8; 1025], known: usize) -> bool
-    requires { ⌜ (known ≤ 1024) × (getD (now states) known 0 < 64) ⌝ }
+    requires { ⌜ (known ≤ maxKeyLen) × (getD (now states) known 0 < 64) ⌝ }
     ensures { λ r. ⌜ Exactly r (bit reach (getD (now (states .entry)) known 0) ≡ 0) ⌝ }
 {
     !can_match(reach, states[known] as usize)
@@ -71,7 +71,7 @@ fn shares_dead(
 ) -> bool
     requires { ⌜ WellFormed (now table) × Reach (now table) reach
         × Followed (now table) (now «start_key») (now states) known
-        × ((known ≤ 1024) × (known ≤ length (now «start_key»))) ⌝ }
+        × ((known ≤ maxKeyLen) × (known ≤ length (now «start_key»))) ⌝ }
     ensures { λ r. ⌜ (r ≡ true → (known ≤ commonPrefixLen (now («start_key» .entry)) (now («end_key» .entry)))
         × (MatchBetween (now (table .entry)) 0 (now («start_key» .entry)) (now («end_key» .entry)) → ⊥)) ⌝ }
 {
@@ -79,107 +79,6 @@ fn shares_dead(
         return false;
     }
     keys::common_prefix_len(&start_key[..known], end_key) == known
-}
-
-// Whether each of the eight bytes from `at` on leads from the state to itself. It looks at all of them, so that no look
-// waits for another.
-fn stays(table: &[u8], key: &[u8], at: usize, state: usize) -> bool
-    requires { ⌜ WellFormed (now table) × (state < stateCount (now table)) × (at + 8 ≤ length (now key)) ⌝ }
-    ensures { λ r. ⌜ Exactly r ((j : ℕ) → j < 8 → next (now (table .entry)) state (getD (now (key .entry)) (at + j) 0) ≡ state) ⌝ }
-{
-    let row = 1 + table[0] as usize + state * 256;
-    let mut all = true;
-    let mut j: usize = 0;
-    while j < 8 {
-        all = all & (table[row + key[at + j] as usize] as usize == state);
-        j += 1;
-    }
-    all
-}
-
-// Writes the state behind each of the eight bytes from `at` on.
-fn fill_eight(states: &mut [u8; 1025], at: usize, state: u8)
-    requires { ⌜ at + 8 ≤ 1024 ⌝ }
-    ensures { λ _. ⌜ now (states .exit) ≡ sets (now (states .entry)) (at + 1) (replicate 8 state) ⌝ }
-{
-    let mut i: usize = 0;
-    while i < 8 {
-        states[at + 1 + i] = state;
-        i += 1;
-    }
-}
-
-// As long as the next eight bytes lead back to the state, they are followed at once. Returns how many bytes are followed.
-// It is tried behind every eighth byte alone, so that a state that is soon left costs little.
-fn follow_loops(
-    table: &[u8],
-    key: &[u8],
-    states: &mut [u8; 1025],
-    from: usize,
-    end: usize,
-    state: usize,
-) -> usize
-    requires { ⌜ WellFormed (now table) × Followed (now table) (now key) (now states) from
-        × ((state ≡ run (now table) 0 (take from (now key))) × (state < stateCount (now table)))
-        × (from ≤ end) × ((end ≤ 1024) × (end ≤ length (now key))) ⌝ }
-    ensures { λ r. ⌜ ((from ≤ r) × (r ≤ end))
-        × Followed (now (table .entry)) (now (key .entry)) (now (states .exit)) r
-        × (state ≡ run (now (table .entry)) 0 (take r (now (key .entry)))) ⌝ }
-{
-    if from % 8 != 0 {
-        return from;
-    }
-    let mut i = from;
-    while i + 8 <= end {
-        if !stays(table, key, i, state) {
-            return i;
-        }
-        fill_eight(states, i, state as u8);
-        i += 8;
-    }
-    i
-}
-
-// The states behind the first bytes of a key, up to n bytes or 1,024, and no further than to a dead one: those behind at
-// most `known` bytes are there. Returns how many bytes are followed.
-fn follow(
-    table: &[u8],
-    reach: u64,
-    key: &[u8],
-    states: &mut [u8; 1025],
-    known: usize,
-    n: usize,
-) -> usize
-    requires { ⌜ WellFormed (now table) × Followed (now table) (now key) (now states) known × (known ≤ 1024) × (n ≤ length (now key)) ⌝ }
-    ensures { λ r. ⌜ (r ≤ n) × (r ≤ 1024) × Followed (now (table .entry)) (now (key .entry)) (now (states .exit)) r ⌝ }
-{
-    let end = if n < 1024 { n } else { 1024 };
-    let mut i = if known < end { known } else { end };
-    let mut state = states[i] as usize;
-    while i < end {
-        if !can_match(reach, state) {
-            return i;
-        }
-        let behind = accept(table, state, key[i]);
-        i += 1;
-        states[i] = behind as u8;
-        if behind == state {
-            i = follow_loops(table, key, states, i, end, state);
-        }
-        state = behind;
-    }
-    end
-}
-
-// The state behind the first n bytes of a key, where `known` are followed: all of them, but in a key that no file has.
-fn state_behind(table: &[u8], key: &[u8], states: &[u8; 1025], known: usize, n: usize) -> usize
-    requires { ⌜ WellFormed (now table) × Followed (now table) (now key) (now states) known × (known ≤ 1024) × (n ≤ length (now key)) ⌝ }
-    ensures { λ r. ⌜ (r ≡ run (now (table .entry)) 0 (take n (now (key .entry)))) × (r < stateCount (now (table .entry))) ⌝ }
-{
-    if n == known {
-        return states[n] as usize;
-    }
-    accept_prefix(table, key, n)
 }
 
 // Marks block i with 0 or 1, and returns the mark.
@@ -209,7 +108,7 @@ fn match_block(
 ) -> Turn
     requires { ⌜ Prepared (now table) reach (now firsts) (now ends)
         × Followed (now table) (now «start_key») (now states) known
-        × (known ≤ 1024) × (known ≤ length (now «start_key»)) ⌝ }
+        × (known ≤ maxKeyLen) × (known ≤ length (now «start_key»)) ⌝ }
     ensures { λ r. ⌜ Turned (now (table .entry)) (now («start_key» .entry)) (now («end_key» .entry))
         (now (states .exit)) (r .matches) (r .known) ⌝ }
     ensures { λ _. ⌜ Prepared (now (table .entry)) reach (now (firsts .exit)) (now (ends .exit)) ⌝ }
@@ -237,10 +136,10 @@ fn match_block(
 
 // Marks the n blocks of a directory, 0 or 1 each. Returns how many are 1.
 fn mark_blocks(directory: &[u8], n: usize, table: &[u8], marks: &mut [u8]) -> usize
-    requires { ⌜ ((1 ≤ n) × (n ≤ 65536)) × (keysOutside (now directory) n n ≡ false) × WellFormed (now table) × (n ≤ length (now marks)) ⌝ }
+    requires { ⌜ ((1 ≤ n) × (n ≤ maxBlocks)) × (keysOutside (now directory) n n ≡ false) × WellFormed (now table) × (n ≤ length (now marks)) ⌝ }
     ensures { λ r. ⌜ Listing (now (table .entry)) (keyOf (now (directory .entry)) n) n (now (marks .entry)) (now (marks .exit)) r ⌝ }
 {
-    let reach = automaton::reach::reach(table);
+    let reach = automaton_reach::reach(table);
     let mut firsts: [u16; 64] = [UNKNOWN; 64];
     let mut ends: [u16; 64] = [UNKNOWN; 64];
     let first_key = key(directory, n, 0);

@@ -31,7 +31,12 @@ fn is_marked(given: &[u64], start: &[u8], end: &[u8], table: &[u8]) -> bool {
     if given[0] > 1 {
         return false;
     }
-    let got = read_answer(pruning::can_block_match_automaton(given[0] == 1, start, end, table));
+    let got = read_answer(pruning_match::can_block_match_automaton(
+        given[0] == 1,
+        start,
+        end,
+        table,
+    ));
     if given[1] != got.no {
         return false;
     }

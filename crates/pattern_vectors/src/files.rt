@@ -69,7 +69,7 @@ pub fn open(state: State, given: &[u64], content: &[u8], file: &mut [u8]) -> Sta
         return state.with(false);
     }
     bytes::copy(content, file);
-    let opened = match SSTableIndexV3::load(&file[0..len]) {
+    let opened = match index_load::load(&file[0..len]) {
         Loaded::Opened(opened) => opened,
         Loaded::Refused(_) => nothing(),
     };

@@ -19,7 +19,7 @@ use Rattle.automaton.specs.Words.{Bytes, run, Hits, Accepts}
 use Rattle.automaton.specs.Live.{LiveByte}
 use Rattle.automaton.proofs.Refusal.{part-rest}
 use Rattle.automaton.proofs.Strings.{word-nil, word-cons, word-map, word-cases, byte-word, can-match-hits, bytes-take}
-use Rattle.pruning.specs.Interval.{Marked, MatchAbove, MatchBetween}
+use Rattle.pruning.specs.Interval.{startOf, AboveStart, Marked, MatchAbove, MatchBetween}
 
 -- ---- the order, by first bytes
 pub ≺-lower : (x y : ℕ) (a b : List ℕ) → x < y → (x ∷ a) ≺ (y ∷ b)
@@ -168,6 +168,10 @@ unfolding run
 between-prefix t s [] a b h = Iff·rfl
 between-prefix t s (x ∷ p) a b h =
     Iff·trans (between-same t s x (p ++ a) (p ++ b) (h .0)) (between-prefix t (next t s x) p a b (h .1))
+
+-- an absent start lets every string in, the empty one too
+pub absent-start : (key w : List ℕ) → AboveStart (startOf false key) w
+absent-start key w = tt
 
 -- ---- the interval of a block
 pub marked-none : (t end : List ℕ) → Marked t none end ↔ ((flag t 0 ≡ 1) ⊎ MatchBetween t 0 [] end)

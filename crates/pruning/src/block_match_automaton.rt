@@ -1,20 +1,19 @@
 // The walk over a block's two keys, by the bytes that lead to acceptance from each state.
 ghost use mathlib.Core.Path.{_≡_};
 ghost use mathlib.Core.List.{[]};
-ghost use Prim.Native.Nat.{ℕ, _≤_, _<_};
+ghost use Prim.Native.Nat.{_≤_, _<_};
 ghost use lib.ListN.{length, take, getD};
-ghost use Rattle.keys.specs.Order.{commonPrefixLen};
 ghost use Rattle.automaton.specs.Bits.{Exactly};
 ghost use Rattle.automaton.specs.Table.{WellFormed, states};
 ghost use Rattle.automaton.specs.Words.{run, Reach};
 ghost use Rattle.automaton.specs.Live.{Firsts, Ends};
-ghost use Rattle.pruning.specs.Interval.{startOf, Marked, MatchAbove, MatchBetween};
+ghost use Rattle.pruning.specs.Interval.{MatchAbove, MatchBetween};
 ghost use Rattle.pruning.specs.Prepared.{Prepared};
-use automaton::live::any_byte;
-use automaton::live::end;
-use automaton::live::first;
 use automaton::table::accept;
 use automaton::table::is_match;
+use automaton_live::any_byte;
+use automaton_live::end;
+use automaton_live::first;
 
 // Whether a string above `start_key` can match from `state` on. Where the highest byte that leads on is the key's,
 // the walk goes on behind it; a higher one matches, and below it the key's own leads nowhere.
@@ -45,7 +44,7 @@ fn match_range_start(
 }
 
 // Whether a string that isn't empty and not above `end_key` can match from `state` on: the same by the lowest byte.
-fn match_range_end(
+pub fn match_range_end(
     table: &[u8],
     reach: u64,
     firsts: &mut [u16; 64],
@@ -89,7 +88,7 @@ pub fn accept_prefix(table: &[u8], key: &[u8], n: usize) -> usize
 
 // Whether a string above `start_key` and not above `end_key` can match from `state` on, where the first byte of the one
 // is below that of the other.
-fn match_between(
+pub fn match_between(
     table: &[u8],
     reach: u64,
     firsts: &mut [u16; 64],
@@ -130,81 +129,4 @@ fn match_between(
         return true;
     }
     match_range_end(table, reach, firsts, &end_key[1..], end_state)
-}
-
-// Whether a key above `start_key` and not above `end_key` can match, by the state behind the n bytes that they share.
-pub fn can_block_match_from(
-    table: &[u8],
-    reach: u64,
-    firsts: &mut [u16; 64],
-    ends: &mut [u16; 64],
-    base: usize,
-    n: usize,
-    start_key: &[u8],
-    end_key: &[u8],
-) -> bool
-    requires { ⌜ Prepared (now table) reach (now firsts) (now ends)
-        × (n ≡ commonPrefixLen (now «start_key») (now «end_key»))
-        × (base ≡ run (now table) 0 (take n (now «start_key»))) × (base < states (now table)) ⌝ }
-    ensures { λ r. ⌜ Exactly r (MatchBetween (now (table .entry)) 0 (now («start_key» .entry)) (now («end_key» .entry))) ⌝ }
-    ensures { λ _. ⌜ Prepared (now (table .entry)) reach (now (firsts .exit)) (now (ends .exit)) ⌝ }
-{
-    if n == end_key.len() {
-        return false;
-    }
-    if n == start_key.len() {
-        return match_range_end(table, reach, firsts, &end_key[n..], base);
-    }
-    if end_key[n] < start_key[n] {
-        return false;
-    }
-    match_between(
-        table,
-        reach,
-        firsts,
-        ends,
-        &start_key[n..],
-        &end_key[n..],
-        base,
-    )
-}
-
-fn can_block_match_automaton_with_start(
-    table: &[u8],
-    reach: u64,
-    firsts: &mut [u16; 64],
-    ends: &mut [u16; 64],
-    start_key: &[u8],
-    end_key: &[u8],
-) -> bool
-    requires { ⌜ Prepared (now table) reach (now firsts) (now ends) ⌝ }
-    ensures { λ r. ⌜ Exactly r (MatchBetween (now (table .entry)) 0 (now («start_key» .entry)) (now («end_key» .entry))) ⌝ }
-    ensures { λ _. ⌜ Prepared (now (table .entry)) reach (now (firsts .exit)) (now (ends .exit)) ⌝ }
-{
-    let n = keys::common_prefix_len(start_key, end_key);
-    let base = accept_prefix(table, start_key, n);
-    can_block_match_from(table, reach, firsts, ends, base, n, start_key, end_key)
-}
-
-// The same for the first block too, which has no start and lets the empty string in.
-pub fn can_block_match(
-    table: &[u8],
-    reach: u64,
-    firsts: &mut [u16; 64],
-    ends: &mut [u16; 64],
-    has_start: bool,
-    start_key: &[u8],
-    end_key: &[u8],
-) -> bool
-    requires { ⌜ Prepared (now table) reach (now firsts) (now ends) ⌝ }
-    ensures { λ r. ⌜ Exactly r (Marked (now (table .entry)) (startOf «has_start» (now («start_key» .entry))) (now («end_key» .entry))) ⌝ }
-    ensures { λ _. ⌜ Prepared (now (table .entry)) reach (now (firsts .exit)) (now (ends .exit)) ⌝ }
-{
-    if has_start {
-        return can_block_match_automaton_with_start(table, reach, firsts, ends, start_key, end_key);
-    }
-    if is_match(table, 0) {
-        return true;
-    }
-    can_block_match_automaton_with_start(table, reach, firsts, ends, &end_key[..0], end_key)
 }

@@ -61,12 +61,12 @@ fn make_call(list: &[u8], at: usize, last: Called, blocks: &mut [u64], keys: &mu
     let next = at + format::call_len(list, at);
     if list[at] == format::ADD {
         let key = format::string(list, at + 25);
-        let taken = builder.add_block(blocks, keys, key, block(list, at));
+        let taken = builder_add::add_block(builder, blocks, keys, key, block(list, at));
         return read_answer(taken, next);
     }
     let key = format::string(list, at + 1);
     read_answer(
-        builder.shorten_last_block_key_given_next_key(blocks, keys, key),
+        builder_add::shorten_last_block_key_given_next_key(builder, blocks, keys, key),
         next,
     )
 }

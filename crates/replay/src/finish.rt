@@ -26,7 +26,7 @@ pub fn finish_list(
     ensures { λ _. ⌜ now (answers .exit) ≡ sets (now (answers .entry)) at
         (finishCells (finishDef standard builder (now (blocks .entry)) (now (keys .entry)) (now (out .entry)))) ⌝ }
 {
-    match builder.finish(blocks, keys, out) {
+    match builder_finish::finish(builder, blocks, keys, out) {
         Finished::Written(_, total, directory) => {
             let cells = Cells {
                 no: 0,

@@ -5,7 +5,7 @@ ghost use Prim.Native.Nat.{_+_, _^_, _≤_, _<_};
 ghost use lib.Dec.{eqb};
 ghost use lib.ListN.{length};
 ghost use Rattle.serialize.specs.Digits.{numberAt};
-ghost use Rattle.replay.specs.Format.{stringLen, stringAt, within, callLen, questionLen, behind, settingsLen};
+ghost use Rattle.replay.specs.Format.{stringLen, stringAt, within, callLen, questionLen, behind};
 ghost use Rattle.replay.specs.Format.{countsAt, callsFrom, callCount, questionCount, headBad, listBad};
 
 pub const ADD: u8 = 0;

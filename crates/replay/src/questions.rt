@@ -4,6 +4,7 @@ ghost use mathlib.Core.Bool.{false};
 ghost use mathlib.Core.List.{List};
 ghost use Prim.Native.Nat.{ℕ, _+_, _*_, _≤_, _<_};
 ghost use lib.ListN.{length, getD};
+ghost use Rattle.layout.specs.Layout.{maxBlocks};
 ghost use Rattle.builder.specs.Index.{Settings};
 ghost use Rattle.machine.specs.Plain.{Entry};
 ghost use Rattle.index.specs.Answers.{loadNo, locatedNo, locatedId, locatedAddr};
@@ -29,7 +30,7 @@ use listing::Listed;
 fn by_id(opened: SSTableIndexV3, data: &[u8], id: u64) -> Cells
     ensures { λ r. ⌜ ((S : Settings) (es : List Entry) → Indexed S es (now («data» .entry)) opened → IdAnswer es id (cellsOf r)) ⌝ }
 {
-    match opened.get_block(data, id) {
+    match index_lookup::get_block(opened, data, id) {
         BlockById::Block(block) => Cells {
             no: 0,
             a: 0,
@@ -62,7 +63,7 @@ fn located(found: Located) -> Cells
 fn by_ordinal(opened: SSTableIndexV3, data: &[u8], ord: u64) -> Cells
     ensures { λ r. ⌜ ((S : Settings) (es : List Entry) → Indexed S es (now («data» .entry)) opened → OrdAnswer es ord (cellsOf r)) ⌝ }
 {
-    located(opened.locate_with_ord(data, ord))
+    located(index_lookup::locate_with_ord(opened, data, ord))
 }
 
 // The block for a key.
@@ -70,7 +71,7 @@ fn by_key(opened: SSTableIndexV3, data: &[u8], key: &[u8]) -> Cells
     ensures { λ r. ⌜ ((S : Settings) (es : List Entry) → Indexed S es (now («data» .entry)) opened
         → KeyAnswer es (now (key .entry)) (cellsOf r)) ⌝ }
 {
-    match opened.locate_with_key(data, key) {
+    match index_lookup::locate_with_key(opened, data, key) {
         LocatedId::Id(id) => Cells {
             no: 0,
             a: id as u64,
@@ -87,7 +88,7 @@ fn address_by_key(opened: SSTableIndexV3, data: &[u8], key: &[u8]) -> Cells
     ensures { λ r. ⌜ ((S : Settings) (es : List Entry) → Indexed S es (now («data» .entry)) opened
         → AddrAnswer es (now (key .entry)) (cellsOf r)) ⌝ }
 {
-    located(opened.get_block_with_key(data, key))
+    located(index_lookup::get_block_with_key(opened, data, key))
 }
 
 // Where the separator of an id stands.
@@ -95,7 +96,7 @@ fn separator(opened: SSTableIndexV3, data: &[u8], id: u64) -> Cells
     ensures { λ r. ⌜ ((S : Settings) (es : List Entry) → Indexed S es (now («data» .entry)) opened
         → SeparatorAnswer S es id (cellsOf r)) ⌝ }
 {
-    match opened.separator_place(data, id) {
+    match index_lookup::separator_place(opened, data, id) {
         Place::Part(offset, len) => Cells {
             no: 0,
             a: offset as u64,
@@ -136,7 +137,7 @@ fn listed(answer: Listed) -> Cells
 
 // Lists the table's blocks in marks that are all 0: how many, and mark i.
 fn mark_in(opened: SSTableIndexV3, data: &[u8], i: u64, table: &[u8], marks: &mut [u8]) -> Cells
-    requires { ⌜ (65536 ≤ length (now marks)) × ((j : ℕ) → getD (now marks) j 0 ≡ 0) ⌝ }
+    requires { ⌜ (maxBlocks ≤ length (now marks)) × ((j : ℕ) → getD (now marks) j 0 ≡ 0) ⌝ }
     ensures { λ r. ⌜ ((S : Settings) (es : List Entry) → Indexed S es (now («data» .entry)) opened
         → MarkAnswer es i (now (table .entry)) (cellsOf r)) ⌝ }
 {
@@ -246,7 +247,7 @@ pub fn open_list(list: &[u8], from: usize, data: &[u8], answers: &mut [u64], fir
         → OpeningAnswered k S es (items (questionLen (now (list .entry))) (questionAt (now (list .entry))) from
         (questionCount (now (list .entry)))) first (now (answers .entry)) (now (answers .exit))) ⌝ }
 {
-    let loaded = SSTableIndexV3::load(data);
+    let loaded = index_load::load(data);
     Cells::number(load_no(loaded)).write(answers, WIDTH * first);
     let count = format::question_count(list);
     ask_questions(list, from, count, loaded, data, answers, first + 1);

@@ -32,7 +32,7 @@ pub extern "C" fn rosmarel_add(
         end: end,
         first_ordinal: first_ordinal,
     };
-    match builder.add_block(blocks, keys, key, block) {
+    match builder_add::add_block(builder, blocks, keys, key, block) {
         Answer::Taken(next) => {
             *n = next.n as u64;
             0
@@ -56,7 +56,7 @@ pub extern "C" fn rosmarel_shorten(
         ≡ shortenDef (builderOf n) (now (blocks .entry)) (now (keys .entry)) (now («next_key» .entry)) ⌝ }
 {
     let builder = SSTableIndexBuilder::new(n as usize);
-    match builder.shorten_last_block_key_given_next_key(blocks, keys, next_key) {
+    match builder_add::shorten_last_block_key_given_next_key(builder, blocks, keys, next_key) {
         Answer::Taken(_) => 0,
         Answer::Refused(no, _) => no,
     }
@@ -76,7 +76,7 @@ pub extern "C" fn rosmarel_finish(
         ≡ finishDef standard (builderOf n) (now (blocks .entry)) (now (keys .entry)) (now (out .entry)) ⌝ }
 {
     let builder = SSTableIndexBuilder::new(n as usize);
-    match builder.finish(blocks, keys, out) {
+    match builder_finish::finish(builder, blocks, keys, out) {
         Finished::Written(_, len, directory) => {
             *total = len as u64;
             *directory_len = directory as u64;
@@ -97,7 +97,7 @@ pub extern "C" fn rosmarel_finish_len(n: u64, blocks: &[u64], keys: &[u8], total
     ensures { λ _. ⌜ now (total .exit) ≡ lenTotal (finishLenDef standard (builderOf n) (now (blocks .entry)) (now (keys .entry))) ⌝ }
 {
     let builder = SSTableIndexBuilder::new(n as usize);
-    match builder.finish_len(blocks, keys) {
+    match builder_finish::finish_len(builder, blocks, keys) {
         FinishLen::Total(len) => {
             *total = len as u64;
             0

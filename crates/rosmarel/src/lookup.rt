@@ -12,7 +12,6 @@ use index::Loaded;
 use index::Located;
 use index::LocatedId;
 use index::Place;
-use index::SSTableIndexV3;
 
 // Opens the bytes of an index that anyone may have written.
 #[no_mangle]
@@ -20,7 +19,7 @@ pub extern "C" fn rosmarel_open(index: &[u8], opened: &mut [u64; 7]) -> u32
     ensures { λ r. ⌜ r ≡ loadNo (loadDef (now (index .entry))) ⌝ }
     ensures { λ _. ⌜ now (opened .exit) ≡ openedWords (loadOpened (loadDef (now (index .entry)))) ⌝ }
 {
-    match SSTableIndexV3::load(index) {
+    match index_load::load(index) {
         Loaded::Opened(record) => {
             *opened = words(record);
             0
@@ -45,7 +44,7 @@ pub extern "C" fn rosmarel_get_block(
     ensures { λ r. ⌜ GetBlock (now (index .entry)) (openedAt (now (opened .entry))) id r
         (blockWith (now (start .exit)) (now (end .exit)) (now («first_ordinal» .exit))) ⌝ }
 {
-    match opened_at(opened).get_block(index, id) {
+    match index_lookup::get_block(opened_at(opened), index, id) {
         BlockById::Block(block) => {
             *start = block.start;
             *end = block.end;
@@ -75,7 +74,7 @@ pub extern "C" fn rosmarel_locate_with_ord(
     ensures { λ r. ⌜ LocateWithOrd (now (index .entry)) (openedAt (now (opened .entry))) ord r (now (id .exit))
         (blockWith (now (start .exit)) (now (end .exit)) (now («first_ordinal» .exit))) ⌝ }
 {
-    match opened_at(opened).locate_with_ord(index, ord) {
+    match index_lookup::locate_with_ord(opened_at(opened), index, ord) {
         Located::At(found, block) => {
             *id = found as u64;
             *start = block.start;
@@ -103,7 +102,7 @@ pub extern "C" fn rosmarel_locate_with_key(
 ) -> u32
     ensures { λ r. ⌜ LocateWithKey (now (index .entry)) (openedAt (now (opened .entry))) (now (key .entry)) r (now (id .exit)) ⌝ }
 {
-    match opened_at(opened).locate_with_key(index, key) {
+    match index_lookup::locate_with_key(opened_at(opened), index, key) {
         LocatedId::Id(found) => {
             *id = found as u64;
             0
@@ -129,7 +128,7 @@ pub extern "C" fn rosmarel_get_block_with_key(
     ensures { λ r. ⌜ GetBlockWithKey (now (index .entry)) (openedAt (now (opened .entry))) (now (key .entry)) r (now (id .exit))
         (blockWith (now (start .exit)) (now (end .exit)) (now («first_ordinal» .exit))) ⌝ }
 {
-    match opened_at(opened).get_block_with_key(index, key) {
+    match index_lookup::get_block_with_key(opened_at(opened), index, key) {
         Located::At(found, block) => {
             *id = found as u64;
             *start = block.start;
@@ -159,7 +158,7 @@ pub extern "C" fn rosmarel_separator(
     ensures { λ _. ⌜ now (offset .exit) ≡ placeOffset (placeDef (openedAt (now (opened .entry))) (now (index .entry)) id) ⌝ }
     ensures { λ _. ⌜ now (len .exit) ≡ placeLen (placeDef (openedAt (now (opened .entry))) (now (index .entry)) id) ⌝ }
 {
-    match opened_at(opened).separator_place(index, id) {
+    match index_lookup::separator_place(opened_at(opened), index, id) {
         Place::Part(from, long) => {
             *offset = from as u64;
             *len = long as u64;

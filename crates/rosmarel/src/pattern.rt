@@ -1,5 +1,4 @@
 // Patterns: the blocks that can hold a key of one, and an example of such a key.
-ghost use mathlib.Core.Path.{_≡_};
 ghost use Prim.Native.Nat.{_≤_};
 ghost use lib.Dec.{eqb};
 ghost use Rattle.pruning.specs.Interval.{startOf};
@@ -49,7 +48,7 @@ pub extern "C" fn rosmarel_can_block_match(
         (eqb (now (matches .exit)) 1) ⌝ }
     ensures { λ _. ⌜ now (matches .exit) ≤ 1 ⌝ }
 {
-    match pruning::can_block_match_automaton(has_start, start, end, automaton) {
+    match pruning_match::can_block_match_automaton(has_start, start, end, automaton) {
         Matched::Matches(can) => {
             *matches = can as u64;
             0

@@ -21,7 +21,7 @@ pub extern "C" fn rosmarel_store(blocks: &[[u64; 3]], out: &mut [u8], len: &mut 
         × (now (len .exit) ≡ sliceStored (blocksOfNumbers (now (blocks .entry))) (now (out .entry)) .len) ⌝ }
 {
     answer(
-        store_slice::numbers::serialize(blocks, STORE_BLOCK_LEN, out),
+        store_slice_numbers::serialize(blocks, STORE_BLOCK_LEN, out),
         len,
     )
 }

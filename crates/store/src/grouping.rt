@@ -1,13 +1,14 @@
 // How blocks fall into groups: what writers and readers share.
 ghost use mathlib.Core.Path.{_≡_};
 ghost use Prim.Native.Nat.{_-_, _*_, _≤_, min};
+ghost use Rattle.layout.specs.Layout.{maxBlocks};
 ghost use Rattle.store.specs.Store.{groupCount};
 ghost use Rattle.store.specs.Read.{groupLen};
 ghost use Rattle.store.specs.Facts.{GroupLenOk};
 
 // How many groups n blocks make.
 pub fn group_count(n: usize, group_len: usize) -> usize
-    requires { ⌜ (n ≤ 65536) × GroupLenOk «group_len» ⌝ }
+    requires { ⌜ (n ≤ maxBlocks) × GroupLenOk «group_len» ⌝ }
     ensures { λ r. ⌜ r ≡ groupCount «group_len» n ⌝ }
 {
     (n + (group_len - 1)) / group_len

@@ -1,8 +1,5 @@
 // The address store: `BlockAddrStoreWriter` and `BlockAddrStore` of src/index/v3.rs.
-pub mod check;
 pub mod grouping;
-pub mod read;
-pub mod write;
 
 use group::BlockAddr;
 

@@ -2,9 +2,8 @@
 ghost use mathlib.Core.Path.{_≡_};
 ghost use Rattle.store_slice.specs.Slice.{sliceStored, sliceOut};
 
-pub mod numbers;
-mod rows;
-mod writer;
+pub mod rows;
+pub mod writer;
 
 use group::BlockAddr;
 use layout::STORE_BLOCK_LEN;

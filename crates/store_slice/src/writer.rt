@@ -13,6 +13,8 @@ ghost use Rattle.store_slice.specs.Steps.{Writable, Flushed, RoundEnded,
 ghost use Rattle.store_slice.specs.Writer.{Rooms, Progress, Handed, Advances};
 use crate::rows::Seen;
 use group::BlockAddr;
+use group::area::END;
+use group::area::FIRST_ORDINAL;
 use layout::META_LEN;
 use layout::refusals::OUT_SHORT;
 
@@ -110,8 +112,8 @@ impl BlockAddrStoreWriter {
     {
         let at = STRIDE * self.held;
         window[at] = block.start;
-        window[at + 1] = block.end;
-        window[at + 2] = block.first_ordinal;
+        window[at + END] = block.end;
+        window[at + FIRST_ORDINAL] = block.first_ordinal;
         let mut filled = self;
         if !self.writing {
             let seen = self.seen;
@@ -134,7 +136,7 @@ impl BlockAddrStoreWriter {
         flushed.held = 0;
         flushed.g = self.g + 1;
         if self.writing {
-            let len = store::write::write_group(
+            let len = store_write::write_group(
                 window,
                 STRIDE,
                 0,
@@ -151,7 +153,7 @@ impl BlockAddrStoreWriter {
         }
         let seen = self.seen;
         if seen.no(self.n) == 0 {
-            let len = store::write::plan_group(window, STRIDE, 0, self.held, self.g, kept);
+            let len = store_write::plan_group(window, STRIDE, 0, self.held, self.g, kept);
             flushed.offset = self.offset + len;
         }
         flushed

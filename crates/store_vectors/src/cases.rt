@@ -55,11 +55,11 @@ fn write_store(area: &[u64], n: usize, len: usize, out: &mut [u8]) -> bool
         return false;
     }
     let mut kept = [0u64; 1_024];
-    if store::write::plan_store(area, blocks::STRIDE, n, GROUP, &mut kept) != len {
+    if store_write::plan_store(area, blocks::STRIDE, n, GROUP, &mut kept) != len {
         return false;
     }
     let end = PLACE + len;
-    if store::write::serialize(area, blocks::STRIDE, n, GROUP, &kept, &mut out[PLACE..end]) != len {
+    if store_write::serialize(area, blocks::STRIDE, n, GROUP, &kept, &mut out[PLACE..end]) != len {
         return false;
     }
     if !marks(&out[0..PLACE]) {
@@ -101,7 +101,7 @@ fn gets(store: &[u8], n: usize, id: usize, block: BlockAddr) -> bool {
     if id >= n {
         return false;
     }
-    match store::read::get(&store[LENGTH..at], &store[at..], n, GROUP, id) {
+    match store_read::get(&store[LENGTH..at], &store[at..], n, GROUP, id) {
         Got::Block(found) => equal(found, block),
         Got::Broken => false,
     }
@@ -202,7 +202,7 @@ fn locates(store: &[u8], n: usize, ord: u64, id: usize, block: BlockAddr) -> boo
     if at == 0 {
         return false;
     }
-    match store::read::binary_search_ord(&store[LENGTH..at], &store[at..], n, GROUP, ord) {
+    match store_read::binary_search_ord(&store[LENGTH..at], &store[at..], n, GROUP, ord) {
         OrdFound::At(i, found) => {
             if i != id {
                 return false;

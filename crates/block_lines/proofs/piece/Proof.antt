@@ -7,7 +7,8 @@ use native.Mathlib.Omega.{arith}
 use lib.ListN.{length, getD}
 use Rattle.index.specs.declared.Loaded.the-variants.{Opened, Refused}
 use Rattle.index.specs.Opening.{Opens}
-use Rattle.block_lines.specs.Text.{tooLongLine, refusedLine, linesFrom, blocksPieces}
+use Rattle.line_text.specs.Lines.{tooLongLine, refusedLine}
+use Rattle.block_lines.specs.Text.{linesFrom, blocksPieces}
 use Rattle.block_lines.proofs.Opened.{line-fits}
 use Rattle.block_lines.proofs.TextPieces.{long-pieces, short-pieces, refused-short, length-lines, line-is}
 use Rattle.block_lines.proofs.piece.Statement.{statement}

@@ -14,7 +14,7 @@ use Rattle.automaton.proofs.Refusal.{table-ok}
 use Rattle.pruning.specs.Interval.{startOf}
 use Rattle.example.specs.Example.{longer, ExampleNo}
 use Rattle.example.specs.declared.ExampleAnswer.the-variants.{Written}
-use Rattle.example.proofs.Shortest.{at-zero, zero-at}
+use Rattle.example_distance.proofs.Shortest.{at-zero, zero-at}
 use Rattle.example.proofs.Answered.{Answered, answered-refused, answered, answered-shown, empty-shown, absent-none, absent-shown, between-shown}
 use Rattle.example.proofs.example.Statement.{statement}
 use Rattle.example.proofs.example.Tie as tie

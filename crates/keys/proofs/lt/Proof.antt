@@ -7,10 +7,10 @@ common-prefix-len-requires : tie.Need-common-prefix-len-requires
 common-prefix-len-requires c κs = search needs
 
 lt-behind-requires : tie.Need-lt-behind-requires
-lt-behind-requires c κs = c .common-prefix-len .ensures
+lt-behind-requires c κs = search needs
 
 returns : tie.Need-returns
-returns c = c .lt-behind .ensures
+returns c = c .lt-behind .ensures (c .before .common-prefix-len .ensures)
 
 pub lt-spec : {M : Type 1} → statement M
 lt-spec = tie.close (tie.spec common-prefix-len-requires lt-behind-requires returns)

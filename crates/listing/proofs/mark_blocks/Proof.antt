@@ -11,9 +11,9 @@ use Rattle.pruning.specs.Interval.{Marked}
 use Rattle.pruning.specs.Prepared.{Prepared}
 use Rattle.pruning.proofs.Kept.{nothing-known}
 use Rattle.listing.specs.Marks.{startAt}
-use Rattle.listing.specs.Followed.{Followed}
+use Rattle.listing_follow.specs.Followed.{Followed}
 use Rattle.listing.specs.Listing.{Listing}
-use Rattle.listing.proofs.Following.{followed-none}
+use Rattle.listing_follow.proofs.Following.{followed-none}
 use Rattle.listing.proofs.Outside.{each-inside}
 use Rattle.listing.proofs.Turns.{start-behind, listing-none, listing-turn, listing-over, listing-under, listing-length, listing-count, one-at-most}
 use Rattle.listing.proofs.mark_blocks.Statement.{statement}

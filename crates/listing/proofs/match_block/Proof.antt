@@ -7,7 +7,7 @@ use Rattle.keys.proofs.Order.{commonPrefixLen-left, commonPrefixLen-right}
 use Rattle.automaton.specs.Words.{Bytes}
 use Rattle.automaton.proofs.Exact.{when-true}
 use Rattle.automaton.proofs.Strings.{bytes-of}
-use Rattle.listing.proofs.Following.{followed-state, followed-dead, followed-next}
+use Rattle.listing_follow.proofs.Following.{followed-state, followed-dead, followed-next}
 use Rattle.listing.proofs.match_block.Statement.{statement}
 use Rattle.listing.proofs.match_block.Tie as tie
 

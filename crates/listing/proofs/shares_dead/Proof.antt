@@ -11,7 +11,7 @@ use Rattle.automaton.specs.Table.{states}
 use Rattle.automaton.specs.Words.{Bytes}
 use Rattle.automaton.proofs.Exact.{when-true}
 use Rattle.automaton.proofs.Strings.{bytes-of}
-use Rattle.listing.proofs.Following.{followed-state, followed-dead, front-common}
+use Rattle.listing_follow.proofs.Following.{followed-state, followed-dead, front-common}
 use Rattle.listing.proofs.shares_dead.Statement.{statement}
 use Rattle.listing.proofs.shares_dead.Tie as tie
 
