@@ -136,7 +136,8 @@ fn match_block(
 
 // Marks the n blocks of a directory, 0 or 1 each. Returns how many are 1.
 fn mark_blocks(directory: &[u8], n: usize, table: &[u8], marks: &mut [u8]) -> usize
-    requires { ⌜ ((1 ≤ n) × (n ≤ maxBlocks)) × (keysOutside (now directory) n n ≡ false) × WellFormed (now table) × (n ≤ length (now marks)) ⌝ }
+    requires { ⌜ ((1 ≤ n) × (n ≤ maxBlocks)) × (keysOutside (now directory) n n ≡ false) × WellFormed (now table)
+        × (n ≤ length (now marks)) ⌝ }
     ensures { λ r. ⌜ Listing (now (table .entry)) (keyOf (now (directory .entry)) n) n (now (marks .entry)) (now (marks .exit)) r ⌝ }
 {
     let reach = automaton_reach::reach(table);

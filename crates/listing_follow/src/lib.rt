@@ -83,7 +83,8 @@ pub fn follow(
     known: usize,
     n: usize,
 ) -> usize
-    requires { ⌜ WellFormed (now table) × Followed (now table) (now key) (now states) known × (known ≤ maxKeyLen) × (n ≤ length (now key)) ⌝ }
+    requires { ⌜ WellFormed (now table) × Followed (now table) (now key) (now states) known × (known ≤ maxKeyLen)
+        × (n ≤ length (now key)) ⌝ }
     ensures { λ r. ⌜ (r ≤ n) × (r ≤ maxKeyLen) × Followed (now (table .entry)) (now (key .entry)) (now (states .exit)) r ⌝ }
 {
     let end = if n < MAX_KEY_LEN { n } else { MAX_KEY_LEN };
@@ -106,7 +107,8 @@ pub fn follow(
 
 // The state behind the first n bytes of a key, where `known` are followed: all of them, but in a key that no file has.
 pub fn state_behind(table: &[u8], key: &[u8], states: &[u8; 1025], known: usize, n: usize) -> usize
-    requires { ⌜ WellFormed (now table) × Followed (now table) (now key) (now states) known × (known ≤ maxKeyLen) × (n ≤ length (now key)) ⌝ }
+    requires { ⌜ WellFormed (now table) × Followed (now table) (now key) (now states) known × (known ≤ maxKeyLen)
+        × (n ≤ length (now key)) ⌝ }
     ensures { λ r. ⌜ (r ≡ run (now (table .entry)) 0 (take n (now (key .entry)))) × (r < stateCount (now (table .entry))) ⌝ }
 {
     if n == known {
