@@ -39,6 +39,13 @@ struct Repository {
     root: PathBuf,
 }
 
+/// Nothing of it stays behind: `rt` refuses the repository around this package if sources stand in it that no crate lists.
+impl Drop for Repository {
+    fn drop(&mut self) {
+        let _ = fs::remove_dir_all(&self.root);
+    }
+}
+
 impl Repository {
     /// A repository whose `rt` makes an archive with this number.
     fn new(name: &str, number: u64) -> Repository {
