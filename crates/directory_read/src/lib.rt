@@ -49,7 +49,7 @@ pub fn key_outside(directory: &[u8], n: usize, i: usize) -> bool
 }
 
 // The lesser of two lengths.
-fn lesser(a: usize, b: usize) -> usize
+pub fn lesser(a: usize, b: usize) -> usize
     ensures { λ r. ⌜ r ≡ min a b ⌝ }
 {
     if a < b {

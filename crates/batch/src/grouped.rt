@@ -1,0 +1,63 @@
+// The lookup of a batch with groups of a given length. All entries are there before the first of them is written.
+ghost use mathlib.Core.Path.{_≡_};
+ghost use Prim.Native.Nat.{_≤_};
+ghost use lib.ListN.{length, take};
+ghost use lib.Seq.{sets};
+ghost use Rattle.store.specs.Facts.{GroupLenOk};
+ghost use Rattle.batch.specs.Batch.{batchBad, LocateWithKeysBy};
+use batch_search::MAX_KEYS;
+use index::SSTableIndexV3;
+use index_lookup::grouped::opened_bad;
+use layout::refusals::KEY_LIST_BAD;
+use layout::refusals::UNFIT;
+
+// Row 26.
+fn batch_bad(pairs: &[u64], keys: &[u8], room: usize) -> bool
+    ensures { λ r. ⌜ r ≡ batchBad (now (pairs .entry)) (now (keys .entry)) room ⌝ }
+{
+    if key_list::key_list_bad(pairs, keys.len(), MAX_KEYS) {
+        return true;
+    }
+    room < pairs.len() / 2
+}
+
+// Copies the first `count` entries to the front of the ids.
+fn write(found: &[u64; 64], count: usize, ids: &mut [u64])
+    requires { ⌜ (count ≤ 64) × (count ≤ length (now ids)) ⌝ }
+    ensures { λ _. ⌜ now (ids .exit) ≡ sets (now (ids .entry)) 0 (take count (now (found .entry))) ⌝ }
+{
+    let mut i: usize = 0;
+    while i < count {
+        ids[i] = found[i];
+        i += 1;
+    }
+}
+
+// Writes the id of the block of each key at the front of `ids`. Returns a row's number, or 0.
+pub fn locate_with_keys(
+    opened: SSTableIndexV3,
+    data: &[u8],
+    group_len: usize,
+    pairs: &[u64],
+    keys: &[u8],
+    ids: &mut [u64],
+) -> u32
+    requires { ⌜ GroupLenOk «group_len» ⌝ }
+    ensures { λ r. ⌜ LocateWithKeysBy «group_len» (now («data» .entry)) opened (now (pairs .entry)) (now (keys .entry))
+        (now (ids .entry)) (now (ids .exit)) r ⌝ }
+{
+    if opened_bad(opened, data.len(), group_len) {
+        return UNFIT;
+    }
+    if batch_bad(pairs, keys, ids.len()) {
+        return KEY_LIST_BAD;
+    }
+    let end = opened.directory + opened.directory_len;
+    let directory = &data[opened.directory..end];
+    let mut found = [0u64; 64];
+    if !batch_search::locate_with_keys(directory, opened.n, pairs, keys, &mut found) {
+        return UNFIT;
+    }
+    write(&found, pairs.len() / 2, ids);
+    0
+}

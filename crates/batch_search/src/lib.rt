@@ -1,0 +1,60 @@
+// The blocks of a list of keys in one directory: one search after the other, or all side by side.
+pub mod lanes;
+
+ghost use mathlib.Core.Path.{_≡_};
+ghost use Prim.Native.Nat.{_≤_};
+ghost use lib.ListN.{length};
+ghost use Rattle.layout.specs.Layout.{maxBlocks};
+ghost use Rattle.key_list.specs.KeyList.{KeyListOk};
+ghost use Rattle.batch_search.specs.Entries.{EntriesFound};
+use directory::Found;
+
+// The most keys that are looked for at once.
+pub const MAX_KEYS: usize = 64;
+
+// The entry of a key that is above the last separator.
+pub const NO_ID: u64 = 0xFFFF_FFFF_FFFF_FFFF;
+
+// Side by side searches pay where there are as many keys and as many blocks at least.
+const SOME_KEYS: usize = 8;
+
+const SOME_BLOCKS: usize = 1_024;
+
+// One search after the other.
+fn one_by_one(directory: &[u8], n: usize, pairs: &[u64], keys: &[u8], found: &mut [u64; 64]) -> bool
+    requires { ⌜ (1 ≤ n) × (n ≤ maxBlocks) × KeyListOk 64 (now pairs) (length (now keys)) ⌝ }
+    ensures { λ r. ⌜ EntriesFound (now (directory .entry)) n (now (pairs .entry)) (now (keys .entry)) (now (found .exit)) r ⌝ }
+{
+    let count = pairs.len() / 2;
+    let mut i: usize = 0;
+    while i < count {
+        let key = key_list::key(pairs, keys, i);
+        found[i] = match directory_read::locate_with_key(directory, n, key) {
+            Found::At(id) => id as u64,
+            Found::Above => NO_ID,
+            Found::Outside => return false,
+        };
+        i += 1;
+    }
+    true
+}
+
+// Puts the entry of each key into `found`; false where a search meets a key outside the directory.
+pub fn locate_with_keys(
+    directory: &[u8],
+    n: usize,
+    pairs: &[u64],
+    keys: &[u8],
+    found: &mut [u64; 64],
+) -> bool
+    requires { ⌜ (1 ≤ n) × (n ≤ maxBlocks) × KeyListOk 64 (now pairs) (length (now keys)) ⌝ }
+    ensures { λ r. ⌜ EntriesFound (now (directory .entry)) n (now (pairs .entry)) (now (keys .entry)) (now (found .exit)) r ⌝ }
+{
+    if n < SOME_BLOCKS {
+        return one_by_one(directory, n, pairs, keys, found);
+    }
+    if pairs.len() < 2 * SOME_KEYS {
+        return one_by_one(directory, n, pairs, keys, found);
+    }
+    lanes::side_by_side(directory, n, pairs, keys, found)
+}
