@@ -1,9 +1,10 @@
 -- Searches side by side: each has its left bound, and all have `len` keys from there on to look at.
 use Prim.Native.Nat.{ℕ, _+_, _/_, _≤_, _<_}
+use mathlib.Core.Path.{_≡_}
 use mathlib.Core.List.{List}
 use mathlib.Core.Bool.{cond}
 use lib.Dec.{ltb}
-use lib.ListN.{getD}
+use lib.ListN.{length, getD}
 use Rattle.keys.specs.Order.{_≺_, _≼_, commonPrefixLen}
 use Rattle.directory.specs.Read.{Sorted, keyOf}
 use Rattle.key_list.specs.KeyList.{keyListCount, keyListKey}
@@ -18,7 +19,9 @@ pub record LaneOk (d : List ℕ) (n : ℕ) (key : List ℕ) (len left low high :
   pub high-shared : Sorted d n → (i : ℕ) → i < left + len → key ≼ keyOf d n i → high ≤ commonPrefixLen (keyOf d n i) key
 
 -- all searches, of which the first m have taken the turn that halves `len`
-abbrev pub LanesOk : List ℕ → ℕ → List ℕ → List ℕ → ℕ → ℕ → List ℕ → List ℕ → List ℕ → Type 0
-LanesOk d n pairs bytes m len lefts lows highs =
-    (i : ℕ) → i < keyListCount pairs
-    → LaneOk d n (keyListKey pairs bytes i) (cond (ltb i m) (len / 2) len) (getD lefts i 0) (getD lows i 0) (getD highs i 0)
+pub record LanesOk (d : List ℕ) (n : ℕ) (pairs bytes : List ℕ) (m len : ℕ) (lefts lows highs : List ℕ) : Type 0 where
+  pub lefts-long : length lefts ≡ 64
+  pub lows-long : length lows ≡ 64
+  pub highs-long : length highs ≡ 64
+  pub each : (i : ℕ) → i < keyListCount pairs
+      → LaneOk d n (keyListKey pairs bytes i) (cond (ltb i m) (len / 2) len) (getD lefts i 0) (getD lows i 0) (getD highs i 0)

@@ -82,16 +82,22 @@ fn round(
     true
 }
 
+// The entry of a search at its end.
+fn entry_at(left: usize, n: usize) -> u64
+    ensures { λ r. ⌜ r ≡ cond (eqb left n) noId left ⌝ }
+{
+    if left == n { NO_ID } else { left as u64 }
+}
+
 // The entries where every search is at its end.
 fn entries(lefts: &[usize; 64], count: usize, n: usize, found: &mut [u64; 64])
-    requires { ⌜ count ≤ 64 ⌝ }
-    ensures { λ _. ⌜ ((i : ℕ) → i < count
+    requires { ⌜ (count ≤ 64) × (length (now found) ≡ 64) ⌝ }
+    ensures { λ _. ⌜ (length (now (found .exit)) ≡ 64) × ((i : ℕ) → i < count
         → getD (now (found .exit)) i 0 ≡ cond (eqb (getD (now (lefts .entry)) i 0) n) noId (getD (now (lefts .entry)) i 0)) ⌝ }
 {
     let mut i: usize = 0;
     while i < count {
-        let left = lefts[i];
-        found[i] = if left == n { NO_ID } else { left as u64 };
+        found[i] = entry_at(lefts[i], n);
         i += 1;
     }
 }
@@ -104,7 +110,7 @@ pub fn side_by_side(
     keys: &[u8],
     found: &mut [u64; 64],
 ) -> bool
-    requires { ⌜ (1 ≤ n) × (n ≤ maxBlocks) × KeyListOk 64 (now pairs) (length (now keys)) ⌝ }
+    requires { ⌜ (1 ≤ n) × (n ≤ maxBlocks) × KeyListOk 64 (now pairs) (length (now keys)) × (length (now found) ≡ 64) ⌝ }
     ensures { λ r. ⌜ EntriesFound (now (directory .entry)) n (now (pairs .entry)) (now (keys .entry)) (now (found .exit)) r ⌝ }
 {
     let mut lefts = [0usize; 64];

@@ -3,10 +3,12 @@ pub mod lanes;
 
 ghost use mathlib.Core.Path.{_≡_};
 ghost use Prim.Native.Nat.{_≤_};
+ghost use lib.Dec.{eqb};
 ghost use lib.ListN.{length};
 ghost use Rattle.layout.specs.Layout.{maxBlocks};
+ghost use Rattle.directory.specs.Read.{foundNo};
 ghost use Rattle.key_list.specs.KeyList.{KeyListOk};
-ghost use Rattle.batch_search.specs.Entries.{EntriesFound};
+ghost use Rattle.batch_search.specs.Entries.{foundEntry, EntriesFound};
 use directory::Found;
 
 // The most keys that are looked for at once.
@@ -20,20 +22,42 @@ const SOME_KEYS: usize = 8;
 
 const SOME_BLOCKS: usize = 1_024;
 
+// Whether a search met a key outside the directory.
+fn met_outside(search: Found) -> bool
+    ensures { λ r. ⌜ r ≡ eqb (foundNo search) 20 ⌝ }
+{
+    match search {
+        Found::At(_) => false,
+        Found::Above => false,
+        Found::Outside => true,
+    }
+}
+
+// The entry of what a search found.
+fn entry(search: Found) -> u64
+    ensures { λ r. ⌜ r ≡ foundEntry search ⌝ }
+{
+    match search {
+        Found::At(id) => id as u64,
+        Found::Above => NO_ID,
+        Found::Outside => NO_ID,
+    }
+}
+
 // One search after the other.
 fn one_by_one(directory: &[u8], n: usize, pairs: &[u64], keys: &[u8], found: &mut [u64; 64]) -> bool
-    requires { ⌜ (1 ≤ n) × (n ≤ maxBlocks) × KeyListOk 64 (now pairs) (length (now keys)) ⌝ }
+    requires { ⌜ (1 ≤ n) × (n ≤ maxBlocks) × KeyListOk 64 (now pairs) (length (now keys)) × (length (now found) ≡ 64) ⌝ }
     ensures { λ r. ⌜ EntriesFound (now (directory .entry)) n (now (pairs .entry)) (now (keys .entry)) (now (found .exit)) r ⌝ }
 {
     let count = pairs.len() / 2;
     let mut i: usize = 0;
     while i < count {
         let key = key_list::key(pairs, keys, i);
-        found[i] = match directory_read::locate_with_key(directory, n, key) {
-            Found::At(id) => id as u64,
-            Found::Above => NO_ID,
-            Found::Outside => return false,
-        };
+        let search = directory_read::locate_with_key(directory, n, key);
+        if met_outside(search) {
+            return false;
+        }
+        found[i] = entry(search);
         i += 1;
     }
     true
@@ -47,7 +71,7 @@ pub fn locate_with_keys(
     keys: &[u8],
     found: &mut [u64; 64],
 ) -> bool
-    requires { ⌜ (1 ≤ n) × (n ≤ maxBlocks) × KeyListOk 64 (now pairs) (length (now keys)) ⌝ }
+    requires { ⌜ (1 ≤ n) × (n ≤ maxBlocks) × KeyListOk 64 (now pairs) (length (now keys)) × (length (now found) ≡ 64) ⌝ }
     ensures { λ r. ⌜ EntriesFound (now (directory .entry)) n (now (pairs .entry)) (now (keys .entry)) (now (found .exit)) r ⌝ }
 {
     if n < SOME_BLOCKS {
