@@ -23,7 +23,7 @@ fn batch_bad(pairs: &[u64], keys: &[u8], room: usize) -> bool
 
 // Copies the first `count` entries to the front of the ids.
 fn write(found: &[u64; 64], count: usize, ids: &mut [u64])
-    requires { ⌜ (count ≤ 64) × (count ≤ length (now ids)) ⌝ }
+    requires { ⌜ (count ≤ 64) × (length (now found) ≡ 64) × (count ≤ length (now ids)) ⌝ }
     ensures { λ _. ⌜ now (ids .exit) ≡ sets (now (ids .entry)) 0 (take count (now (found .entry))) ⌝ }
 {
     let mut i: usize = 0;
@@ -52,8 +52,9 @@ pub fn locate_with_keys(
     if batch_bad(pairs, keys, ids.len()) {
         return KEY_LIST_BAD;
     }
-    let end = opened.directory + opened.directory_len;
-    let directory = &data[opened.directory..end];
+    let from = opened.directory;
+    let end = from + opened.directory_len;
+    let directory = &data[from..end];
     let mut found = [0u64; 64];
     if !batch_search::locate_with_keys(directory, opened.n, pairs, keys, &mut found) {
         return UNFIT;
