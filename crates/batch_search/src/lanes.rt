@@ -3,9 +3,10 @@
 ghost use mathlib.Core.Path.{_≡_};
 ghost use mathlib.Core.Bool.{true, false, cond};
 ghost use Prim.Native.Nat.{ℕ, _+_, _-_, _*_, _/_, _≤_, _<_, min};
-ghost use lib.Dec.{eqb};
+ghost use lib.Dec.{eqb, ltb};
 ghost use lib.ListN.{length, getD};
 ghost use Rattle.layout.specs.Layout.{maxBlocks};
+ghost use Rattle.keys.specs.Order.{less, commonPrefixLen};
 ghost use Rattle.directory.specs.Read.{keyOutside, Sorted};
 ghost use Rattle.key_list.specs.KeyList.{KeyListOk};
 ghost use Rattle.batch_search.specs.Entries.{noId, EntriesFound};
@@ -19,12 +20,32 @@ struct Lane {
     high: usize,
 }
 
-// One of two numbers, without a branch.
-fn pick(first: bool, a: usize, b: usize) -> usize
-    ensures { λ r. ⌜ r ≡ cond first a b ⌝ }
+// The byte at a place of a key and one more; 0 after its last byte.
+fn byte_from_1(key: &[u8], place: usize) -> usize
+    ensures { λ r. ⌜ (r ≡ cond (ltb place (length (now (key .entry)))) (getD (now (key .entry)) place 0 + 1) 0) × (r ≤ 256) ⌝ }
 {
-    let all = first as usize * 0xFFFF_FFFF_FFFF_FFFF;
-    (a & all) + (b & (0xFFFF_FFFF_FFFF_FFFF - all))
+    if place < key.len() {
+        return key[place] as usize + 1;
+    }
+    0
+}
+
+// 1 where `at` isn't below `key`, and 0 where it is, if they share `shared` bytes. By numbers alone: a test of what the bytes say would
+// go wrong every other time.
+fn not_below(at: &[u8], key: &[u8], shared: usize) -> usize
+    ensures { λ r. ⌜ (r ≤ 1) × (shared ≡ commonPrefixLen (now (at .entry)) (now (key .entry))
+        → r ≡ cond (less (now (at .entry)) (now (key .entry))) 0 1) ⌝ }
+{
+    (byte_from_1(at, shared) + 512 - byte_from_1(key, shared)) / 512
+}
+
+// The first of two numbers for 0, the second for 1, without a branch.
+fn pick(which: usize, first: usize, second: usize) -> usize
+    requires { ⌜ which ≤ 1 ⌝ }
+    ensures { λ r. ⌜ r ≡ cond (eqb which 0) first second ⌝ }
+{
+    let all = which * 0xFFFF_FFFF_FFFF_FFFF;
+    (second & all) + (first & (0xFFFF_FFFF_FFFF_FFFF - all))
 }
 
 // One turn of a search over `len` keys, which leaves it len / 2.
@@ -37,11 +58,11 @@ fn turn(directory: &[u8], n: usize, key: &[u8], len: usize, lane: Lane) -> Lane
     let at = directory_read::key(directory, n, lane.left + half - 1);
     let skip = directory_read::lesser(lane.low, lane.high);
     let shared = keys::common_prefix_len_by_runs(at, key, skip);
-    let below = keys::lt_behind(at, key, shared);
+    let right = not_below(at, key, shared);
     Lane {
-        left: lane.left + pick(below, half, 0),
-        low: pick(below, shared, lane.low),
-        high: pick(below, lane.high, shared),
+        left: lane.left + pick(right, half, 0),
+        low: pick(right, shared, lane.low),
+        high: pick(right, lane.high, shared),
     }
 }
 

@@ -1,13 +1,15 @@
 -- `batch_search::lanes::turn` meets its contract: the middle key decides which half is left.
 use borrow.Author.Needs.{needs}
-use mathlib.Core.Path.{_≡_, refl}
+use mathlib.Core.Path.{_≡_, refl, sym}
 use mathlib.Core.Bool.{Bool, true, false, cond}
 use Prim.Native.Nat.{ℕ, _+_, _-_, _/_, _≤_}
 use native.Mathlib.Omega.{arith}
+use lib.Dec.{eqb}
 use Rattle.keys.specs.Order.{less, commonPrefixLen}
 use Rattle.directory.specs.Read.{keyOf, Sorted}
 use Rattle.directory.proofs.Search.{counted, tested}
 use Rattle.batch_search.proofs.Turns.{middle-inside, skip-shared, turned}
+use Rattle.batch_search.proofs.Picked.{below-is-0}
 use Rattle.batch_search.proofs.lanes.turn.Statement.{statement}
 use Rattle.batch_search.proofs.lanes.turn.Tie as tie
 
@@ -35,23 +37,23 @@ lesser-requires c κs = search needs
 common-prefix-len-by-runs-requires : tie.Need-common-prefix-len-by-runs-requires
 common-prefix-len-by-runs-requires c κs = search needs
 
-lt-behind-requires : tie.Need-lt-behind-requires
-lt-behind-requires c κs = search needs
+not-below-requires : tie.Need-not-below-requires
+not-below-requires c κs = search needs
 
 pick-requires : tie.Need-pick-requires
-pick-requires c κs = search needs
+pick-requires c κs = c .not-below .ensures .0
 
 add-t12 : tie.Need-add-t12
 add-t12 c =
     let p = c .before in
     let s = p .before .before .before .before .before .before .before .before in
-    omega (arith, p .pick .ensures, half-most (p .before .lt-behind .result) (s .args .len), s .pre .3 .inside)
+    omega (arith, p .pick .ensures, half-most (eqb (p .before .not-below .result) 0) (s .args .len), s .pre .3 .inside)
 
 pick-requires-2 : tie.Need-pick-requires-2
-pick-requires-2 c κs = search needs
+pick-requires-2 c κs = c .before .before .not-below .ensures .0
 
 pick-requires-3 : tie.Need-pick-requires-3
-pick-requires-3 c κs = search needs
+pick-requires-3 c κs = c .before .before .before .not-below .ensures .0
 
 -- where keys rise, what the code counts is what the key in the middle shares
 shared-is : (c : tie.After-common-prefix-len-by-runs) →
@@ -77,8 +79,9 @@ returns c =
     let a = s .args in
     rw (p1 .pick .ensures, p2 .pick2 .ensures, c .pick3 .ensures)
     (turned (a .directory .now) (a .n) (a .key .now) (a .len) (a .lane .left) (a .lane .low) (a .lane .high) (s .pre .3) (s .pre .1)
-    (f .common-prefix-len-by-runs .result) (shared-is f) (l .lt-behind .result)
-    (λ sorted. tested (a .key .now) (k .key .ensures) (f .common-prefix-len-by-runs .result) (shared-is f sorted) (l .lt-behind .ensures) refl))
+    (f .common-prefix-len-by-runs .result) (shared-is f) (eqb (l .not-below .result) 0)
+    (λ sorted. tested (a .key .now) (k .key .ensures) (f .common-prefix-len-by-runs .result) (shared-is f sorted)
+    (λ shared. sym (below-is-0 _ _ (l .not-below .ensures .1 shared))) refl))
 
 pub turn-spec : {M : Type 1} → statement M
 turn-spec =
@@ -90,7 +93,7 @@ turn-spec =
     key-requires
     lesser-requires
     common-prefix-len-by-runs-requires
-    lt-behind-requires
+    not-below-requires
     pick-requires
     add-t12
     pick-requires-2
