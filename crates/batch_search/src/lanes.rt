@@ -56,7 +56,7 @@ fn turn(directory: &[u8], n: usize, key: &[u8], len: usize, lane: Lane) -> Lane
 {
     let half = len - len / 2;
     let at = directory_read::key(directory, n, lane.left + half - 1);
-    let skip = directory_read::lesser(lane.low, lane.high);
+    let skip = keys::lesser(lane.low, lane.high);
     let shared = keys::common_prefix_len_by_runs(at, key, skip);
     let right = not_below(at, key, shared);
     Lane {

@@ -116,7 +116,33 @@ fn first_other_run(left: &[u8], right: &[u8], from: usize, last: usize) -> usize
     64 + last
 }
 
-// The same as `common_prefix_len_from`, by runs first: faster for long keys, and larger.
+// The same as `common_prefix_len_from` for keys of eight bytes or more, by runs first: faster for long keys, and larger.
+fn common_prefix_len_far(left: &[u8], right: &[u8], from: usize, short: usize) -> usize
+    requires { ⌜ (short ≡ min (length (now left)) (length (now right))) × (8 ≤ short) ⌝ }
+    ensures { λ r. ⌜ (from ≤ commonPrefixLen (now (left .entry)) (now (right .entry))
+        → r ≡ commonPrefixLen (now (left .entry)) (now (right .entry))) ⌝ }
+{
+    let behind = if short < 64 {
+        from
+    } else {
+        first_other_run(left, right, from, short - 64)
+    };
+    let at = first_other_word(left, right, behind, short - 8);
+    at + common_of_word(left, right, at)
+}
+
+// The lesser of two lengths.
+pub fn lesser(a: usize, b: usize) -> usize
+    ensures { λ r. ⌜ r ≡ min a b ⌝ }
+{
+    if a < b {
+        return a;
+    }
+    b
+}
+
+// The same as `common_prefix_len_from`. It looks at the first word before it goes on by runs: a search that knows how many bytes are
+// in common mostly ends there.
 pub fn common_prefix_len_by_runs(left: &[u8], right: &[u8], from: usize) -> usize
     ensures { λ r. ⌜ (from ≤ commonPrefixLen (now (left .entry)) (now (right .entry))
         → r ≡ commonPrefixLen (now (left .entry)) (now (right .entry))) ⌝ }
@@ -125,13 +151,12 @@ pub fn common_prefix_len_by_runs(left: &[u8], right: &[u8], from: usize) -> usiz
     if short < 8 {
         return common_bytes(left, right, short);
     }
-    let behind = if short < 64 {
-        from
-    } else {
-        first_other_run(left, right, from, short - 64)
-    };
-    let at = first_other_word(left, right, behind, short - 8);
-    at + common_of_word(left, right, at)
+    let at = lesser(from, short - 8);
+    let near = common_of_word(left, right, at);
+    if near < 8 {
+        return at + near;
+    }
+    common_prefix_len_far(left, right, from, short)
 }
 
 // The common prefix, as the front of the first key: document 01's form.

@@ -1,9 +1,6 @@
--- `keys::common_prefix_len_by_runs` meets its contract: the common prefix ends within the word found.
+-- `keys::common_prefix_len_by_runs` meets its contract: the common prefix ends within the first word, or it is looked for further on.
 use borrow.Author.Needs.{needs}
-use Prim.Native.Nat.{_≤_}
-use mathlib.Core.Logic.{⊎-elim}
 use native.Mathlib.Omega.{arith}
-use Rattle.keys.specs.Order.{commonPrefixLen}
 use Rattle.keys.proofs.Order.{commonPrefixLen-left, commonPrefixLen-right}
 use Rattle.keys.proofs.Words.{commonPrefixLen-behind}
 use Rattle.keys.proofs.common_prefix_len_by_runs.Statement.{statement}
@@ -20,16 +17,8 @@ returns c =
     let a = c .before .before .before .before .before .args in
     λ h. omega (arith, commonPrefixLen-left (a .left .now) (a .right .now), commonPrefixLen-right (a .left .now) (a .right .now))
 
-first-other-run-requires : tie.Need-first-other-run-requires
-first-other-run-requires c κs = search needs
-
--- the runs passed are in common
-runs-passed : (c : tie.Joined2) → let a = c .before .before .before .before .before .args in
-    a .from ≤ commonPrefixLen (a .left .now) (a .right .now) → c .if2 .behind ≤ commonPrefixLen (a .left .now) (a .right .now)
-runs-passed c h = ⊎-elim (λ w. omega arith) (λ w. let p = w .1 .ensures h in omega arith) (c .if2 .came)
-
-first-other-word-requires : tie.Need-first-other-word-requires
-first-other-word-requires c κs = search needs
+lesser-requires : tie.Need-lesser-requires
+lesser-requires c κs = search needs
 
 common-of-word-requires : tie.Need-common-of-word-requires
 common-of-word-requires c κs = search needs
@@ -39,13 +28,15 @@ add-result c = search needs
 
 returns-2 : tie.Need-returns-2
 returns-2 c =
-    let m = c .before .before in
-    let a = m .before .before .before .before .before .args in
-    let w = c .before .first-other-word in
-    λ h.
-    let p = w .ensures .1 .0 (runs-passed m h) in
-    let q = w .ensures .1 .1 (runs-passed m h) in
-    omega (arith, commonPrefixLen-behind (w .result) (a .left .now) (a .right .now) p)
+    let l = c .before .before in
+    let a = l .before .before .before .before .before .args in
+    λ h. omega (arith, commonPrefixLen-behind (l .lesser .result) (a .left .now) (a .right .now) (omega arith))
+
+common-prefix-len-far-requires : tie.Need-common-prefix-len-far-requires
+common-prefix-len-far-requires c κs = search needs
+
+returns-3 : tie.Need-returns-3
+returns-3 c = search needs
 
 pub common-prefix-len-by-runs-spec : {M : Type 1} → statement M
 common-prefix-len-by-runs-spec =
@@ -54,8 +45,9 @@ common-prefix-len-by-runs-spec =
     shorter-requires
     common-bytes-requires
     returns
-    first-other-run-requires
-    first-other-word-requires
+    lesser-requires
     common-of-word-requires
     add-result
-    returns-2)
+    returns-2
+    common-prefix-len-far-requires
+    returns-3)
