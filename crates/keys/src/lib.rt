@@ -142,7 +142,7 @@ pub fn lesser(a: usize, b: usize) -> usize
 }
 
 // The same as `common_prefix_len_from`. It looks at the first word before it goes on by runs: a search that knows how many bytes are
-// in common mostly ends there.
+// in common mostly ends there. That this word is the last one comes first, since for short keys it always is.
 pub fn common_prefix_len_by_runs(left: &[u8], right: &[u8], from: usize) -> usize
     ensures { λ r. ⌜ (from ≤ commonPrefixLen (now (left .entry)) (now (right .entry))
         → r ≡ commonPrefixLen (now (left .entry)) (now (right .entry))) ⌝ }
@@ -153,6 +153,9 @@ pub fn common_prefix_len_by_runs(left: &[u8], right: &[u8], from: usize) -> usiz
     }
     let at = lesser(from, short - 8);
     let near = common_of_word(left, right, at);
+    if at + 8 == short {
+        return at + near;
+    }
     if near < 8 {
         return at + near;
     }

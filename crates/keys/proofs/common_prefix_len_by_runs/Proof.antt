@@ -23,6 +23,9 @@ lesser-requires c κs = search needs
 common-of-word-requires : tie.Need-common-of-word-requires
 common-of-word-requires c κs = search needs
 
+add-if2 : tie.Need-add-if2
+add-if2 c = search needs
+
 add-result : tie.Need-add-result
 add-result c = search needs
 
@@ -30,13 +33,28 @@ returns-2 : tie.Need-returns-2
 returns-2 c =
     let l = c .before .before in
     let a = l .before .before .before .before .before .args in
+    λ h.
+    omega (
+      arith,
+      commonPrefixLen-behind (l .lesser .result) (a .left .now) (a .right .now) (omega arith),
+      commonPrefixLen-left (a .left .now) (a .right .now),
+      commonPrefixLen-right (a .left .now) (a .right .now),
+    )
+
+add-result-2 : tie.Need-add-result-2
+add-result-2 c = search needs
+
+returns-3 : tie.Need-returns-3
+returns-3 c =
+    let l = c .before .before .before in
+    let a = l .before .before .before .before .before .args in
     λ h. omega (arith, commonPrefixLen-behind (l .lesser .result) (a .left .now) (a .right .now) (omega arith))
 
 common-prefix-len-far-requires : tie.Need-common-prefix-len-far-requires
 common-prefix-len-far-requires c κs = search needs
 
-returns-3 : tie.Need-returns-3
-returns-3 c = search needs
+returns-4 : tie.Need-returns-4
+returns-4 c = search needs
 
 pub common-prefix-len-by-runs-spec : {M : Type 1} → statement M
 common-prefix-len-by-runs-spec =
@@ -47,7 +65,10 @@ common-prefix-len-by-runs-spec =
     returns
     lesser-requires
     common-of-word-requires
+    add-if2
     add-result
     returns-2
+    add-result-2
+    returns-3
     common-prefix-len-far-requires
-    returns-3)
+    returns-4)
