@@ -1,6 +1,6 @@
 -- A batch: its tests, what is written, and the entries that are found said of the file.
 use mathlib.Core.Path.{_≡_, refl, sym, _∙_}
-use mathlib.Core.Bool.{Bool, true, false, true≢false}
+use mathlib.Core.Bool.{Bool, true, false, cond, true≢false}
 use mathlib.Core.Logic.{inl, inr}
 use mathlib.Core.List.{List, [], _∷_, _++_}
 use Prim.Native.Nat.{ℕ, _+_, _≤_, _<_}
@@ -59,6 +59,11 @@ write-next ids found i h =
     let s = sets-append ids (take i found) (getD found i 0 ∷ []) 0 in
     rw (add-one i, take-suc found i 0 h, ← s, zero-add (length (take i found)), l)
 
+-- none, or all of them
+pub at-most : (t : Bool) (count k : ℕ) → k ≡ cond t count 0 → k ≤ count
+at-most true count k e = omega (arith, e)
+at-most false count k e = omega (arith, e)
+
 -- the entries found are those that are written
 pub entries-of : (E : ℕ → ℕ → Type 0) (count : ℕ) (ids found : List ℕ) → count ≤ length found
     → ((i : ℕ) → i < count → E i (getD found i 0)) → Entries E count ids (sets ids 0 (take count found))
@@ -113,7 +118,7 @@ module _ (L : ℕ) (f : List ℕ) (opened : SSTableIndexV3) (pairs bytes ids : L
   module _ (fits : OpenedFits L opened (length f)) (good : batchBad pairs bytes (length ids) ≡ false)
       (d found : List ℕ) (is : d ≡ directoryAt opened f) (r : Bool) (searched : EntriesFound d (opened .n) pairs bytes found r) where
     -- a search met a key outside: then bytes and record aren't of one opening
-    pub late-answer : r ≡ false → LocateWithKeysBy L f opened pairs bytes ids ids 20
+    late-answer : r ≡ false → LocateWithKeysBy L f opened pairs bytes ids ids 20
     late-answer e =
         let never : OpensBy L f opened → ⊥ =
         λ o. true≢false (sym (searched .ends (file-sorted L f opened (opens-facts-by L f opened group o) d is)) ∙ e) in
@@ -126,7 +131,7 @@ module _ (L : ℕ) (f : List ℕ) (opened : SSTableIndexV3) (pairs bytes ids : L
           exact = λ o. absurd (never o);
         }
 
-    pub taken-answer : r ≡ true → LocateWithKeysBy L f opened pairs bytes ids (sets ids 0 (take (keyListCount pairs) found)) 0
+    taken-answer : r ≡ true → LocateWithKeysBy L f opened pairs bytes ids (sets ids 0 (take (keyListCount pairs) found)) 0
     taken-answer e =
         let few : keyListCount pairs ≤ length found =
         omega (arith, searched .long, batch-ok pairs bytes (length ids) good .list .few) in
@@ -149,3 +154,9 @@ module _ (L : ℕ) (f : List ℕ) (opened : SSTableIndexV3) (pairs bytes ids : L
                 refused = λ h. absurd (let z : ⊥ = omega arith in z);
               };
         }
+
+    -- what is written, and the number, either way
+    pub searched-answer : (t : Bool) → r ≡ t
+        → LocateWithKeysBy L f opened pairs bytes ids (sets ids 0 (take (cond t (keyListCount pairs) 0) found)) (cond t 0 20)
+    searched-answer true e = taken-answer e
+    searched-answer false e = late-answer e

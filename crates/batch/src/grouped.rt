@@ -1,5 +1,6 @@
 // The lookup of a batch with groups of a given length. All entries are there before the first of them is written.
 ghost use mathlib.Core.Path.{_≡_};
+ghost use mathlib.Core.Bool.{cond};
 ghost use Prim.Native.Nat.{_≤_};
 ghost use lib.ListN.{length, take};
 ghost use lib.Seq.{sets};
@@ -33,6 +34,19 @@ fn write(found: &[u64; 64], count: usize, ids: &mut [u64])
     }
 }
 
+// How many entries are written: none where a search didn't end.
+fn to_write(ended: bool, count: usize) -> usize
+    ensures { λ r. ⌜ r ≡ cond ended count 0 ⌝ }
+{
+    if ended { count } else { 0 }
+}
+
+fn answer(ended: bool) -> u32
+    ensures { λ r. ⌜ r ≡ cond ended 0 20 ⌝ }
+{
+    if ended { 0 } else { UNFIT }
+}
+
 // Writes the id of the block of each key at the front of `ids`. Returns a row's number, or 0.
 pub fn locate_with_keys(
     opened: SSTableIndexV3,
@@ -56,9 +70,9 @@ pub fn locate_with_keys(
     let end = from + opened.directory_len;
     let directory = &data[from..end];
     let mut found = [0u64; 64];
-    if !batch_search::locate_with_keys(directory, opened.n, pairs, keys, &mut found) {
-        return UNFIT;
-    }
-    write(&found, pairs.len() / 2, ids);
-    0
+    let ended = batch_search::locate_with_keys(directory, opened.n, pairs, keys, &mut found);
+    let count = pairs.len() / 2;
+    let entries = to_write(ended, count);
+    write(&found, entries, ids);
+    answer(ended)
 }

@@ -6,11 +6,10 @@ use Prim.Native.Nat.{_+_, _-_}
 use native.Mathlib.Nat.{add-sub-cancel-left}
 use native.Mathlib.Omega.{arith}
 use lib.ListN.{length, take, drop}
-use borrow.Author.Tests.{not-true, not-false}
 use Rattle.index.specs.Lookups.{OpenedFits, directoryAt}
 use Rattle.index.proofs.Fits.{opened-fits}
 use Rattle.batch.specs.Batch.{batchBad}
-use Rattle.batch.proofs.Batches.{batch-ok, unfit-answer, list-answer, late-answer, taken-answer}
+use Rattle.batch.proofs.Batches.{batch-ok, at-most, unfit-answer, list-answer, searched-answer}
 use Rattle.batch.proofs.grouped.locate_with_keys.Statement.{statement}
 use Rattle.batch.proofs.grouped.locate_with_keys.Tie as tie
 
@@ -63,34 +62,33 @@ part c =
     let a = c .before .before .before .before .before .before .before .before .before .before .before .before .args in
     rw (add-sub-cancel-left (a .opened .directory) (a .opened .«directory_len»))
 
-returns-3 : tie.Need-returns-3
-returns-3 c =
-    let b = c .before in
-    let g = b .before .before .before .before in
-    let e = g .before .before in
-    let s = e .before .before .before .before .before .before in
-    late-answer _ _ _ _ _ _ (s .pre) (fits e) (good g) _ _ (part b) _ (b .locate-with-keys .ensures) (not-true _ (c .if3 .taken))
+to-write-requires : tie.Need-to-write-requires
+to-write-requires c κs = search needs
 
 write-requires : tie.Need-write-requires
 write-requires c κs =
-    let b = c .before .before .before in
-    let g = b .before .before .before .before in
-    let ok = batch-ok _ _ _ (good g) in
-    (ok .list .few, b .locate-with-keys .ensures .long, ok .room-enough)
+    let w = c .before .before in
+    let b = w .before in
+    let ok = batch-ok _ _ _ (good (b .before .before .before .before)) in
+    let most = at-most (b .locate-with-keys .result) _ _ (w .to-write .ensures) in
+    (omega (arith, ok .list .few, most), b .locate-with-keys .ensures .long, omega (arith, ok .room-enough, most))
+
+answer-requires : tie.Need-answer-requires
+answer-requires c κs = search needs
 
 same-length : tie.Need-same-length
 same-length c = search needs
 
-returns-4 : tie.Need-returns-4
-returns-4 c =
-    let w = c .before .before in
-    let n = w .before .before .before in
-    let b = n .before in
+returns-3 : tie.Need-returns-3
+returns-3 c =
+    let w = c .before .before .before in
+    let t = w .before .before .before in
+    let b = t .before in
     let g = b .before .before .before .before in
     let e = g .before .before in
     let s = e .before .before .before .before .before .before in
-    rw (w .write .ensures)
-    (taken-answer _ _ _ _ _ _ (s .pre) (fits e) (good g) _ _ (part b) _ (b .locate-with-keys .ensures) (not-false _ (n .if3 .left)))
+    rw (w .write .ensures, t .to-write .ensures, c .answer .ensures)
+    (searched-answer _ _ _ _ _ _ (s .pre) (fits e) (good g) _ _ (part b) _ (b .locate-with-keys .ensures) _ refl)
 
 pub locate-with-keys-spec : {M : Type 1} → statement M
 locate-with-keys-spec =
@@ -105,7 +103,8 @@ locate-with-keys-spec =
     part-directory-start
     part-directory-end
     locate-with-keys-requires
-    returns-3
+    to-write-requires
     write-requires
+    answer-requires
     same-length
-    returns-4)
+    returns-3)
