@@ -179,7 +179,7 @@ impl<'a> Index<'a> {
     ///
     /// `pairs` has two numbers for each of up to [`MAX_BATCH_KEYS`] keys: its offset and its length in `keys`. Offsets
     /// don't fall from key to key. Keys may overlap, and an empty one may stand at the end of `keys`. The id of each key's
-    /// block, or [`NO_ID`] for a key above the last separator, is written to the front of `ids`; those behind stay.
+    /// block, or [`NO_ID`] for a key above the last separator, is written to the front of `ids`; those after them stay.
     ///
     /// # Errors
     ///

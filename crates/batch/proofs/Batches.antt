@@ -25,7 +25,7 @@ use Rattle.index.proofs.Answered.{bad-unopened}
 use Rattle.key_list.specs.KeyList.{keyListCount, keyListKey, keyListBad, KeyListOk}
 use Rattle.key_list.proofs.Pairs.{key-list-ok}
 use Rattle.batch_search.specs.Entries.{EntryIn, EntryExact, EntriesFound}
-use Rattle.batch.specs.Batch.{batchBad, Entries, BatchLeaves, LocateWithKeysBy}
+use Rattle.batch.specs.Batch.{batchBad, EntriesWritten, BatchLeaves, LocateWithKeysBy}
 
 -- ---- row 26
 
@@ -66,7 +66,7 @@ at-most false count k e = omega (arith, e)
 
 -- the entries found are those that are written
 pub entries-of : (E : ℕ → ℕ → Type 0) (count : ℕ) (ids found : List ℕ) → count ≤ length found
-    → ((i : ℕ) → i < count → E i (getD found i 0)) → Entries E count ids (sets ids 0 (take count found))
+    → ((i : ℕ) → i < count → E i (getD found i 0)) → EntriesWritten E count ids (sets ids 0 (take count found))
 entries-of E count ids found h p =
     record {
       list = take count found;

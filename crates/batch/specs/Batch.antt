@@ -7,6 +7,7 @@ use mathlib.Core.Bool.{Bool, true, false, _||_, cond}
 use lib.Dec.{ltb}
 use lib.ListN.{length, getD}
 use lib.Seq.{sets}
+use Rattle.layout.specs.Layout.{maxBatchKeys}
 use Rattle.index.specs.declared.SSTableIndexV3.{SSTableIndexV3}
 use Rattle.index.specs.Parts.{separatorIn}
 use Rattle.index.specs.Opening.{OpensBy, groupOf}
@@ -14,16 +15,16 @@ use Rattle.index.specs.Lookups.{openedBadBy}
 use Rattle.key_list.specs.KeyList.{keyListCount, keyListKey, keyListBad}
 use Rattle.batch_search.specs.Entries.{EntryIn, EntryExact}
 
--- row 26: a list of more than 64 keys, or one that is bad in itself, or fewer than its keys in places for ids
+-- row 26: a list of keys that is bad, 64 being the most, or fewer places for ids than keys
 unfoldable pub batchBad : List ℕ → List ℕ → ℕ → Bool
-batchBad pairs bytes room = keyListBad 64 pairs (length bytes) || ltb room (keyListCount pairs)
+batchBad pairs bytes room = keyListBad maxBatchKeys pairs (length bytes) || ltb room (keyListCount pairs)
 
 -- the number of a batch whose record and bytes are those of one opening
 abbrev pub batchNo : List ℕ → List ℕ → ℕ → ℕ
 batchNo pairs bytes room = cond (batchBad pairs bytes room) 26 0
 
 -- `count` entries, each as E says, were written at the front of the ids, and the ids after them stay
-pub record Entries (E : ℕ → ℕ → Type 0) (count : ℕ) (ids written : List ℕ) : Type 0 where
+pub record EntriesWritten (E : ℕ → ℕ → Type 0) (count : ℕ) (ids written : List ℕ) : Type 0 where
   pub list : List ℕ
   pub long : length list ≡ count
   pub each : (i : ℕ) → i < count → E i (getD list i 0)
@@ -31,7 +32,7 @@ pub record Entries (E : ℕ → ℕ → Type 0) (count : ℕ) (ids written : Lis
 
 -- what a call with number k leaves in the ids: the entries, or what was there
 pub record BatchLeaves (E : ℕ → ℕ → Type 0) (count : ℕ) (ids written : List ℕ) (k : ℕ) : Type 0 where
-  pub taken : k ≡ 0 → Entries E count ids written
+  pub taken : k ≡ 0 → EntriesWritten E count ids written
   pub refused : 0 < k → written ≡ ids
 
 -- each entry is what the single lookup of its key finds

@@ -4,11 +4,12 @@ ghost use mathlib.Core.Bool.{cond};
 ghost use Prim.Native.Nat.{_≤_};
 ghost use lib.ListN.{length, take};
 ghost use lib.Seq.{sets};
+ghost use Rattle.layout.specs.Layout.{maxBatchKeys};
 ghost use Rattle.store.specs.Facts.{GroupLenOk};
 ghost use Rattle.batch.specs.Batch.{batchBad, LocateWithKeysBy};
-use batch_search::MAX_KEYS;
 use index::SSTableIndexV3;
 use index_lookup::grouped::opened_bad;
+use layout::MAX_BATCH_KEYS;
 use layout::refusals::KEY_LIST_BAD;
 use layout::refusals::UNFIT;
 
@@ -16,15 +17,15 @@ use layout::refusals::UNFIT;
 fn batch_bad(pairs: &[u64], keys: &[u8], room: usize) -> bool
     ensures { λ r. ⌜ r ≡ batchBad (now (pairs .entry)) (now (keys .entry)) room ⌝ }
 {
-    if key_list::key_list_bad(pairs, keys.len(), MAX_KEYS) {
+    if key_list::key_list_bad(pairs, keys.len(), MAX_BATCH_KEYS) {
         return true;
     }
     room < pairs.len() / 2
 }
 
 // Copies the first `count` entries to the front of the ids.
-fn write(found: &[u64; 64], count: usize, ids: &mut [u64])
-    requires { ⌜ (count ≤ 64) × (length (now found) ≡ 64) × (count ≤ length (now ids)) ⌝ }
+fn write(found: &[u64; MAX_BATCH_KEYS], count: usize, ids: &mut [u64])
+    requires { ⌜ (count ≤ maxBatchKeys) × (length (now found) ≡ maxBatchKeys) × (count ≤ length (now ids)) ⌝ }
     ensures { λ _. ⌜ now (ids .exit) ≡ sets (now (ids .entry)) 0 (take count (now (found .entry))) ⌝ }
 {
     let mut i: usize = 0;
@@ -69,8 +70,8 @@ pub fn locate_with_keys(
     let from = opened.directory;
     let end = from + opened.directory_len;
     let directory = &data[from..end];
-    let mut found = [0u64; 64];
-    let ended = batch_search::locate_with_keys(directory, opened.n, pairs, keys, &mut found);
+    let mut found = [0u64; MAX_BATCH_KEYS];
+    let ended = batch_search::find_entries(directory, opened.n, pairs, keys, &mut found);
     let count = pairs.len() / 2;
     let entries = to_write(ended, count);
     write(&found, entries, ids);

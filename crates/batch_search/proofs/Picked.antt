@@ -41,7 +41,7 @@ not-below-number a b h g =
     (λ t. rw t (let l = ltb-true a b t in omega arith))
     (λ f. rw f (let l = ltb-false a b f in omega arith))
 
--- behind the common prefix these numbers are in the keys' order
+-- after the common prefix these numbers are in the keys' order
 ordered : (at key : List ℕ) → ltb (byteFrom1 at (commonPrefixLen at key)) (byteFrom1 key (commonPrefixLen at key)) ≡ less at key
 ordered at key =
     let s = commonPrefixLen at key in

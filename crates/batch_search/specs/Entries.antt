@@ -5,6 +5,7 @@ use mathlib.Core.List.{List}
 use mathlib.Core.Logic.{_⊎_}
 use mathlib.Core.Bool.{Bool, true}
 use lib.ListN.{length, getD}
+use Rattle.layout.specs.Layout.{maxBatchKeys}
 use Rattle.keys.specs.Order.{_≺_}
 use Rattle.directory.specs.Read.{First, Sorted, keyOf}
 use Rattle.directory.specs.declared.Found.{Found}
@@ -30,7 +31,7 @@ foundEntry Outside = noId
 
 -- what the searches for the keys of a list leave in `found`, where all of them ended at keys inside the directory d (r)
 pub record EntriesFound (d : List ℕ) (n : ℕ) (pairs bytes found : List ℕ) (r : Bool) : Type 0 where
-  pub long : length found ≡ 64
+  pub long : length found ≡ maxBatchKeys
   pub allowed : r ≡ true → (i : ℕ) → i < keyListCount pairs → EntryIn n (getD found i 0)
   pub ends : Sorted d n → r ≡ true
   pub exact : Sorted d n → (i : ℕ) → i < keyListCount pairs → EntryExact (keyOf d n) n (keyListKey pairs bytes i) (getD found i 0)

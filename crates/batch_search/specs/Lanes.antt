@@ -5,6 +5,7 @@ use mathlib.Core.List.{List}
 use mathlib.Core.Bool.{cond}
 use lib.Dec.{ltb}
 use lib.ListN.{length, getD}
+use Rattle.layout.specs.Layout.{maxBatchKeys}
 use Rattle.keys.specs.Order.{_≺_, _≼_, commonPrefixLen}
 use Rattle.directory.specs.Read.{Sorted, keyOf}
 use Rattle.key_list.specs.KeyList.{keyListCount, keyListKey}
@@ -20,8 +21,8 @@ pub record LaneOk (d : List ℕ) (n : ℕ) (key : List ℕ) (len left low high :
 
 -- all searches, of which the first m have taken the turn that halves `len`
 pub record LanesOk (d : List ℕ) (n : ℕ) (pairs bytes : List ℕ) (m len : ℕ) (lefts lows highs : List ℕ) : Type 0 where
-  pub lefts-long : length lefts ≡ 64
-  pub lows-long : length lows ≡ 64
-  pub highs-long : length highs ≡ 64
+  pub lefts-long : length lefts ≡ maxBatchKeys
+  pub lows-long : length lows ≡ maxBatchKeys
+  pub highs-long : length highs ≡ maxBatchKeys
   pub each : (i : ℕ) → i < keyListCount pairs
       → LaneOk d n (keyListKey pairs bytes i) (cond (ltb i m) (len / 2) len) (getD lefts i 0) (getD lows i 0) (getD highs i 0)

@@ -5,13 +5,14 @@ ghost use mathlib.Core.Bool.{true, false, cond};
 ghost use Prim.Native.Nat.{ℕ, _+_, _-_, _*_, _/_, _≤_, _<_, min};
 ghost use lib.Dec.{eqb, ltb};
 ghost use lib.ListN.{length, getD};
-ghost use Rattle.layout.specs.Layout.{maxBlocks};
+ghost use Rattle.layout.specs.Layout.{maxBlocks, maxBatchKeys};
 ghost use Rattle.keys.specs.Order.{less, commonPrefixLen};
 ghost use Rattle.directory.specs.Read.{keyOutside, Sorted};
 ghost use Rattle.key_list.specs.KeyList.{KeyListOk};
 ghost use Rattle.batch_search.specs.Entries.{noId, EntriesFound};
 ghost use Rattle.batch_search.specs.Lanes.{LaneOk, LanesOk};
 use crate::NO_ID;
+use layout::MAX_BATCH_KEYS;
 
 // A search: its left bound, and how many bytes the keys around its bounds share with its key.
 struct Lane {
@@ -73,11 +74,11 @@ fn round(
     pairs: &[u64],
     keys: &[u8],
     len: usize,
-    lefts: &mut [usize; 64],
-    lows: &mut [usize; 64],
-    highs: &mut [usize; 64],
+    lefts: &mut [usize; MAX_BATCH_KEYS],
+    lows: &mut [usize; MAX_BATCH_KEYS],
+    highs: &mut [usize; MAX_BATCH_KEYS],
 ) -> bool
-    requires { ⌜ (n ≤ maxBlocks) × (1 ≤ len) × KeyListOk 64 (now pairs) (length (now keys))
+    requires { ⌜ (n ≤ maxBlocks) × (1 ≤ len) × KeyListOk maxBatchKeys (now pairs) (length (now keys))
         × LanesOk (now directory) n (now pairs) (now keys) 0 len (now lefts) (now lows) (now highs) ⌝ }
     ensures { λ r. ⌜ (r ≡ true → LanesOk (now (directory .entry)) n (now (pairs .entry)) (now (keys .entry)) 0 (len / 2)
         (now (lefts .exit)) (now (lows .exit)) (now (highs .exit))) × (Sorted (now (directory .entry)) n → r ≡ true) ⌝ }
@@ -94,7 +95,7 @@ fn round(
         if directory_read::key_outside(directory, n, lane.left + half - 1) {
             return false;
         }
-        let next = turn(directory, n, key_list::key(pairs, keys, i), len, lane);
+        let next = turn(directory, n, key_list::nth_key(pairs, keys, i), len, lane);
         lefts[i] = next.left;
         lows[i] = next.low;
         highs[i] = next.high;
@@ -111,9 +112,9 @@ fn entry_at(left: usize, n: usize) -> u64
 }
 
 // The entries where every search is at its end.
-fn entries(lefts: &[usize; 64], count: usize, n: usize, found: &mut [u64; 64])
-    requires { ⌜ (count ≤ 64) × (length (now found) ≡ 64) ⌝ }
-    ensures { λ _. ⌜ (length (now (found .exit)) ≡ 64) × ((i : ℕ) → i < count
+fn entries(lefts: &[usize; MAX_BATCH_KEYS], count: usize, n: usize, found: &mut [u64; MAX_BATCH_KEYS])
+    requires { ⌜ (count ≤ maxBatchKeys) × (length (now found) ≡ maxBatchKeys) ⌝ }
+    ensures { λ _. ⌜ (length (now (found .exit)) ≡ maxBatchKeys) × ((i : ℕ) → i < count
         → getD (now (found .exit)) i 0 ≡ cond (eqb (getD (now (lefts .entry)) i 0) n) noId (getD (now (lefts .entry)) i 0)) ⌝ }
 {
     let mut i: usize = 0;
@@ -129,14 +130,14 @@ pub fn side_by_side(
     n: usize,
     pairs: &[u64],
     keys: &[u8],
-    found: &mut [u64; 64],
+    found: &mut [u64; MAX_BATCH_KEYS],
 ) -> bool
-    requires { ⌜ (1 ≤ n) × (n ≤ maxBlocks) × KeyListOk 64 (now pairs) (length (now keys)) × (length (now found) ≡ 64) ⌝ }
+    requires { ⌜ (1 ≤ n) × (n ≤ maxBlocks) × KeyListOk maxBatchKeys (now pairs) (length (now keys)) × (length (now found) ≡ maxBatchKeys) ⌝ }
     ensures { λ r. ⌜ EntriesFound (now (directory .entry)) n (now (pairs .entry)) (now (keys .entry)) (now (found .exit)) r ⌝ }
 {
-    let mut lefts = [0usize; 64];
-    let mut lows = [0usize; 64];
-    let mut highs = [0usize; 64];
+    let mut lefts = [0usize; MAX_BATCH_KEYS];
+    let mut lows = [0usize; MAX_BATCH_KEYS];
+    let mut highs = [0usize; MAX_BATCH_KEYS];
     let mut len = n;
     while len > 0 {
         if !round(

@@ -5,19 +5,17 @@ ghost use mathlib.Core.Path.{_≡_};
 ghost use Prim.Native.Nat.{_≤_};
 ghost use lib.Dec.{eqb};
 ghost use lib.ListN.{length};
-ghost use Rattle.layout.specs.Layout.{maxBlocks};
+ghost use Rattle.layout.specs.Layout.{maxBlocks, maxBatchKeys};
 ghost use Rattle.directory.specs.Read.{foundNo};
 ghost use Rattle.key_list.specs.KeyList.{KeyListOk};
 ghost use Rattle.batch_search.specs.Entries.{foundEntry, EntriesFound};
 use directory::Found;
-
-// The most keys that are looked for at once.
-pub const MAX_KEYS: usize = 64;
+use layout::MAX_BATCH_KEYS;
 
 // The entry of a key that is above the last separator.
 pub const NO_ID: u64 = 0xFFFF_FFFF_FFFF_FFFF;
 
-// Side by side searches pay where there are as many keys and as many blocks at least.
+// From as many keys and as many blocks on searches side by side are faster than one after the other.
 const SOME_KEYS: usize = 8;
 
 const SOME_BLOCKS: usize = 1_024;
@@ -45,14 +43,14 @@ fn entry(search: Found) -> u64
 }
 
 // One search after the other.
-fn one_by_one(directory: &[u8], n: usize, pairs: &[u64], keys: &[u8], found: &mut [u64; 64]) -> bool
-    requires { ⌜ (1 ≤ n) × (n ≤ maxBlocks) × KeyListOk 64 (now pairs) (length (now keys)) × (length (now found) ≡ 64) ⌝ }
+fn one_by_one(directory: &[u8], n: usize, pairs: &[u64], keys: &[u8], found: &mut [u64; MAX_BATCH_KEYS]) -> bool
+    requires { ⌜ (1 ≤ n) × (n ≤ maxBlocks) × KeyListOk maxBatchKeys (now pairs) (length (now keys)) × (length (now found) ≡ maxBatchKeys) ⌝ }
     ensures { λ r. ⌜ EntriesFound (now (directory .entry)) n (now (pairs .entry)) (now (keys .entry)) (now (found .exit)) r ⌝ }
 {
     let count = pairs.len() / 2;
     let mut i: usize = 0;
     while i < count {
-        let key = key_list::key(pairs, keys, i);
+        let key = key_list::nth_key(pairs, keys, i);
         let search = directory_read::locate_with_key(directory, n, key);
         if met_outside(search) {
             return false;
@@ -64,14 +62,14 @@ fn one_by_one(directory: &[u8], n: usize, pairs: &[u64], keys: &[u8], found: &mu
 }
 
 // Puts the entry of each key into `found`; false where a search meets a key outside the directory.
-pub fn locate_with_keys(
+pub fn find_entries(
     directory: &[u8],
     n: usize,
     pairs: &[u64],
     keys: &[u8],
-    found: &mut [u64; 64],
+    found: &mut [u64; MAX_BATCH_KEYS],
 ) -> bool
-    requires { ⌜ (1 ≤ n) × (n ≤ maxBlocks) × KeyListOk 64 (now pairs) (length (now keys)) × (length (now found) ≡ 64) ⌝ }
+    requires { ⌜ (1 ≤ n) × (n ≤ maxBlocks) × KeyListOk maxBatchKeys (now pairs) (length (now keys)) × (length (now found) ≡ maxBatchKeys) ⌝ }
     ensures { λ r. ⌜ EntriesFound (now (directory .entry)) n (now (pairs .entry)) (now (keys .entry)) (now (found .exit)) r ⌝ }
 {
     if n < SOME_BLOCKS {

@@ -39,7 +39,7 @@ unfoldable pub keyListBad : ℕ → List ℕ → ℕ → Bool
 keyListBad limit pairs room =
     eqb (length pairs % 2) 1 || (ltb limit (keyListCount pairs) || keyPairsBad pairs room (keyListCount pairs))
 
--- a list that doesn't hit it, in numbers
+-- what is used of a list that doesn't hit it, in numbers
 pub record KeyListOk (limit : ℕ) (pairs : List ℕ) (room : ℕ) : Type 0 where
   pub even : 2 * keyListCount pairs ≡ length pairs
   pub few : keyListCount pairs ≤ limit

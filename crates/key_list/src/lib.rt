@@ -51,7 +51,7 @@ pub fn key_list_bad(pairs: &[u64], room: usize, limit: usize) -> bool
 }
 
 // Key i of the list.
-pub fn key<'a>(pairs: &[u64], keys: &'a [u8], i: usize) -> &'a [u8]
+pub fn nth_key<'a>(pairs: &[u64], keys: &'a [u8], i: usize) -> &'a [u8]
     requires { ⌜ ((2 * i + 1 < length (now pairs))
         × (keyListOffset (now pairs) i + keyListLen (now pairs) i ≤ length (now keys))) ⌝ }
     ensures { λ r. ⌜ now r ≡ keyListKey (now (pairs .entry)) (now (keys .entry)) i ⌝ }

@@ -159,7 +159,7 @@ pub fn common_prefix_len_by_runs(left: &[u8], right: &[u8], from: usize) -> usiz
     if near < 8 {
         return at + near;
     }
-    common_prefix_len_far(left, right, from, short)
+    common_prefix_len_far(left, right, at + 8, short)
 }
 
 // The common prefix, as the front of the first key: document 01's form.

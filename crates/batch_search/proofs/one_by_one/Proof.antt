@@ -30,8 +30,8 @@ loop-holds c =
     let a = s .args in
     (omega arith, s .pre .3, each-none (EntryOk (a .directory .now) (a .n) (a .pairs .now) (a .keys .now)) (a .found .now))
 
-key-requires : tie.Need-key-requires Inv-loop μ-loop
-key-requires c κs =
+nth-key-requires : tie.Need-nth-key-requires Inv-loop μ-loop
+nth-key-requires c κs =
     let l = c .before in
     let s = l .before .before .before .before in
     (omega (arith, s .pre .2 .even), s .pre .2 .inside (l .loop .i) (omega arith))
@@ -48,7 +48,7 @@ is-found : (c : tie.After-locate-with-key Inv-loop μ-loop) →
     let a = l .before .before .before .before .args in
     Sorted (a .directory .now) (a .n)
     → FoundAs (keyOf (a .directory .now) (a .n)) (a .n) (keyListKey (a .pairs .now) (a .keys .now) (l .loop .i)) (c .locate-with-key .result)
-is-found c sorted = rw (c .before .key .ensures) at (c .locate-with-key .ensures .1 sorted)
+is-found c sorted = rw (c .before .nth-key .ensures) at (c .locate-with-key .ensures .1 sorted)
 
 returns : tie.Need-returns Inv-loop μ-loop
 returns c =
@@ -110,7 +110,7 @@ one-by-one-spec =
     Inv-loop
     μ-loop
     loop-holds
-    key-requires
+    nth-key-requires
     locate-with-key-requires
     met-outside-requires
     returns

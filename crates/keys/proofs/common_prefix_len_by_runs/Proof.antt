@@ -50,11 +50,17 @@ returns-3 c =
     let a = l .before .before .before .before .before .args in
     λ h. omega (arith, commonPrefixLen-behind (l .lesser .result) (a .left .now) (a .right .now) (omega arith))
 
+add-common-prefix-len-far : tie.Need-add-common-prefix-len-far
+add-common-prefix-len-far c = search needs
+
 common-prefix-len-far-requires : tie.Need-common-prefix-len-far-requires
 common-prefix-len-far-requires c κs = search needs
 
 returns-4 : tie.Need-returns-4
-returns-4 c = search needs
+returns-4 c =
+    let l = c .before .before .before .before in
+    let a = l .before .before .before .before .before .args in
+    λ h. c .common-prefix-len-far .ensures (omega (arith, commonPrefixLen-behind (l .lesser .result) (a .left .now) (a .right .now) (omega arith)))
 
 pub common-prefix-len-by-runs-spec : {M : Type 1} → statement M
 common-prefix-len-by-runs-spec =
@@ -70,5 +76,6 @@ common-prefix-len-by-runs-spec =
     returns-2
     add-result-2
     returns-3
+    add-common-prefix-len-far
     common-prefix-len-far-requires
     returns-4)

@@ -48,14 +48,14 @@ part-directory-start c = search needs
 part-directory-end : tie.Need-part-directory-end
 part-directory-end c = let e = c .before .before .before in fits e .directory
 
-locate-with-keys-requires : tie.Need-locate-with-keys-requires
-locate-with-keys-requires c κs =
+find-entries-requires : tie.Need-find-entries-requires
+find-entries-requires c κs =
     let g = c .before .before .before in
     let f = fits (g .before .before) in
     (f .some, f .few, batch-ok _ _ _ (good g) .list, refl)
 
 -- the part that is searched is the record's directory
-part : (c : tie.After-locate-with-keys) →
+part : (c : tie.After-find-entries) →
     let a = c .before .before .before .before .before .before .before .before .before .before .before .before .args in
     take (a .opened .directory + a .opened .«directory_len» - a .opened .directory) (drop (a .opened .directory) (a .«data» .now)) ≡ directoryAt (a .opened) (a .«data» .now)
 part c =
@@ -70,8 +70,8 @@ write-requires c κs =
     let w = c .before .before in
     let b = w .before in
     let ok = batch-ok _ _ _ (good (b .before .before .before .before)) in
-    let most = at-most (b .locate-with-keys .result) _ _ (w .to-write .ensures) in
-    (omega (arith, ok .list .few, most), b .locate-with-keys .ensures .long, omega (arith, ok .room-enough, most))
+    let most = at-most (b .find-entries .result) _ _ (w .to-write .ensures) in
+    (omega (arith, ok .list .few, most), b .find-entries .ensures .long, omega (arith, ok .room-enough, most))
 
 answer-requires : tie.Need-answer-requires
 answer-requires c κs = search needs
@@ -88,7 +88,7 @@ returns-3 c =
     let e = g .before .before in
     let s = e .before .before .before .before .before .before in
     rw (w .write .ensures, t .to-write .ensures, c .answer .ensures)
-    (searched-answer _ _ _ _ _ _ (s .pre) (fits e) (good g) _ _ (part b) _ (b .locate-with-keys .ensures) _ refl)
+    (searched-answer _ _ _ _ _ _ (s .pre) (fits e) (good g) _ _ (part b) _ (b .find-entries .ensures) _ refl)
 
 pub locate-with-keys-spec : {M : Type 1} → statement M
 locate-with-keys-spec =
@@ -102,7 +102,7 @@ locate-with-keys-spec =
     sub-directory
     part-directory-start
     part-directory-end
-    locate-with-keys-requires
+    find-entries-requires
     to-write-requires
     write-requires
     answer-requires

@@ -71,8 +71,8 @@ returns c =
     let t = c .before .before .before .before .before .before in
     (λ e. absurd (true≢false (sym e)), λ sorted. absurd (true≢false (sym (c .if1 .taken) ∙ c .before .key-outside .ensures ∙ sorted .inside _ (within t))))
 
-key-requires : tie.Need-key-requires Inv-loop μ-loop
-key-requires c κs =
+nth-key-requires : tie.Need-nth-key-requires Inv-loop μ-loop
+nth-key-requires c κs =
     let t = c .before .before .before .before .before .before in
     let l = t .before in
     let s = l .before .before .before .before in
@@ -83,7 +83,7 @@ turn-requires c κs =
     let e = c .before in
     let t = e .before .before .before .before .before .before in
     let s = t .before .before .before .before .before in
-    (s .pre .0, s .pre .1, sym (e .before .key-outside .ensures) ∙ e .if1 .left, rw (c .key .ensures) (lane t))
+    (s .pre .0, s .pre .1, sym (e .before .key-outside .ensures) ∙ e .if1 .left, rw (c .nth-key .ensures) (lane t))
 
 mul-lefts : tie.Need-mul-lefts Inv-loop μ-loop
 mul-lefts c = search needs
@@ -118,7 +118,7 @@ loop-again c =
     let a = s .args in (
       omega arith,
       lanes-next (a .directory .now) (a .n) (a .pairs .now) (a .keys .now) (a .len) (l .loop .i) (c .turn .result .left) (c .turn .result .low) (c .turn .result .high)
-          (l .loop .lefts) (l .loop .lows) (l .loop .highs) (l .loop .inv .1) (omega (arith, s .pre .2 .few)) (rw (k .key .ensures) at (c .turn .ensures)),
+          (l .loop .lefts) (l .loop .lows) (l .loop .highs) (l .loop .inv .1) (omega (arith, s .pre .2 .few)) (rw (k .nth-key .ensures) at (c .turn .ensures)),
     )
 
 returns-2 : tie.Need-returns-2 Inv-loop μ-loop
@@ -146,7 +146,7 @@ round-spec =
     sub-key-outside
     key-outside-requires
     returns
-    key-requires
+    nth-key-requires
     turn-requires
     mul-lefts
     element-write-lefts

@@ -1,10 +1,10 @@
--- `key_list::key` meets its contract: the part from the pair's offset on, as long as its length.
+-- `key_list::nth_key` meets its contract: the part from the pair's offset on, as long as its length.
 use borrow.Author.Needs.{needs}
 use native.Mathlib.Nat.{add-sub-cancel-left}
 use Prim.Native.Nat.{_+_, _*_}
 use lib.ListN.{getD}
-use Rattle.key_list.proofs.key.Statement.{statement}
-use Rattle.key_list.proofs.key.Tie as tie
+use Rattle.key_list.proofs.nth_key.Statement.{statement}
+use Rattle.key_list.proofs.nth_key.Tie as tie
 
 mul-from : tie.Need-mul-from
 mul-from c = search needs
@@ -44,8 +44,8 @@ returns c =
     let a = c .before .before .before .args in
     rw (add-sub-cancel-left (getD (a .pairs .now) (2 * a .i) 0) (getD (a .pairs .now) (2 * a .i + 1) 0))
 
-pub key-spec : {M : Type 1} → statement M
-key-spec =
+pub nth-key-spec : {M : Type 1} → statement M
+nth-key-spec =
     tie.close
     (tie.spec
     mul-from
