@@ -112,7 +112,12 @@ fn entry_at(left: usize, n: usize) -> u64
 }
 
 // The entries where every search is at its end.
-fn entries(lefts: &[usize; MAX_BATCH_KEYS], count: usize, n: usize, found: &mut [u64; MAX_BATCH_KEYS])
+fn entries(
+    lefts: &[usize; MAX_BATCH_KEYS],
+    count: usize,
+    n: usize,
+    found: &mut [u64; MAX_BATCH_KEYS],
+)
     requires { ⌜ (count ≤ maxBatchKeys) × (length (now found) ≡ maxBatchKeys) ⌝ }
     ensures { λ _. ⌜ (length (now (found .exit)) ≡ maxBatchKeys) × ((i : ℕ) → i < count
         → getD (now (found .exit)) i 0 ≡ cond (eqb (getD (now (lefts .entry)) i 0) n) noId (getD (now (lefts .entry)) i 0)) ⌝ }

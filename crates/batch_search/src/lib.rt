@@ -43,7 +43,13 @@ fn entry(search: Found) -> u64
 }
 
 // One search after the other.
-fn one_by_one(directory: &[u8], n: usize, pairs: &[u64], keys: &[u8], found: &mut [u64; MAX_BATCH_KEYS]) -> bool
+fn one_by_one(
+    directory: &[u8],
+    n: usize,
+    pairs: &[u64],
+    keys: &[u8],
+    found: &mut [u64; MAX_BATCH_KEYS],
+) -> bool
     requires { ⌜ (1 ≤ n) × (n ≤ maxBlocks) × KeyListOk maxBatchKeys (now pairs) (length (now keys)) × (length (now found) ≡ maxBatchKeys) ⌝ }
     ensures { λ r. ⌜ EntriesFound (now (directory .entry)) n (now (pairs .entry)) (now (keys .entry)) (now (found .exit)) r ⌝ }
 {

@@ -72,6 +72,20 @@ fn are_entries(ids: &[u64], count: usize, n: u64) -> bool {
     untouched(ids, i)
 }
 
+// The call with the first `room` of the ids.
+fn ask(
+    opened: SSTableIndexV3,
+    data: &[u8],
+    pairs: &[u64],
+    keys: &[u8],
+    ids: &mut [u64],
+    room: usize,
+) -> u32
+    requires { ⌜ room ≤ length (now ids) ⌝ }
+{
+    batch::locate_with_keys(opened, data, pairs, keys, &mut ids[0..room])
+}
+
 // ROOM WORDS W .. NO ID ..
 pub fn exact(opened: SSTableIndexV3, data: &[u8], keys: &[u8], given: &[u64]) -> bool {
     let end = words_end(given);
@@ -83,7 +97,7 @@ pub fn exact(opened: SSTableIndexV3, data: &[u8], keys: &[u8], given: &[u64]) ->
         return false;
     }
     let mut ids = [JUNK; MOST_ROOM];
-    let no = batch::locate_with_keys(opened, data, &given[2..end], keys, &mut ids[0..room]);
+    let no = ask(opened, data, &given[2..end], keys, &mut ids, room);
     if given[end] != no as u64 {
         return false;
     }
@@ -101,7 +115,7 @@ pub fn left_free(opened: SSTableIndexV3, data: &[u8], keys: &[u8], given: &[u64]
         return false;
     }
     let mut ids = [JUNK; MOST_ROOM];
-    let no = batch::locate_with_keys(opened, data, &given[2..end], keys, &mut ids[0..room]);
+    let no = ask(opened, data, &given[2..end], keys, &mut ids, room);
     match no {
         0 => are_entries(&ids, (end - 2) / 2, opened.n as u64),
         20 | 26 => untouched(&ids, 0),
