@@ -49,6 +49,19 @@ fn pick(which: usize, first: usize, second: usize) -> usize
     (second & all) + (first & (0xFFFF_FFFF_FFFF_FFFF - all))
 }
 
+// How many bytes a key of the directory and a search's own have in common, if the first `from` are. As in the single search: what
+// is seldom needed stays out of the turn.
+fn shared_len(at: &[u8], key: &[u8], from: usize) -> usize
+    ensures { λ r. ⌜ (from ≤ commonPrefixLen (now (at .entry)) (now (key .entry))
+        → r ≡ commonPrefixLen (now (at .entry)) (now (key .entry))) ⌝ }
+{
+    let near = keys::common_prefix_near(at, key, from);
+    if near.ends {
+        return near.len;
+    }
+    keys::common_prefix_len_by_runs(at, key, near.len)
+}
+
 // One turn of a search over `len` keys, which leaves it len / 2.
 fn turn(directory: &[u8], n: usize, key: &[u8], len: usize, lane: Lane) -> Lane
     requires { ⌜ (n ≤ maxBlocks) × (1 ≤ len) × (keyOutside (now directory) n (lane .left + (len - len / 2) - 1) ≡ false)
@@ -58,7 +71,7 @@ fn turn(directory: &[u8], n: usize, key: &[u8], len: usize, lane: Lane) -> Lane
     let half = len - len / 2;
     let at = directory_read::key(directory, n, lane.left + half - 1);
     let skip = keys::lesser(lane.low, lane.high);
-    let shared = keys::common_prefix_len_by_runs(at, key, skip);
+    let shared = shared_len(at, key, skip);
     let right = not_below(at, key, shared);
     Lane {
         left: lane.left + pick(right, half, 0),

@@ -2,6 +2,7 @@
 ghost use mathlib.Core.Path.{_≡_};
 ghost use Prim.Native.Nat.{ℕ, _+_, _≤_, _<_, min};
 ghost use mathlib.Core.List.{List};
+ghost use mathlib.Core.Bool.{true};
 ghost use lib.ListN.{length, take, drop, getD};
 ghost use lib.Dec.{ltb};
 ghost use lib.Seq.{sets};
@@ -116,12 +117,15 @@ fn first_other_run(left: &[u8], right: &[u8], from: usize, last: usize) -> usize
     64 + last
 }
 
-// The same as `common_prefix_len_from` for keys of eight bytes or more, by runs first: faster for long keys, and larger.
-fn common_prefix_len_far(left: &[u8], right: &[u8], from: usize, short: usize) -> usize
-    requires { ⌜ (short ≡ min (length (now left)) (length (now right))) × (8 ≤ short) ⌝ }
+// The same as `common_prefix_len_from`, by runs first: faster for long keys, and larger.
+pub fn common_prefix_len_by_runs(left: &[u8], right: &[u8], from: usize) -> usize
     ensures { λ r. ⌜ (from ≤ commonPrefixLen (now (left .entry)) (now (right .entry))
         → r ≡ commonPrefixLen (now (left .entry)) (now (right .entry))) ⌝ }
 {
+    let short = shorter(left, right);
+    if short < 8 {
+        return common_bytes(left, right, short);
+    }
     let behind = if short < 64 {
         from
     } else {
@@ -141,25 +145,32 @@ pub fn lesser(a: usize, b: usize) -> usize
     b
 }
 
-// The same as `common_prefix_len_from`. It looks at the first word before it goes on by runs: a search that knows how many bytes are
-// in common mostly ends there. That this word is the last one comes first, since for short keys it always is.
-pub fn common_prefix_len_by_runs(left: &[u8], right: &[u8], from: usize) -> usize
+// How many bytes are in common up to the end of one word, and whether the common prefix ends there.
+pub struct Near {
+    pub len: usize,
+    pub ends: bool,
+}
+
+// What the first word from `from` on says of the common prefix, if the first `from` bytes are in common. A search that knows how many
+// are seldom has to look further; for keys of one word it never has to.
+pub fn common_prefix_near(left: &[u8], right: &[u8], from: usize) -> Near
     ensures { λ r. ⌜ (from ≤ commonPrefixLen (now (left .entry)) (now (right .entry))
-        → r ≡ commonPrefixLen (now (left .entry)) (now (right .entry))) ⌝ }
+        → (r .len ≤ commonPrefixLen (now (left .entry)) (now (right .entry)))
+        × (r .ends ≡ true → r .len ≡ commonPrefixLen (now (left .entry)) (now (right .entry)))) ⌝ }
 {
     let short = shorter(left, right);
     if short < 8 {
-        return common_bytes(left, right, short);
+        return Near {
+            len: common_bytes(left, right, short),
+            ends: true,
+        };
     }
     let at = lesser(from, short - 8);
     let near = common_of_word(left, right, at);
-    if at + 8 == short {
-        return at + near;
+    Near {
+        len: at + near,
+        ends: (near < 8) | (at + 8 == short),
     }
-    if near < 8 {
-        return at + near;
-    }
-    common_prefix_len_far(left, right, at + 8, short)
 }
 
 // The common prefix, as the front of the first key: document 01's form.

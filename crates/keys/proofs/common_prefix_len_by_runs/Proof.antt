@@ -1,6 +1,9 @@
--- `keys::common_prefix_len_by_runs` meets its contract: the common prefix ends within the first word, or it is looked for further on.
+-- `keys::common_prefix_len_by_runs` meets its contract: the common prefix ends within the word found.
 use borrow.Author.Needs.{needs}
+use Prim.Native.Nat.{_≤_}
+use mathlib.Core.Logic.{⊎-elim}
 use native.Mathlib.Omega.{arith}
+use Rattle.keys.specs.Order.{commonPrefixLen}
 use Rattle.keys.proofs.Order.{commonPrefixLen-left, commonPrefixLen-right}
 use Rattle.keys.proofs.Words.{commonPrefixLen-behind}
 use Rattle.keys.proofs.common_prefix_len_by_runs.Statement.{statement}
@@ -17,50 +20,32 @@ returns c =
     let a = c .before .before .before .before .before .args in
     λ h. omega (arith, commonPrefixLen-left (a .left .now) (a .right .now), commonPrefixLen-right (a .left .now) (a .right .now))
 
-lesser-requires : tie.Need-lesser-requires
-lesser-requires c κs = search needs
+first-other-run-requires : tie.Need-first-other-run-requires
+first-other-run-requires c κs = search needs
+
+-- the runs passed are in common
+runs-passed : (c : tie.Joined2) → let a = c .before .before .before .before .before .args in
+    a .from ≤ commonPrefixLen (a .left .now) (a .right .now) → c .if2 .behind ≤ commonPrefixLen (a .left .now) (a .right .now)
+runs-passed c h = ⊎-elim (λ w. omega arith) (λ w. let p = w .1 .ensures h in omega arith) (c .if2 .came)
+
+first-other-word-requires : tie.Need-first-other-word-requires
+first-other-word-requires c κs = search needs
 
 common-of-word-requires : tie.Need-common-of-word-requires
 common-of-word-requires c κs = search needs
-
-add-if2 : tie.Need-add-if2
-add-if2 c = search needs
 
 add-result : tie.Need-add-result
 add-result c = search needs
 
 returns-2 : tie.Need-returns-2
 returns-2 c =
-    let l = c .before .before in
-    let a = l .before .before .before .before .before .args in
+    let m = c .before .before in
+    let a = m .before .before .before .before .before .args in
+    let w = c .before .first-other-word in
     λ h.
-    omega (
-      arith,
-      commonPrefixLen-behind (l .lesser .result) (a .left .now) (a .right .now) (omega arith),
-      commonPrefixLen-left (a .left .now) (a .right .now),
-      commonPrefixLen-right (a .left .now) (a .right .now),
-    )
-
-add-result-2 : tie.Need-add-result-2
-add-result-2 c = search needs
-
-returns-3 : tie.Need-returns-3
-returns-3 c =
-    let l = c .before .before .before in
-    let a = l .before .before .before .before .before .args in
-    λ h. omega (arith, commonPrefixLen-behind (l .lesser .result) (a .left .now) (a .right .now) (omega arith))
-
-add-common-prefix-len-far : tie.Need-add-common-prefix-len-far
-add-common-prefix-len-far c = search needs
-
-common-prefix-len-far-requires : tie.Need-common-prefix-len-far-requires
-common-prefix-len-far-requires c κs = search needs
-
-returns-4 : tie.Need-returns-4
-returns-4 c =
-    let l = c .before .before .before .before in
-    let a = l .before .before .before .before .before .args in
-    λ h. c .common-prefix-len-far .ensures (omega (arith, commonPrefixLen-behind (l .lesser .result) (a .left .now) (a .right .now) (omega arith)))
+    let p = w .ensures .1 .0 (runs-passed m h) in
+    let q = w .ensures .1 .1 (runs-passed m h) in
+    omega (arith, commonPrefixLen-behind (w .result) (a .left .now) (a .right .now) p)
 
 pub common-prefix-len-by-runs-spec : {M : Type 1} → statement M
 common-prefix-len-by-runs-spec =
@@ -69,13 +54,8 @@ common-prefix-len-by-runs-spec =
     shorter-requires
     common-bytes-requires
     returns
-    lesser-requires
+    first-other-run-requires
+    first-other-word-requires
     common-of-word-requires
-    add-if2
     add-result
-    returns-2
-    add-result-2
-    returns-3
-    add-common-prefix-len-far
-    common-prefix-len-far-requires
-    returns-4)
+    returns-2)

@@ -34,8 +34,8 @@ key-requires c κs =
 lesser-requires : tie.Need-lesser-requires
 lesser-requires c κs = search needs
 
-common-prefix-len-by-runs-requires : tie.Need-common-prefix-len-by-runs-requires
-common-prefix-len-by-runs-requires c κs = search needs
+shared-len-requires : tie.Need-shared-len-requires
+shared-len-requires c κs = search needs
 
 not-below-requires : tie.Need-not-below-requires
 not-below-requires c κs = search needs
@@ -56,17 +56,17 @@ pick-requires-3 : tie.Need-pick-requires-3
 pick-requires-3 c κs = c .before .before .before .not-below .ensures .0
 
 -- where keys rise, what the code counts is what the key in the middle shares
-shared-is : (c : tie.After-common-prefix-len-by-runs) →
+shared-is : (c : tie.After-shared-len) →
     let s = c .before .before .before .before .before .before in
     let a = s .args in
     Sorted (a .directory .now) (a .n)
-    → c .common-prefix-len-by-runs .result ≡ commonPrefixLen (keyOf (a .directory .now) (a .n) (a .lane .left + (a .len - a .len / 2) - 1)) (a .key .now)
+    → c .shared-len .result ≡ commonPrefixLen (keyOf (a .directory .now) (a .n) (a .lane .left + (a .len - a .len / 2) - 1)) (a .key .now)
 shared-is c sorted =
     let k = c .before .before in
     let s = k .before .before .before .before in
     let a = s .args in
-    counted (a .key .now) (k .key .ensures) (c .before .lesser .result) (c .common-prefix-len-by-runs .result)
-    (omega (arith, skip-shared _ _ _ _ _ _ _ (s .pre .3) (s .pre .1) sorted)) (c .common-prefix-len-by-runs .ensures)
+    counted (a .key .now) (k .key .ensures) (c .before .lesser .result) (c .shared-len .result)
+    (omega (arith, skip-shared _ _ _ _ _ _ _ (s .pre .3) (s .pre .1) sorted)) (c .shared-len .ensures)
 
 returns : tie.Need-returns
 returns c =
@@ -79,8 +79,8 @@ returns c =
     let a = s .args in
     rw (p1 .pick .ensures, p2 .pick2 .ensures, c .pick3 .ensures)
     (turned (a .directory .now) (a .n) (a .key .now) (a .len) (a .lane .left) (a .lane .low) (a .lane .high) (s .pre .3) (s .pre .1)
-    (f .common-prefix-len-by-runs .result) (shared-is f) (eqb (l .not-below .result) 0)
-    (λ sorted. tested (a .key .now) (k .key .ensures) (f .common-prefix-len-by-runs .result) (shared-is f sorted)
+    (f .shared-len .result) (shared-is f) (eqb (l .not-below .result) 0)
+    (λ sorted. tested (a .key .now) (k .key .ensures) (f .shared-len .result) (shared-is f sorted)
     (λ shared. sym (below-is-0 _ _ (l .not-below .ensures .1 shared))) refl))
 
 pub turn-spec : {M : Type 1} → statement M
@@ -92,7 +92,7 @@ turn-spec =
     sub-key
     key-requires
     lesser-requires
-    common-prefix-len-by-runs-requires
+    shared-len-requires
     not-below-requires
     pick-requires
     add-t12
