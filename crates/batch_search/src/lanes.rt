@@ -150,7 +150,8 @@ pub fn side_by_side(
     keys: &[u8],
     found: &mut [u64; MAX_BATCH_KEYS],
 ) -> bool
-    requires { ⌜ (1 ≤ n) × (n ≤ maxBlocks) × KeyListOk maxBatchKeys (now pairs) (length (now keys)) × (length (now found) ≡ maxBatchKeys) ⌝ }
+    requires { ⌜ (1 ≤ n) × (n ≤ maxBlocks) × KeyListOk maxBatchKeys (now pairs) (length (now keys))
+        × (length (now found) ≡ maxBatchKeys) ⌝ }
     ensures { λ r. ⌜ EntriesFound (now (directory .entry)) n (now (pairs .entry)) (now (keys .entry)) (now (found .exit)) r ⌝ }
 {
     let mut lefts = [0usize; MAX_BATCH_KEYS];

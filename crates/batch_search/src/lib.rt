@@ -50,7 +50,8 @@ fn one_by_one(
     keys: &[u8],
     found: &mut [u64; MAX_BATCH_KEYS],
 ) -> bool
-    requires { ⌜ (1 ≤ n) × (n ≤ maxBlocks) × KeyListOk maxBatchKeys (now pairs) (length (now keys)) × (length (now found) ≡ maxBatchKeys) ⌝ }
+    requires { ⌜ (1 ≤ n) × (n ≤ maxBlocks) × KeyListOk maxBatchKeys (now pairs) (length (now keys))
+        × (length (now found) ≡ maxBatchKeys) ⌝ }
     ensures { λ r. ⌜ EntriesFound (now (directory .entry)) n (now (pairs .entry)) (now (keys .entry)) (now (found .exit)) r ⌝ }
 {
     let count = pairs.len() / 2;
@@ -75,7 +76,8 @@ pub fn find_entries(
     keys: &[u8],
     found: &mut [u64; MAX_BATCH_KEYS],
 ) -> bool
-    requires { ⌜ (1 ≤ n) × (n ≤ maxBlocks) × KeyListOk maxBatchKeys (now pairs) (length (now keys)) × (length (now found) ≡ maxBatchKeys) ⌝ }
+    requires { ⌜ (1 ≤ n) × (n ≤ maxBlocks) × KeyListOk maxBatchKeys (now pairs) (length (now keys))
+        × (length (now found) ≡ maxBatchKeys) ⌝ }
     ensures { λ r. ⌜ EntriesFound (now (directory .entry)) n (now (pairs .entry)) (now (keys .entry)) (now (found .exit)) r ⌝ }
 {
     if n < SOME_BLOCKS {

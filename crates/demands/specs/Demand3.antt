@@ -59,8 +59,8 @@ pub record Finds (es : List Entry) (f : List ℕ) (opened : SSTableIndexV3) : Ty
   pub by-key : (key : List ℕ) (k id : ℕ) → LocateWithKey f opened key k id → ByKeyExact (entrySeparator es) (length es) key k id
   pub address-by-key : (key : List ℕ) (k id : ℕ) (addr : BlockAddr) → GetBlockWithKey f opened key k id addr
       → AddrByKeyExact (entrySeparator es) (entryBlock es) (length es) key k id addr
-  -- 18.14: a batch of keys is refused for its list or for fewer ids than keys (26) alone; else what is written for each key is the first block whose
-  -- separator isn't below it, or 2^64 - 1 for none, and the ids after the last one stay
+  -- 18.14: a batch of keys is refused for its list or for fewer ids than keys (26) alone; else what is written for each key is the
+  -- first block whose separator isn't below it, or 2^64 - 1 for none, and the ids after the last one stay
   pub by-keys : (pairs bytes ids written : List ℕ) (k : ℕ) → LocateWithKeys f opened pairs bytes ids written k
       → (k ≡ batchNo pairs bytes (length ids)) × BatchExact (entrySeparator es) (length es) pairs bytes ids written k
   -- the separator by id is separator i, at its own place; other ids have none
