@@ -31,11 +31,6 @@ pub fits : (i v : ℕ) → 0 < i → v / 2 ^ 32 < i → v / i < 2 ^ 32
 fits i v pos h = below-div (2 ^ 32) i v pos (omega arith)
 
 module _ (s i v : ℕ) (pos : 0 < i) (few : s < 2 ^ 32) where
-  pub at-most : v < s * i + i → v / i % 2 ^ 32 ≤ s
-  at-most h =
-      let d = below-div (suc s) i v pos (rw suc-mul h) in
-      rw (mod-eq-of-lt {n = v / i} {m = 2 ^ 32} (omega arith)) (omega arith)
-
   pub above : v / i < 2 ^ 32 → s * i + i ≤ v → s < v / i % 2 ^ 32
   above fit h = at-least (suc s) i v pos fit (rw suc-mul h)
 

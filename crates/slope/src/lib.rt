@@ -66,11 +66,16 @@ fn uncut_extremes(
         let p = at + stride * j;
         let v = area[p] - base;
         let i = j as u64 + 1;
-        if v < low.slope * i + i {
-            low = near(i, v, low.slope);
+        let lo = low.slope * i;
+        if v < lo {
+            low = Point::new(i, v);
+        } else if v - lo < i {
             if low.slope == high.slope {
-                high = low;
+                high.i = i;
+                high.v = v;
             }
+            low.i = i;
+            low.v = v;
         } else if v >= high.slope * i {
             if i <= v / 0x1_0000_0000 {
                 return Extremes { low, high, j };

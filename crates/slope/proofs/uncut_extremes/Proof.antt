@@ -1,13 +1,14 @@
 -- `slope::uncut_extremes` meets its contract: each point that it passes fits 32 bits, and where it lies says what is kept.
 use borrow.Author.Needs.{needs}
-use Prim.Native.Nat.{_+_, _-_, _*_, _/_, _%_, _^_, _≤_}
-use mathlib.Core.Path.{refl}
+use Prim.Native.Nat.{_+_, _-_, _*_, _/_, _%_, _^_, _<_}
+use mathlib.Core.Path.{_≡_, refl, sym}
 use mathlib.Core.Logic.{⊎-elim}
 use native.Mathlib.Omega.{arith}
 use Rattle.slope.specs.Column.{ValueOk}
 use Rattle.slope.specs.Extremes.{ExtremesAt}
+use Rattle.slope.specs.declared.Point as code
 use lib.ListN.{getD}
-use Rattle.slope.proofs.Step.{room, at-most, at-least, above, above-below, below, fits}
+use Rattle.slope.proofs.Step.{room, level, at-least, above, above-below, below, fits}
 use Rattle.slope.proofs.Points.{kept-both, kept-low, kept-high, kept-stays, slope-fits}
 use Rattle.slope.proofs.uncut_extremes.Statement.{statement}
 use Rattle.slope.proofs.uncut_extremes.Tie as tie
@@ -45,29 +46,24 @@ sub-v c = value (c .before) .above
 add-i : tie.Need-add-i Inv-loop μ-loop
 add-i c = search needs
 
-mul-if1 : tie.Need-mul-if1 Inv-loop μ-loop
-mul-if1 c =
+mul-lo : tie.Need-mul-lo Inv-loop μ-loop
+mul-lo c =
     let loop = c .before .before .before .loop in
     omega (arith, room (loop .low .slope) (loop .j + 1) (slope-fits _ (loop .low) (loop .inv .lows)) (omega arith))
 
-add-if1 : tie.Need-add-if1 Inv-loop μ-loop
-add-if1 c =
-    let loop = c .before .before .before .loop in
-    omega (arith, room (loop .low .slope) (loop .j + 1) (slope-fits _ (loop .low) (loop .inv .lows)) (omega arith))
+new-requires : tie.Need-new-requires Inv-loop μ-loop
+new-requires c κs = search needs
 
-near-requires : tie.Need-near-requires Inv-loop μ-loop
-near-requires c κs = search needs
-
-mul-if3 : tie.Need-mul-if3 Inv-loop μ-loop
-mul-if3 c =
-    let loop = c .before .before .before .before .before .loop in
+mul-if4 : tie.Need-mul-if4 Inv-loop μ-loop
+mul-if4 c =
+    let loop = c .before .before .before .before .before .before .loop in
     omega (arith, room (loop .high .slope) (loop .j + 1) (slope-fits _ (loop .high) (loop .inv .highs)) (omega arith))
 
 returns : tie.Need-returns Inv-loop μ-loop
 returns c = search needs
 
-near-requires-2 : tie.Need-near-requires-2 Inv-loop μ-loop
-near-requires-2 c κs = search needs
+near-requires : tie.Need-near-requires Inv-loop μ-loop
+near-requires c κs = search needs
 
 add-j : tie.Need-add-j Inv-loop μ-loop
 add-j c = search needs
@@ -87,21 +83,29 @@ loop-again c =
     let fewer = slope-fits _ (loop .high) (kept .highs) in
     let at = in-loop .loop-test .taken in
     let ok = value in-loop in
+    let tied : code.Point = record { i = i; v = v; slope = loop .low .slope } in
     ⊎-elim
     (λ w.
-    let most : w .1 .result .slope ≤ loop .low .slope = rw (w .1 .ensures .2) (at-most (loop .low .slope) i v (omega arith) few (omega (arith, w .0 .taken))) in
-    rw (w .5, w .6) (kept-both _ _ _ _ _ _ _ (w .1 .result) _ at kept ok (w .1 .ensures) most (omega (arith, w .4 .taken))))
+    let less : w .1 .result .slope < loop .low .slope = rw (w .1 .ensures .2) (below (loop .low .slope) i v (omega arith) few (omega (arith, w .0 .taken))) in
+    rw (w .2, w .3) (kept-low _ _ _ _ _ _ _ (w .1 .result) _ at kept ok (w .1 .ensures) (omega (arith, less)) (omega (arith, less, kept .ordered))))
     (⊎-elim
     (λ w.
-    let most : w .1 .result .slope ≤ loop .low .slope = rw (w .1 .ensures .2) (at-most (loop .low .slope) i v (omega arith) few (omega (arith, w .0 .taken))) in
-    rw (w .5, w .6) (kept-low _ _ _ _ _ _ _ (w .1 .result) _ at kept ok (w .1 .ensures) most (omega (arith, most, kept .ordered, w .4 .left))))
+    let e : loop .low .slope ≡ loop .high .slope = omega (arith, w .4 .taken) in
+    let new = level (loop .low .slope) i v (omega arith) few (omega (arith, w .0 .left)) (omega (arith, w .0 .left, w .1 .taken)) in
+    rw (w .5, w .6, ← e) (kept-both _ _ _ _ _ _ _ tied _ at kept ok (refl, refl, sym new) (omega arith) (omega (arith, e))))
     (⊎-elim
-    (λ w. rw (w .5, w .6) (kept-high _ _ _ _ _ _ _ (w .4 .result) _ at kept ok (w .4 .ensures)
-    (rw (w .4 .ensures .2) (above (loop .low .slope) i v (omega arith) few (fits i v (omega arith) (omega (arith, w .3 .left))) (omega (arith, w .0 .left))))
-    (rw (w .4 .ensures .2) (at-least (loop .high .slope) i v (omega arith) (fits i v (omega arith) (omega (arith, w .3 .left))) (omega (arith, w .2 .taken))))))
-    (λ w. rw (w .3, w .4) (kept-stays _ _ _ _ _ _ _ (record { i = i; v = v; slope = v / i % 2 ^ 32 }) _ at kept ok (refl, refl, refl)
-    (above-below (loop .low .slope) i v (omega arith) few (loop .high .slope) fewer (omega (arith, w .2 .left)) (omega (arith, w .0 .left)))
-    (below (loop .high .slope) i v (omega arith) fewer (omega (arith, w .2 .left)))))))
+    (λ w.
+    let new = level (loop .low .slope) i v (omega arith) few (omega (arith, w .0 .left)) (omega (arith, w .0 .left, w .1 .taken)) in
+    rw (w .5, w .6) (kept-low _ _ _ _ _ _ _ tied _ at kept ok (refl, refl, sym new) (omega arith) (omega (arith, kept .ordered, w .4 .left))))
+    (⊎-elim
+    (λ w.
+    let fit = fits i v (omega arith) (omega (arith, w .4 .left)) in
+    rw (w .6, w .7) (kept-high _ _ _ _ _ _ _ (w .5 .result) _ at kept ok (w .5 .ensures)
+    (rw (w .5 .ensures .2) (above (loop .low .slope) i v (omega arith) few fit (omega (arith, w .0 .left, w .1 .left))))
+    (rw (w .5 .ensures .2) (at-least (loop .high .slope) i v (omega arith) fit (omega (arith, w .3 .taken))))))
+    (λ w. rw (w .4, w .5) (kept-stays _ _ _ _ _ _ _ (record { i = i; v = v; slope = v / i % 2 ^ 32 }) _ at kept ok (refl, refl, refl)
+    (above-below (loop .low .slope) i v (omega arith) few (loop .high .slope) fewer (omega (arith, w .3 .left)) (omega (arith, w .0 .left, w .1 .left)))
+    (below (loop .high .slope) i v (omega arith) fewer (omega (arith, w .3 .left))))))))
     (c .if1 .came)
 
 returns-2 : tie.Need-returns-2 Inv-loop μ-loop
@@ -120,12 +124,11 @@ uncut-extremes-spec =
     shared-slice-read-v
     sub-v
     add-i
-    mul-if1
-    add-if1
-    near-requires
-    mul-if3
+    mul-lo
+    new-requires
+    mul-if4
     returns
-    near-requires-2
+    near-requires
     add-j
     loop-less
     loop-again
