@@ -1,3 +1,3 @@
 pub mod Slope
 pub mod Column
-pub mod Step
+pub mod Extremes

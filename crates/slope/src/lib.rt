@@ -1,10 +1,8 @@
 // `find_best_slope` of src/index/v3.rs, over values taken from a lent area.
 ghost use mathlib.Core.Path.{_≡_};
 ghost use Prim.Native.Nat.{_+_, _-_, _*_, _/_, _%_, _^_, _≤_, _<_, max};
-ghost use mathlib.Core.Bool.{true, cond};
-ghost use lib.Dec.{leb};
 ghost use Rattle.slope.specs.Slope.{bestSlope, maxDerivation, widthOf};
-ghost use Rattle.slope.specs.Step.{LowerOf, HigherOf};
+ghost use Rattle.slope.specs.Extremes.{New, ExtremesAt};
 ghost use Rattle.slope.specs.Column.{column, ColumnOk};
 
 // A point with its slope.
@@ -17,7 +15,7 @@ struct Point {
 impl Point {
     fn new(i: u64, v: u64) -> Point
         requires { ⌜ 0 < i ⌝ }
-        ensures { λ r. ⌜ (r .i ≡ i) × (r .v ≡ v) × (r .slope ≡ v / i % 2 ^ 32) ⌝ }
+        ensures { λ r. ⌜ New i v r ⌝ }
     {
         Point {
             i,
@@ -27,78 +25,97 @@ impl Point {
     }
 }
 
-// The point of the lower slope; a tie goes to the later one.
-fn lower(earlier: Point, later: Point) -> Point
-    ensures { λ r. ⌜ r ≡ cond (leb (later .slope) (earlier .slope)) later earlier ⌝ }
+// The point (i, v). Slopes that are s lie from s × i on, below s × i + i: there no division is needed.
+fn near(i: u64, v: u64, s: u64) -> Point
+    requires { ⌜ (0 < i) × (i ≤ 2 ^ 31) × (s < 2 ^ 32) ⌝ }
+    ensures { λ r. ⌜ New i v r ⌝ }
 {
-    if later.slope <= earlier.slope {
-        later
-    } else {
-        earlier
-    }
-}
-
-fn higher(earlier: Point, later: Point) -> Point
-    ensures { λ r. ⌜ r ≡ cond (leb (earlier .slope) (later .slope)) later earlier ⌝ }
-{
-    if later.slope >= earlier.slope {
-        later
-    } else {
-        earlier
-    }
-}
-
-// The slopes of (i, v) that are s lie from s × i on, below s × i + i. So most points need no division.
-
-// Whether the slope of (i, v) is above the one and below the other; so it fits 32 bits.
-fn inside(low: u64, high: u64, i: u64, v: u64) -> bool
-    requires { ⌜ (0 < i) × (i ≤ 2 ^ 31) × (low < 2 ^ 32) × (high < 2 ^ 32) ⌝ }
-    ensures { λ r. ⌜ (r ≡ true → (low < v / i % 2 ^ 32) × (v / i % 2 ^ 32 < high)) ⌝ }
-{
-    if v < low * i + i {
-        return false;
-    }
-    v < high * i
-}
-
-// The lower of a point and the later (i, v).
-fn lower_with(low: Point, i: u64, v: u64) -> Point
-    requires { ⌜ (0 < i) × (i ≤ 2 ^ 31) × (low .slope < 2 ^ 32) ⌝ }
-    ensures { λ r. ⌜ LowerOf (low .i) (low .v) (low .slope) i v (r .i) (r .v) (r .slope) ⌝ }
-{
-    let at = low.slope * i;
+    let at = s * i;
     if v >= at {
-        if v < at + i {
-            return Point {
-                i,
-                v,
-                slope: low.slope,
-            };
-        }
-        if v / 0x1_0000_0000 < i {
-            return low;
+        if v - at < i {
+            return Point { i, v, slope: s };
         }
     }
-    lower(low, Point::new(i, v))
+    Point::new(i, v)
 }
 
-// The higher of a point and the later (i, v).
-fn higher_with(high: Point, i: u64, v: u64) -> Point
-    requires { ⌜ (0 < i) × (i ≤ 2 ^ 31) × (high .slope < 2 ^ 32) ⌝ }
-    ensures { λ r. ⌜ HigherOf (high .i) (high .v) (high .slope) i v (r .i) (r .v) (r .slope) ⌝ }
+// The lowest and the highest of the points before place j; a tie goes to the later one.
+struct Extremes {
+    low: Point,
+    high: Point,
+    j: usize,
+}
+
+// Up to the first point whose slope takes more than 32 bits; it lies above the highest. Most of the others need no division.
+fn uncut_extremes(
+    area: &[u64],
+    at: usize,
+    stride: usize,
+    base: u64,
+    count: usize,
+    start: Extremes,
+) -> Extremes
+    requires { ⌜ ColumnOk (now area) at stride base count
+        × ExtremesAt (now area) at stride base count (start .low) (start .high) (start .j) ⌝ }
+    ensures { λ r. ⌜ ExtremesAt (now (area .entry)) at stride base count (r .low) (r .high) (r .j) ⌝ }
 {
-    let at = high.slope * i;
-    if v < at {
-        return high;
+    let mut low = start.low;
+    let mut high = start.high;
+    let mut j = start.j;
+    while j < count {
+        let p = at + stride * j;
+        let v = area[p] - base;
+        let i = j as u64 + 1;
+        let lo = low.slope * i;
+        if v < lo {
+            low = Point::new(i, v);
+        } else if v - lo < i {
+            if low.slope == high.slope {
+                high.i = i;
+                high.v = v;
+            }
+            low.i = i;
+            low.v = v;
+        } else if v >= high.slope * i {
+            if i <= v / 0x1_0000_0000 {
+                return Extremes { low, high, j };
+            }
+            high = near(i, v, high.slope);
+        }
+        j += 1;
     }
-    if v - at < i {
-        return Point {
-            i,
-            v,
-            slope: high.slope,
-        };
+    Extremes { low, high, j }
+}
+
+// Up to the end, with each slope worked out and cut to 32 bits.
+fn cut_extremes(
+    area: &[u64],
+    at: usize,
+    stride: usize,
+    base: u64,
+    count: usize,
+    start: Extremes,
+) -> Extremes
+    requires { ⌜ ColumnOk (now area) at stride base count
+        × ExtremesAt (now area) at stride base count (start .low) (start .high) (start .j) ⌝ }
+    ensures { λ r. ⌜ ExtremesAt (now (area .entry)) at stride base count (r .low) (r .high) (r .j) × (count ≤ r .j) ⌝ }
+{
+    let mut low = start.low;
+    let mut high = start.high;
+    let mut j = start.j;
+    while j < count {
+        let p = at + stride * j;
+        let v = area[p] - base;
+        let later = Point::new(j as u64 + 1, v);
+        if later.slope <= low.slope {
+            low = later;
+        }
+        if later.slope >= high.slope {
+            high = later;
+        }
+        j += 1;
     }
-    higher(high, Point::new(i, v))
+    Extremes { low, high, j }
 }
 
 // The slope between the lowest and the highest point, rounded.
@@ -119,27 +136,14 @@ pub fn best_slope(area: &[u64], at: usize, stride: usize, base: u64, count: usiz
         return 0;
     }
     let first = Point::new(1, area[at] - base);
-    let mut low = first;
-    let mut high = first;
-    let mut j: usize = 1;
-    while j < count {
-        let p = at + stride * j;
-        let v = area[p] - base;
-        let i = j as u64 + 1;
-        if !inside(low.slope, high.slope, i, v) {
-            // a slope that is cut is worked out once for both
-            if i <= v / 0x1_0000_0000 {
-                let cut = Point::new(i, v);
-                low = lower(low, cut);
-                high = higher(high, cut);
-            } else {
-                low = lower_with(low, i, v);
-                high = higher_with(high, i, v);
-            }
-        }
-        j += 1;
-    }
-    between(low, high)
+    let start = Extremes {
+        low: first,
+        high: first,
+        j: 1,
+    };
+    let uncut = uncut_extremes(area, at, stride, base, count, start);
+    let all = cut_extremes(area, at, stride, base, count, uncut);
+    between(all.low, all.high)
 }
 
 fn abs_diff(a: u64, b: u64) -> u64

@@ -19,7 +19,7 @@ use layout::META_LEN;
 use layout::refusals::OUT_SHORT;
 
 // The numbers of a record in the window.
-const STRIDE: usize = 3;
+pub const STRIDE: usize = 3;
 
 pub struct BlockAddrStoreWriter {
     // whether it is at its end, and the record that comes next
@@ -94,15 +94,14 @@ impl BlockAddrStoreWriter {
         flushed.end_round(out)
     }
 
-    // Whether after the next record another one of its group follows.
-    pub fn is_within(self) -> bool
+    // How many records come before the last one of their group or of the list.
+    pub fn before_last(self) -> usize
         requires { ⌜ (self .held < self .«group_len») × (self .next < self .n) ⌝ }
-        ensures { λ r. ⌜ (r ≡ true → (self .held + 1 < self .«group_len») × (self .next + 1 < self .n)) ⌝ }
+        ensures { λ r. ⌜ (self .held + r < self .«group_len») × (self .next + r < self .n) ⌝ }
     {
-        if self.held + 1 >= self.group_len {
-            return false;
-        }
-        self.next + 1 < self.n
+        let group = self.group_len - self.held - 1;
+        let list = self.n - self.next - 1;
+        if group < list { group } else { list }
     }
 
     // Puts the record into the window; in the first round it is looked at too.

@@ -8,8 +8,11 @@ ghost use mathlib.Core.Bool.{false};
 ghost use Rattle.store_slice.specs.Writer.{Rooms, Underway, KeepsOn};
 ghost use Rattle.store.specs.Facts.{GroupLenOk};
 use group::BlockAddr;
+use group::area::END;
+use group::area::FIRST_ORDINAL;
 use store_slice::Stored;
 use store_slice::writer::BlockAddrStoreWriter;
+use store_slice::writer::STRIDE;
 
 // As many records take small areas, so that a short list doesn't clear the large ones.
 const FEW: usize = 16;
@@ -26,7 +29,8 @@ fn record_of(numbers: [u64; 3]) -> BlockAddr
     }
 }
 
-// Hands over the records before the last of their group or of the list: these are only held.
+// Hands over the records before the last of their group or of the list: these are only held. A writer handed on from record to
+// record would cost more than the copying, so it moves past all of them at once.
 fn hold_group(
     blocks: &[[u64; 3]],
     writer: BlockAddrStoreWriter,
@@ -36,13 +40,26 @@ fn hold_group(
     ensures { λ r. ⌜ (r .done ≡ false)
         × KeepsOn (blocksOfNumbers (now (blocks .entry))) writer (now (window .entry)) r (now (window .exit)) ⌝ }
 {
-    let mut held = writer;
-    while held.is_within() {
-        let at = held.next;
-        let numbers = blocks[at];
-        let next = held.hold(record_of(numbers), window);
-        held = next;
+    let count = writer.before_last();
+    let mut seen = writer.seen;
+    let mut k: usize = 0;
+    while k < count {
+        let next = writer.next + k;
+        let numbers = blocks[next];
+        let at = STRIDE * (writer.held + k);
+        window[at] = numbers[0];
+        window[at + END] = numbers[1];
+        window[at + FIRST_ORDINAL] = numbers[2];
+        if !writer.writing {
+            let with = seen.with(record_of(numbers));
+            seen = with;
+        }
+        k += 1;
     }
+    let mut held = writer;
+    held.seen = seen;
+    held.next = writer.next + k;
+    held.held = writer.held + k;
     held
 }
 
