@@ -18,7 +18,7 @@ pub const NO_ID: u64 = 0xFFFF_FFFF_FFFF_FFFF;
 // From as many keys and as many blocks on searches side by side are faster than one after the other.
 const SOME_KEYS: usize = 8;
 
-const SOME_BLOCKS: usize = 1_024;
+const SOME_BLOCKS: usize = 4_096;
 
 // Whether a search met a key outside the directory.
 fn met_outside(search: Found) -> bool

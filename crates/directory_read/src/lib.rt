@@ -5,7 +5,6 @@ ghost use Prim.Native.Nat.{_+_, _*_, _^_, _≤_, _<_};
 ghost use lib.ListN.{length};
 ghost use Rattle.layout.specs.Layout.{maxBlocks};
 ghost use Rattle.serialize.specs.Digits.{numberAt};
-ghost use Rattle.keys.specs.Order.{commonPrefixLen};
 ghost use Rattle.directory.specs.Read.{keyPosition, keyOf, keyOutside};
 ghost use Rattle.directory.specs.Read.{Sorted, FoundIn, FoundAs};
 use directory::Found;
@@ -49,18 +48,6 @@ pub fn key_outside(directory: &[u8], n: usize, i: usize) -> bool
     directory.len() < 4 + PAIR_LEN * n + number(directory, at) + number(directory, at + 4)
 }
 
-// How many bytes a key of the directory and the one looked for have in common, if the first `from` are.
-fn shared_len(at: &[u8], key: &[u8], from: usize) -> usize
-    ensures { λ r. ⌜ (from ≤ commonPrefixLen (now (at .entry)) (now (key .entry))
-        → r ≡ commonPrefixLen (now (at .entry)) (now (key .entry))) ⌝ }
-{
-    let near = keys::common_prefix_near(at, key, from);
-    if near.ends {
-        return near.len;
-    }
-    keys::common_prefix_len_by_runs(at, key, near.len)
-}
-
 // The first of n keys that isn't below `key`: a binary search. The key before `left` and the key at `right` share
 // `left_shared` and `right_shared` bytes with `key`; where keys rise, those between them share at least the lesser of the two.
 // The search ends at a key equal to `key`: neither has a byte behind the shared ones.
@@ -79,7 +66,11 @@ pub fn locate_with_key(directory: &[u8], n: usize, key: &[u8]) -> Found
             return Found::Outside;
         }
         let at = self::key(directory, n, mid);
-        let shared = shared_len(at, key, keys::lesser(left_shared, right_shared));
+        let shared = keys::common_prefix_len_by_runs(
+            at,
+            key,
+            keys::lesser(left_shared, right_shared),
+        );
         if shared >= key.len() {
             if shared >= at.len() {
                 return Found::At(mid);

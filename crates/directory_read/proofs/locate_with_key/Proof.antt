@@ -68,15 +68,15 @@ key-requires c κs = (search needs, search needs, sym (c .before .key-outside .e
 lesser-requires : tie.Need-lesser-requires Inv-loop μ-loop
 lesser-requires c κs = search needs
 
-shared-len-requires : tie.Need-shared-len-requires Inv-loop μ-loop
-shared-len-requires c κs = search needs
+common-prefix-len-by-runs-requires : tie.Need-common-prefix-len-by-runs-requires Inv-loop μ-loop
+common-prefix-len-by-runs-requires c κs = search needs
 
 -- where keys rise, what the code counts is what the key in the middle shares
-shared-is : (c : tie.After-shared-len Inv-loop μ-loop) →
+shared-is : (c : tie.After-common-prefix-len-by-runs Inv-loop μ-loop) →
     let l = c .before .before .before .before .before .before in
     let a = l .before .before .before .args in
     Sorted (a .directory .now) (a .n)
-    → c .shared-len .result ≡ commonPrefixLen (keyOf (a .directory .now) (a .n) (middle (l .loop .left) (l .loop .right))) (a .key .now)
+    → c .common-prefix-len-by-runs .result ≡ commonPrefixLen (keyOf (a .directory .now) (a .n) (middle (l .loop .left) (l .loop .right))) (a .key .now)
 shared-is c sorted =
     let k = c .before .before in
     let l = k .before .before .before .before in
@@ -84,15 +84,15 @@ shared-is c sorted =
     let mid = middle (l .loop .left) (l .loop .right) in
     let s =
     lesser-shared (keyOf (a .directory .now) (a .n) mid) (a .key .now) (l .loop .left-shared) (l .loop .right-shared) (l .loop .inv .4 sorted mid (omega arith) (omega arith)) (l .loop .inv .5 sorted mid (omega arith)) in
-    counted (a .key .now) (k .key .ensures) (c .before .lesser .result) (c .shared-len .result) (omega arith) (c .shared-len .ensures)
+    counted (a .key .now) (k .key .ensures) (c .before .lesser .result) (c .common-prefix-len-by-runs .result) (omega arith) (c .common-prefix-len-by-runs .ensures)
 
 -- with the key in the middle not below the key, the middle is the new right bound
-turned-right : (c : tie.After-shared-len Inv-loop μ-loop) →
+turned-right : (c : tie.After-common-prefix-len-by-runs Inv-loop μ-loop) →
     let l = c .before .before .before .before .before .before in
     let a = l .before .before .before .args in
     let mid = middle (l .loop .left) (l .loop .right) in
     (Sorted (a .directory .now) (a .n) → a .key .now ≼ keyOf (a .directory .now) (a .n) mid)
-    → Inv-loop (a .directory .now) (a .n) (a .key .now) 0 (a .n) 0 0 (l .loop .left) mid (l .loop .left-shared) (c .shared-len .result)
+    → Inv-loop (a .directory .now) (a .n) (a .key .now) 0 (a .n) 0 0 (l .loop .left) mid (l .loop .left-shared) (c .common-prefix-len-by-runs .result)
 turned-right c p =
     let l = c .before .before .before .before .before .before in
     let a = l .before .before .before .args in
@@ -129,7 +129,7 @@ returns-2 c =
       λ sorted. record {
         inside = within;
         not-below = not-below-shared (c .before) sorted;
-        earlier = all-before (a .directory .now) (a .n) sorted mid (a .key .now) within (whole (a .key .now) (k .key .ensures) (f .shared-len .result) (shared-is f sorted) (c .if3 .taken));
+        earlier = all-before (a .directory .now) (a .n) sorted mid (a .key .now) within (whole (a .key .now) (k .key .ensures) (f .common-prefix-len-by-runs .result) (shared-is f sorted) (c .if3 .taken));
       },
     )
 
@@ -157,7 +157,7 @@ loop-again-2 c =
     let mid = middle (l .loop .left) (l .loop .right) in (
       omega arith,
       l .loop .inv .1,
-      λ sorted. all-below (a .directory .now) (a .n) sorted mid (a .key .now) (omega arith) (tested (a .key .now) (k .key .ensures) (f .shared-len .result) (shared-is f sorted) (c .before .lt-behind .ensures) (c .if4 .taken)),
+      λ sorted. all-below (a .directory .now) (a .n) sorted mid (a .key .now) (omega arith) (tested (a .key .now) (k .key .ensures) (f .common-prefix-len-by-runs .result) (shared-is f sorted) (c .before .lt-behind .ensures) (c .if4 .taken)),
       l .loop .inv .3,
       λ sorted i h g r. rw (shared-is f sorted) (shared-below (a .directory .now) (a .n) sorted mid (a .key .now) i h g r),
       l .loop .inv .5,
@@ -172,7 +172,7 @@ loop-again-3 c =
     let k = f .before .before in
     let a = k .before .before .before .before .before .before .before .args in
     turned-right f
-    (λ sorted. tested (a .key .now) (k .key .ensures) (f .shared-len .result) (shared-is f sorted) (c .before .lt-behind .ensures) (c .if4 .left))
+    (λ sorted. tested (a .key .now) (k .key .ensures) (f .common-prefix-len-by-runs .result) (shared-is f sorted) (c .before .lt-behind .ensures) (c .if4 .left))
 
 returns-3 : tie.Need-returns-3 Inv-loop μ-loop
 unfolding FoundIn FoundAs
@@ -209,7 +209,7 @@ locate-with-key-spec =
     returns
     key-requires
     lesser-requires
-    shared-len-requires
+    common-prefix-len-by-runs-requires
     returns-2
     loop-less
     loop-again
