@@ -558,7 +558,7 @@ int main(void) {
     listings();
     examples();
     several_groups(300);
-    several_groups(1500);
+    several_groups(5000);
     printf("%d failures\n", failures);
     return failures > 0;
 }

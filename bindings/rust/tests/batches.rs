@@ -69,7 +69,7 @@ fn some_key(draw: &mut Draw, entries: &Entries) -> Vec<u8> {
 #[test]
 fn lists_of_every_length() {
     let mut draw = Draw::new(20);
-    for n in [2, 3, 127, 128, 129, 1_000, 1_024, 1_025, 3_000] {
+    for n in [2, 3, 127, 128, 129, 1_000, 4_095, 4_096, 4_097, 9_000] {
         let entries = draw.entries(n);
         let bytes = entries.index();
         let index = Index::open(&bytes).unwrap();
@@ -114,7 +114,7 @@ fn orders() {
 #[test]
 fn parts_of_one_area() {
     let mut draw = Draw::new(22);
-    for n in [2, 5, 130, 1_024] {
+    for n in [2, 5, 130, 4_096] {
         let index = draw.entries(n).index();
         let index = Index::open(&index).unwrap();
         for _ in 0..500 {

@@ -202,7 +202,7 @@ fn refusals(batches: &mut Batches) {
 fn large(batches: &mut Batches) {
     batches.comment("large files: 7, 8, 9, 63 and 64 keys");
     let mut rng = Numbers::from_seed(92);
-    for n in [1_023, 1_024, 1_025, 2_048, 65_535, 65_536] {
+    for n in [4_095, 4_096, 4_097, 8_192, 65_535, 65_536] {
         batches.open_by_rule(n);
         let ids = around::ids(&mut rng, n, 20);
         let pool: Vec<Vec<u8>> = around::keys(&batches.opening.keys, &ids)
@@ -241,7 +241,7 @@ fn other_records(batches: &mut Batches) {
         }
     }
     batches.comment("the last key is outside: it is met at the first, a middle and the last key");
-    for n in [3, 1_024] {
+    for n in [3, 4_096] {
         batches.open_by_rule(n);
         let own = batches.record;
         let directory = (0, own.directory.1 - 1);

@@ -322,7 +322,7 @@ fn no_20_and_26() {
 fn no_20_after_63_keys() {
     let mut builder = crate::Builder::new();
     let key = |i: u64| u32::to_be_bytes(i as u32);
-    for i in 0..2_000 {
+    for i in 0..5_000 {
         let block = BlockAddr::new(i..i + 1, i);
         builder.add_block(&key(i), block).unwrap();
     }

@@ -123,10 +123,10 @@ fn growing(n: usize) -> Vec<Vec<u8>> {
 
 /// Sizes at which searches begin to go side by side, and the largest.
 fn large(tally: &mut Tally) {
-    tally.section("batches: files of 1,022 to 65,536 blocks");
+    tally.section("batches: files of 1,023 to 65,536 blocks");
     let mut rng = Numbers::from_seed(141);
     for n in [
-        1_022, 1_023, 1_024, 1_025, 1_026, 2_047, 2_048, 2_049, 5_000,
+        1_023, 1_024, 2_047, 2_049, 4_094, 4_095, 4_096, 4_097, 4_098, 8_191, 8_192, 8_193,
     ] {
         for separators in [
             long(n, 0),

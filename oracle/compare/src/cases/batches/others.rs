@@ -13,7 +13,7 @@ use crate::tally::Tally;
 
 pub fn run(tally: &mut Tally) {
     tally.section("batches: keys outside the bytes, met at the first, a middle and the last key");
-    for n in [2, 3, 129, 1_023, 1_024, 1_025, 2_048, MOST_BLOCKS] {
+    for n in [2, 3, 129, 1_024, 4_095, 4_096, 4_097, 8_192, MOST_BLOCKS] {
         cut(tally, n);
         broken_pairs(tally, n);
     }
@@ -87,7 +87,7 @@ fn by_chance(tally: &mut Tally, count: u64) {
     tally.section("batches: records of other files, by chance");
     let mut rng = Numbers::from_seed(143);
     let mut made: Vec<(Vec<u8>, Opened)> = Vec::new();
-    for n in [2, 9, 130, 1_024, 1_100] {
+    for n in [2, 9, 130, 4_096, 4_200] {
         let blocks = touching(0, &vec![1; n], 0, &vec![1; n - 1]);
         let bytes = Parts::written(&blocks, &rising(&mut rng, n as u64, 6)).bytes();
         let record = opened::open(tally, &bytes).opening.record;
@@ -102,8 +102,8 @@ fn by_chance(tally: &mut Tally, count: u64) {
                 numbers[at].wrapping_sub(1),
                 numbers[at] + 1,
                 4,
-                1_024,
-                20_000,
+                4_096,
+                80_000,
             ]);
         }
         let mut file = opened::open(tally, bytes);

@@ -28,7 +28,7 @@ pub fn run(tally: &mut Tally) {
 
 /// One group, two groups, and enough blocks for searches side by side.
 fn files() -> Vec<Vec<u8>> {
-    let large = 1_024;
+    let large = 4_096;
     let keys: Vec<Vec<u8>> = (0..large as u32)
         .map(|i| i.to_be_bytes()[1..].to_vec())
         .collect();
