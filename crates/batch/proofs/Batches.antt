@@ -155,8 +155,12 @@ module _ (L : ℕ) (f : List ℕ) (opened : SSTableIndexV3) (pairs bytes ids : L
               };
         }
 
-    -- what is written, and the number, either way
-    pub searched-answer : (t : Bool) → r ≡ t
+    either : (t : Bool) → r ≡ t
         → LocateWithKeysBy L f opened pairs bytes ids (sets ids 0 (take (cond t (keyListCount pairs) 0) found)) (cond t 0 20)
-    searched-answer true e = taken-answer e
-    searched-answer false e = late-answer e
+    either true e = taken-answer e
+    either false e = late-answer e
+
+    -- what is written, and the number, either way
+    pub searched-answer : (m k : ℕ) (written : List ℕ) → written ≡ sets ids 0 (take m found) → m ≡ cond r (keyListCount pairs) 0
+        → k ≡ cond r 0 20 → LocateWithKeysBy L f opened pairs bytes ids written k
+    searched-answer m k written w e g = rw (w, e, g) (either r refl)

@@ -87,8 +87,8 @@ returns-3 c =
     let g = b .before .before .before .before in
     let e = g .before .before in
     let s = e .before .before .before .before .before .before in
-    rw (w .write .ensures, t .to-write .ensures, c .answer .ensures)
-    (searched-answer _ _ _ _ _ _ (s .pre) (fits e) (good g) _ _ (part b) _ (b .find-entries .ensures) _ refl)
+    searched-answer _ _ _ _ _ _ (s .pre) (fits e) (good g) _ _ (part b) _ (b .find-entries .ensures) _ _ _ (w .write .ensures)
+    (t .to-write .ensures) (c .answer .ensures)
 
 pub locate-with-keys-spec : {M : Type 1} → statement M
 locate-with-keys-spec =
