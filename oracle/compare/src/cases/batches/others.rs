@@ -100,7 +100,7 @@ fn by_chance(tally: &mut Tally, count: u64) {
             let at = rng.below(numbers.len() as u64) as usize;
             numbers[at] = rng.pick(&[
                 numbers[at].wrapping_sub(1),
-                numbers[at] + 1,
+                numbers[at].wrapping_add(1),
                 4,
                 4_096,
                 80_000,
