@@ -49,8 +49,8 @@ fn pick(which: usize, first: usize, second: usize) -> usize
     (second & all) + (first & (0xFFFF_FFFF_FFFF_FFFF - all))
 }
 
-// How many bytes a key of the directory and a search's own have in common, if the first `from` are. The first word decides mostly,
-// and searches that take turns have no other test that comes out alike.
+// How many bytes a key of the directory and a search's own have in common, if the first `from` are. The first word mostly decides,
+// so that a turn has one test, and that one is easy to foresee.
 fn shared_len(at: &[u8], key: &[u8], from: usize) -> usize
     ensures { λ r. ⌜ (from ≤ commonPrefixLen (now (at .entry)) (now (key .entry))
         → r ≡ commonPrefixLen (now (at .entry)) (now (key .entry))) ⌝ }
