@@ -29,7 +29,11 @@ extern "C" {
 #endif
 
 /* The interface that these declarations are of: rosmarel_interface() of an archive that fits them. */
-#define ROSMAREL_INTERFACE 1
+#define ROSMAREL_INTERFACE 2
+
+/* The most keys of a batch, and the entry of a key that has no block. */
+#define ROSMAREL_MAX_BATCH_KEYS 64
+#define ROSMAREL_NO_ID UINT64_MAX
 
 /* A block: start <= end, both and the first ordinal below 2^48. */
 typedef struct rosmarel_block_addr {
@@ -39,9 +43,9 @@ typedef struct rosmarel_block_addr {
 } rosmarel_block_addr;
 
 /*
- * What the calls return: the first row that is hit, in the order of their numbers but for two places. Lookups try 20
- * before 17, 18 and 19. Opening tries 10 for a file under 8 bytes, then 11, then the rest of 10: a directory length of
- * 0 is 11 in any file of 8 bytes or more.
+ * What the calls return: the first row that is hit, in the order of their numbers but for three places. Lookups try 20
+ * before 17, 18 and 19. A batch tries 20 on the record, then 26, then 20 on what its searches read. Opening tries 10 for
+ * a file under 8 bytes, then 11, then the rest of 10: a directory length of 0 is 11 in any file of 8 bytes or more.
  */
 enum rosmarel_no {
     ROSMAREL_OK = 0,
@@ -64,15 +68,16 @@ enum rosmarel_no {
     ROSMAREL_ID = 17,            /* by id: not below n */
     ROSMAREL_BELOW = 18,         /* by ordinal: below the first */
     ROSMAREL_ABOVE = 19,         /* by key: above the last separator */
-    ROSMAREL_OPENED = 20,        /* lookups, list: the opened record doesn't fit the bytes, or what is read is broken */
+    ROSMAREL_OPENED = 20,        /* lookups, batch, list: the record doesn't fit the bytes, or what is read is broken */
     ROSMAREL_AUTOMATON = 21,     /* automaton: no states, over 64, or a length that doesn't fit them */
     ROSMAREL_FLAG = 22,          /* automaton: a flag above 1 */
     ROSMAREL_STATE = 23,         /* automaton: a next state that there isn't */
     ROSMAREL_ROOM = 24,          /* list: under n bytes; example: under the longer key + 64 (an absent start is none) */
-    ROSMAREL_NO_EXAMPLE = 25     /* example: no accepted string in the interval */
+    ROSMAREL_NO_EXAMPLE = 25,    /* example: no accepted string in the interval */
+    ROSMAREL_KEY_LIST = 26       /* batch: half a pair, over 64 keys, one beyond the bytes, a falling offset, few ids */
 };
 
-/* The number of the archive's interface, one more with each change of a call or of the opened record. */
+/* The number of the archive's interface, one more where calls are added or changed, or the opened record is. */
 uint64_t rosmarel_interface(void);
 
 /*
@@ -110,7 +115,8 @@ uint64_t rosmarel_common_prefix_len(const uint8_t *left, size_t left_len, const 
 /*
  * Opening and lookups. An index is opened once; the opened record is n, then offset and length in the index of the
  * directory, the group records and the address bytes. A lookup over bytes and a record that don't come from one
- * successful opening is safe: it answers an id below the record's n with an address in range, or its own number or 20.
+ * successful opening is safe: it answers an id below the record's n with an address in range, or its own number or 20;
+ * a batch has such ids or ROSMAREL_NO_ID. Where they do come from one opening no lookup answers 20.
  */
 
 /* Opens the bytes of an index that anyone may have written. They have no magic number and no checksum: opening shows
@@ -134,6 +140,20 @@ uint32_t rosmarel_locate_with_key(const uint8_t *index, size_t index_len, const 
 uint32_t rosmarel_get_block_with_key(const uint8_t *index, size_t index_len, const uint64_t opened[7],
                                      const uint8_t *key, size_t key_len, uint64_t *id, uint64_t *start,
                                      uint64_t *end, uint64_t *first_ordinal);
+
+/* A batch: up to 64 keys in one call. ids[i] is the id that rosmarel_locate_with_key finds for key i, or ROSMAREL_NO_ID
+   where the key is above the last separator; the ids after the last key stay. Key i begins at keys[pairs[2 * i]] and has
+   pairs[2 * i + 1] bytes, so pairs_len is twice the number of keys. Offsets don't fall from key to key; apart from that
+   keys may repeat, overlap, be empty and come in any byte order, and there may be none. With the separators b, d and f
+
+       const uint64_t pairs[6] = {0, 1, 1, 2, 3, 1};
+       uint64_t ids[3];
+       rosmarel_locate_with_keys(index, index_len, opened, pairs, 6, (const uint8_t *)"ebbg", 4, ids, 3);
+
+   asks for e, bb and g, and ids is 2, 1 and ROSMAREL_NO_ID. */
+uint32_t rosmarel_locate_with_keys(const uint8_t *index, size_t index_len, const uint64_t opened[7],
+                                   const uint64_t *pairs, size_t pairs_len, const uint8_t *keys, size_t keys_len,
+                                   uint64_t *ids, size_t ids_len);
 
 /* Where the separator of block id stands in the index. A miss (id not below n, or a hit on 20) is 0 and 0; an empty
    separator has an offset above 0. */

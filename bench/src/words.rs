@@ -45,6 +45,8 @@ pub const METHOD: &str = "\
   that one isn't the bar. The bar is for long keys; short ones are shown without.
 - Lookups: 4,096 questions made beforehand, spread over the whole index at random. Ids are all there; ordinals reach from 0 to 99
   after the last block's first; of the keys half are separators and half are a separator and one more byte, 00.
+- Locate 64 keys: the same 4,096 keys in 64 lists. Areas and pairs are filled beforehand, each key's bytes right after those of the
+  key before it; ids go into an area that is there. A call is 64 keys on every side.
 - Listing: equal work on both sides, once as marks alone and once with the address of each marked block. Inside the time the Rust's
   automaton is made from the table's bytes, as ours is; \"table ready\" leaves that out on the Rust's side alone. Both sides put
   addresses into a list that has the room. Up to 65,536 blocks with keys short and long-shared, 4,096 with long-early and 1,000 with

@@ -54,6 +54,8 @@ uint32_t right_locate_with_ord(const uint8_t *, size_t, const uint64_t *, uint64
 uint32_t right_locate_with_key(const uint8_t *, size_t, const uint64_t *, const uint8_t *, size_t, uint64_t *);
 uint32_t right_get_block_with_key(const uint8_t *, size_t, const uint64_t *, const uint8_t *, size_t, uint64_t *, uint64_t *,
                                   uint64_t *, uint64_t *);
+uint32_t right_locate_with_keys(const uint8_t *, size_t, const uint64_t *, const uint64_t *, size_t, const uint8_t *, size_t,
+                                uint64_t *, size_t);
 void right_separator(const uint8_t *, size_t, const uint64_t *, uint64_t, uint64_t *, uint64_t *);
 uint32_t right_list(const uint8_t *, size_t, const uint64_t *, const uint8_t *, size_t, uint8_t *, size_t, uint64_t *);
 uint32_t right_can_block_match(bool, const uint8_t *, size_t, const uint8_t *, size_t, const uint8_t *, size_t, uint64_t *);

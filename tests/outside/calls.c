@@ -322,11 +322,83 @@ static void lookups(void) {
     drop(index);
 }
 
+/* ---- batches */
+
+/* The keys are parts of text; words is twice their number. The ids begin as they were kept. */
+static uint32_t by_keys(part index, const uint64_t opened[7], const uint64_t *pairs, size_t words, const char *text, part ids) {
+    part lent = part_of(pairs, words * sizeof *pairs), keys = part_of(text, strlen(text));
+    memcpy(ids.at, ids.kept, ids.len);
+    uint32_t no = rosmarel_locate_with_keys(index.at, index.len, opened, numbers(lent), words, keys.at, keys.len, numbers(ids),
+                                            ids.len / 8);
+    WANT(stays(index) && stays(lent) && stays(keys));
+    if (no != ROSMAREL_OK) WANT(stays(ids));
+    drop(lent), drop(keys);
+    return no;
+}
+
+/* Whether the front of ids is these, and the rest as kept. */
+static bool ids_are(part ids, const uint64_t *wanted, size_t count) {
+    return memcmp(ids.at, wanted, 8 * count) == 0 && memcmp(ids.at + 8 * count, ids.kept + 8 * count, ids.len - 8 * count) == 0;
+}
+
+#define BATCH(text, ids, ...)                                                  \
+    by_keys(index, opened, (const uint64_t[]){__VA_ARGS__},                     \
+            sizeof(const uint64_t[]){__VA_ARGS__} / sizeof(uint64_t), text, ids)
+#define IDS_ARE(ids, ...) ids_are(ids, (const uint64_t[]){__VA_ARGS__}, sizeof(const uint64_t[]){__VA_ARGS__} / sizeof(uint64_t))
+
+/* The example of the header. */
+static void batch_example(void) {
+    part lent = part_of(worked, sizeof worked);
+    const uint8_t *index = lent.at;
+    size_t index_len = lent.len;
+    uint64_t opened[7];
+    WANT(rosmarel_open(index, index_len, opened) == ROSMAREL_OK);
+
+    const uint64_t pairs[6] = {0, 1, 1, 2, 3, 1};
+    uint64_t ids[3];
+    WANT(rosmarel_locate_with_keys(index, index_len, opened, pairs, 6, (const uint8_t *)"ebbg", 4, ids, 3) == ROSMAREL_OK);
+    WANT(ids[0] == 2 && ids[1] == 1 && ids[2] == ROSMAREL_NO_ID);
+    drop(lent);
+}
+
+static void batches(void) {
+    const uint64_t most = UINT64_MAX;
+    uint64_t opened[7], pairs[2 * 65] = {0};
+    part index = part_of(worked, sizeof worked), nothing = filled(0, 0);
+    part ids = filled(0xcc, 4 * 8), full = filled(0xcc, 64 * 8), more = filled(0xcc, 65 * 8);
+    WANT(open_part(index, opened) == ROSMAREL_OK);
+    /* falling keys; parts of each other, and one of them twice; empty ones, the last at the area's end */
+    WANT(BATCH("fa", ids, 0, 1, 1, 1) == ROSMAREL_OK && IDS_ARE(ids, 2, 0));
+    WANT(BATCH("bd", ids, 0, 2, 0, 1, 0, 1, 1, 1) == ROSMAREL_OK && IDS_ARE(ids, 1, 0, 0, 1));
+    WANT(BATCH("fz", ids, 0, 0, 0, 2, 2, 0) == ROSMAREL_OK && IDS_ARE(ids, 0, ROSMAREL_NO_ID, 0));
+    WANT(by_keys(index, opened, pairs, 0, "", nothing) == ROSMAREL_OK);
+    WANT(by_keys(index, opened, pairs, 0, "b", ids) == ROSMAREL_OK && stays(ids));
+    /* 26, one cause at a time */
+    WANT(BATCH("bd", ids, 0, 1, 1) == ROSMAREL_KEY_LIST);
+    WANT(by_keys(index, opened, pairs, 2 * 65, "bd", more) == ROSMAREL_KEY_LIST);
+    WANT(BATCH("bd", ids, 0, 3) == ROSMAREL_KEY_LIST && BATCH("bd", ids, 3, 0) == ROSMAREL_KEY_LIST);
+    WANT(BATCH("bd", ids, 2, most) == ROSMAREL_KEY_LIST && BATCH("bd", ids, most, 2) == ROSMAREL_KEY_LIST);
+    WANT(BATCH("bd", ids, 1, 1, 0, 1) == ROSMAREL_KEY_LIST);
+    WANT(BATCH("bd", ids, 0, 1, 0, 1, 0, 1, 1, 1, 1, 1) == ROSMAREL_KEY_LIST);
+    WANT(BATCH("b", nothing, 0, 1) == ROSMAREL_KEY_LIST);
+    WANT(by_keys(index, opened, pairs, 2 * 64, "bd", full) == ROSMAREL_OK);
+    for (size_t i = 0; i < 64; i++) WANT(numbers(full)[i] == 0);
+    /* the record, then the list, then what is read: separator 0 lies outside the bytes, and a is held against it */
+    opened[0] = 70000;
+    WANT(BATCH("bd", ids, 0, 1, 1) == ROSMAREL_OPENED);
+    opened[0] = 3;
+    put(index, 4, UINT32_MAX, 4);
+    WANT(BATCH("fa", ids, 0, 1, 1) == ROSMAREL_KEY_LIST && BATCH("a", nothing, 0, 1) == ROSMAREL_KEY_LIST);
+    WANT(BATCH("fa", ids, 0, 1, 1, 1) == ROSMAREL_OPENED);
+    WANT(BATCH("fa", ids, 0, 1) == ROSMAREL_OK && IDS_ARE(ids, 2));
+    drop(index), drop(nothing), drop(ids), drop(full), drop(more);
+}
+
 /* Records that no opening gave: each lookup refuses them, or answers some block. */
 static void foreign_records(void) {
     uint64_t opened[7];
     found f;
-    part index = part_of(worked, sizeof worked), nothing = filled(0, 0);
+    part index = part_of(worked, sizeof worked), nothing = filled(0, 0), ids = filled(0xcc, 8);
     WANT(open_part(index, opened) == ROSMAREL_OK);
     for (size_t i = 0; i < 7; i++) {
         uint64_t was = opened[i];
@@ -334,6 +406,7 @@ static void foreign_records(void) {
         WANT(by_id(index, opened, 0, &f) == ROSMAREL_OPENED && is_zero(f));
         WANT(by_ordinal(index, opened, 0, &f) == ROSMAREL_OPENED && is_zero(f));
         WANT(by_key(index, opened, "b", &f) == ROSMAREL_OPENED && is_zero(f));
+        WANT(BATCH("b", ids, 0, 1) == ROSMAREL_OPENED && by_keys(index, opened, NULL, 0, "", nothing) == ROSMAREL_OPENED);
         WANT(separator_is(index, opened, 0, 0, 0));
         opened[i] = was;
     }
@@ -341,7 +414,7 @@ static void foreign_records(void) {
     put(index, 55, 3, 8); /* the first ordinal is 3 now */
     WANT(open_part(index, opened) == ROSMAREL_OK);
     WANT(by_ordinal(index, opened, 2, &f) == ROSMAREL_BELOW && is_zero(f));
-    drop(index), drop(nothing);
+    drop(index), drop(nothing), drop(ids);
 }
 
 /* ---- patterns */
@@ -427,6 +500,24 @@ static size_t key_of(size_t i, uint8_t *key) {
     return len;
 }
 
+/* The keys of 64 blocks from all over the index, in one batch. */
+static void batch_of_groups(part index, const uint64_t opened[7], size_t n) {
+    uint8_t bytes[64 * 101];
+    uint64_t pairs[2 * 64];
+    size_t len = 0;
+    for (size_t i = 0; i < 64; i++) {
+        pairs[2 * i] = len;
+        pairs[2 * i + 1] = key_of(37 * i % n, bytes + len);
+        len += pairs[2 * i + 1];
+    }
+    part lent = part_of(pairs, sizeof pairs), keys = part_of(bytes, len), ids = filled(0xcc, 64 * 8);
+    WANT(rosmarel_locate_with_keys(index.at, index.len, opened, numbers(lent), 2 * 64, keys.at, keys.len, numbers(ids), 64) ==
+         ROSMAREL_OK);
+    for (size_t i = 0; i < 64; i++) WANT(numbers(ids)[i] == 37 * i % n);
+    WANT(stays(index) && stays(lent) && stays(keys));
+    drop(lent), drop(keys), drop(ids);
+}
+
 static void several_groups(size_t n) {
     uint8_t key[101];
     uint64_t total, directory_len, opened[7];
@@ -445,6 +536,7 @@ static void several_groups(size_t n) {
         WANT(by_id(index, opened, i, &f) == ROSMAREL_OK && f.start == i * i && f.end == (i + 1) * (i + 1));
         WANT(by_ordinal(index, opened, 3 * i + 2, &f) == ROSMAREL_OK && f.id == i);
     }
+    batch_of_groups(index, opened, n);
     part table = one_byte(0), marks = filled(0xcc, n);
     uint64_t count;
     WANT(list(index, opened, table, marks, &count) == ROSMAREL_OK && count == 1 && marks.at[0] == 1);
@@ -460,10 +552,13 @@ int main(void) {
     storing();
     opening();
     lookups();
+    batch_example();
+    batches();
     foreign_records();
     listings();
     examples();
     several_groups(300);
+    several_groups(5000);
     printf("%d failures\n", failures);
     return failures > 0;
 }

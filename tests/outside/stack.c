@@ -9,6 +9,7 @@
 #include <ucontext.h>
 
 enum { LIMIT = 24 * 1024, STACK = 4 * 1024 * 1024, MOST = 65536, LONGEST = 1024, STATES = 64, ROOM = LONGEST + 64 };
+enum { BATCH = ROSMAREL_MAX_BATCH_KEYS };
 
 static const uint64_t paint = UINT64_C(0x5a5aa5a55a5aa5a5);
 static uint64_t painted[STACK / 8];
@@ -64,6 +65,9 @@ static uint8_t *keys, *out, marks[MOST];
 static size_t key_len, keys_room, out_len, index_len;
 static uint8_t table[1 + 257 * STATES], start_key[LONGEST], end_key[LONGEST], example[ROOM];
 static size_t table_len, interval_len;
+static uint64_t pairs[2 * BATCH + 2], ids[BATCH + 1];
+static size_t batch;
+static uint8_t batch_keys[BATCH * LONGEST];
 static bool has_start;
 static uint32_t answer;
 
@@ -123,6 +127,10 @@ static void call_locate_with_key(void) {
 
 static void call_get_block_with_key(void) {
     answer = rosmarel_get_block_with_key(out, index_len, opened, end_key, key_len, &word[0], &word[1], &word[2], &word[3]);
+}
+
+static void call_locate_with_keys(void) {
+    answer = rosmarel_locate_with_keys(out, index_len, opened, pairs, 2 * batch, batch_keys, sizeof batch_keys, ids, BATCH + 1);
 }
 
 static void call_separator(void) { rosmarel_separator(out, index_len, opened, n - 1, &word[0], &word[1]); }
@@ -194,6 +202,26 @@ static void building(void) {
     free(keys);
 }
 
+/* Keys from all over the index, the last one above its last. */
+static void batches(void) {
+    for (size_t i = 0; i < BATCH; i++) {
+        pairs[2 * i] = i * key_len;
+        pairs[2 * i + 1] = key_len;
+        write_key(batch_keys + i * key_len, key_len, 2 * n * i / (BATCH - 1));
+    }
+    static const size_t counts[] = {0, 1, 7, 8, BATCH};
+    for (size_t i = 0; i < sizeof counts / sizeof *counts; i++) {
+        batch = counts[i];
+        ANSWERED(0, locate_with_keys);
+    }
+    want(ids[0] == 0 && ids[BATCH - 1] == ROSMAREL_NO_ID, "a batch finds other blocks");
+    batch = BATCH + 1;
+    ANSWERED(26, locate_with_keys);
+    opened[0] = MOST + 1;
+    ANSWERED(20, locate_with_keys);
+    opened[0] = n;
+}
+
 static void lookups(void) {
     ANSWERED(0, open);
     ANSWERED(0, get_block);
@@ -201,6 +229,7 @@ static void lookups(void) {
     write_key(end_key, key_len, 2 * n - 3);
     ANSWERED(0, locate_with_key);
     ANSWERED(0, get_block_with_key);
+    batches();
     MEASURE(separator);
     write_key(end_key, key_len, 2 * n);
     ANSWERED(19, get_block_with_key);

@@ -6,6 +6,7 @@ use std::hint::black_box;
 use std::sync::atomic::{AtomicUsize, Ordering::Relaxed};
 
 use common::OwnedBytes;
+use rosmarel_bench::calls::by_keys::{BATCH, Batch};
 use rosmarel_bench::ffi;
 use rosmarel_bench::inputs::{Input, Keys, areas, rust_builder, theirs};
 use rosmarel_bench::patterns::{self, Table};
@@ -174,6 +175,20 @@ fn looking_up(input: &Input) {
         black_box(rust.get_block_with_key(key));
     });
     line("rosmarel_get_block_with_key", input.n, taken, of_rust);
+    let wanted: Vec<Vec<u8>> = (0..BATCH)
+        .map(|i| input.keys[(i * 37 + 5) % input.n].clone())
+        .collect();
+    let batch = Batch::new(&wanted);
+    let mut ids = [0; BATCH];
+    let taken = stack(|| {
+        ffi::locate_with_keys(index, opened, &batch.pairs, &batch.keys, &mut ids).unwrap();
+    });
+    let of_rust = allocations(|| {
+        for key in &wanted {
+            black_box(rust.locate_with_key(key));
+        }
+    });
+    line("rosmarel_locate_with_keys", input.n, taken, of_rust);
     let taken = stack(|| {
         black_box(ffi::separator(index, opened, id));
     });

@@ -50,7 +50,7 @@ fn measure(report: &mut Report, input: &Input) {
 }
 
 /// Keys that some block may hold: separators, and every other one right after a separator.
-fn wanted(input: &Input) -> Vec<Vec<u8>> {
+pub fn wanted(input: &Input) -> Vec<Vec<u8>> {
     let mut numbers = Numbers(3);
     (0..QUESTIONS)
         .map(|i| match numbers.below(input.n) {

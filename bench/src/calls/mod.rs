@@ -3,6 +3,7 @@
 pub mod add;
 pub mod by_id;
 pub mod by_key;
+pub mod by_keys;
 pub mod by_ordinal;
 pub mod example;
 pub mod finish;
@@ -68,7 +69,7 @@ pub struct Family {
 }
 
 /// In the document's order.
-pub const FAMILIES: [Family; 10] = [
+pub const FAMILIES: [Family; 11] = [
     add::FAMILY,
     shorten::FAMILY,
     finish::FAMILY,
@@ -77,6 +78,7 @@ pub const FAMILIES: [Family; 10] = [
     by_id::FAMILY,
     by_ordinal::FAMILY,
     by_key::FAMILY,
+    by_keys::FAMILY,
     listing::FAMILY,
     example::FAMILY,
 ];

@@ -107,6 +107,17 @@ unsafe extern "C" {
         end: *mut u64,
         first_ordinal: *mut u64,
     ) -> u32;
+    fn rosmarel_locate_with_keys(
+        index: *const u8,
+        index_len: usize,
+        opened: *const Opened,
+        pairs: *const u64,
+        pairs_len: usize,
+        keys: *const u8,
+        keys_len: usize,
+        ids: *mut u64,
+        ids_len: usize,
+    ) -> u32;
     fn rosmarel_separator(
         index: *const u8,
         index_len: usize,
@@ -369,6 +380,31 @@ pub fn get_block_with_key(
         )
     };
     answer(number, (id, block))
+}
+
+/// Writes the id of each key's block to the front of `ids`. Keys are pairs of offset and length in `keys`.
+pub fn locate_with_keys(
+    index: &[u8],
+    opened: &Opened,
+    pairs: &[u64],
+    keys: &[u8],
+    ids: &mut [u64],
+) -> Result<(), Refusal> {
+    // SAFETY: as in `add`.
+    let number = unsafe {
+        rosmarel_locate_with_keys(
+            index.as_ptr(),
+            index.len(),
+            opened,
+            pairs.as_ptr(),
+            pairs.len(),
+            keys.as_ptr(),
+            keys.len(),
+            ids.as_mut_ptr(),
+            ids.len(),
+        )
+    };
+    answer(number, ())
 }
 
 /// Offset and length of a separator in the index; a miss is 0 and 0, and nothing else is.

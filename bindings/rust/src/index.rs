@@ -2,7 +2,13 @@ use std::fmt;
 use std::iter::FusedIterator;
 use std::ops::Range;
 
-use crate::{Automaton, BlockAddr, Refusal, ffi};
+use crate::{Automaton, BlockAddr, MAX_KEY_LEN, Refusal, ffi};
+
+/// The most keys of one batch: what [`Index::locate_with_keys_into`] takes at once.
+pub const MAX_BATCH_KEYS: usize = 64;
+
+/// What stands in a batch's ids for a key that has no block.
+pub const NO_ID: u64 = u64::MAX;
 
 /// An index that was opened: which block of a sorted key file to read.
 ///
@@ -130,6 +136,85 @@ impl<'a> Index<'a> {
         )
     }
 
+    /// As [`locate_with_key`](Index::locate_with_key) for a list of keys: an entry for each, in the list's order. Keys may
+    /// repeat and needn't be sorted.
+    ///
+    /// The list may have any length; it goes to the archive in batches of [`MAX_BATCH_KEYS`]. For that the keys are copied,
+    /// at most 1,025 bytes of each. [`locate_with_keys_into`](Index::locate_with_keys_into) copies nothing.
+    ///
+    /// ```
+    /// # use rosmarel::{BlockAddr, Builder, Index};
+    /// # let mut builder = Builder::new();
+    /// # builder.add_block(b"b", BlockAddr::new(0..10, 0))?;
+    /// # builder.add_block(b"d", BlockAddr::new(10..25, 4))?;
+    /// # let bytes = builder.finish()?;
+    /// // separators b and d
+    /// let index = Index::open(&bytes)?;
+    /// let ids = index.locate_with_keys(&["dd", "c", "", "c"]);
+    /// assert_eq!(ids, [None, Some(1), Some(0), Some(1)]);
+    /// # Ok::<(), rosmarel::Refusal>(())
+    /// ```
+    pub fn locate_with_keys<K: AsRef<[u8]>>(&self, keys: &[K]) -> Vec<Option<u64>> {
+        let mut found = Vec::with_capacity(keys.len());
+        let mut pairs = [0; 2 * MAX_BATCH_KEYS];
+        let mut ids = [NO_ID; MAX_BATCH_KEYS];
+        let mut bytes = Vec::new();
+        for batch in keys.chunks(MAX_BATCH_KEYS) {
+            bytes.clear();
+            for (key, pair) in batch.iter().zip(pairs.chunks_exact_mut(2)) {
+                let key = front(key.as_ref());
+                pair.copy_from_slice(&[bytes.len() as u64, key.len() as u64]);
+                bytes.extend_from_slice(key);
+            }
+            let pairs = &pairs[..2 * batch.len()];
+            sure(self.locate_with_keys_into(pairs, &bytes, &mut ids));
+            let id = |&id: &u64| (id != NO_ID).then_some(id);
+            found.extend(ids[..batch.len()].iter().map(id));
+        }
+        found
+    }
+
+    /// As [`locate_with_keys`](Index::locate_with_keys) for one batch, over memory that the caller has: nothing is copied
+    /// or allocated.
+    ///
+    /// `pairs` has two numbers for each of up to [`MAX_BATCH_KEYS`] keys: its offset and its length in `keys`. Offsets
+    /// don't fall from key to key. Keys may overlap, and an empty one may stand at the end of `keys`. The id of each key's
+    /// block, or [`NO_ID`] for a key above the last separator, is written to the front of `ids`; those after them stay.
+    ///
+    /// # Errors
+    ///
+    /// [`KeyList`](Refusal::KeyList) (26) where `pairs` has an odd length or too many keys, where a key ends beyond `keys`
+    /// or begins before the one before it, or where `ids` has fewer places than there are keys. `ids` is unchanged then.
+    ///
+    /// ```
+    /// use rosmarel::{BlockAddr, Builder, Index, NO_ID, Refusal};
+    ///
+    /// let mut builder = Builder::new();
+    /// builder.add_block(b"b", BlockAddr::new(0..10, 0))?;
+    /// builder.add_block(b"d", BlockAddr::new(10..25, 4))?;
+    /// let bytes = builder.finish()?;
+    /// let index = Index::open(&bytes)?;
+    ///
+    /// // az, z and c, parts of four bytes
+    /// let (keys, mut ids) = (b"az,c", [7; 4]);
+    /// index.locate_with_keys_into(&[0, 2, 1, 1, 3, 1], keys, &mut ids)?;
+    /// assert_eq!(ids, [0, NO_ID, 1, 7]);
+    ///
+    /// // the second one ends beyond them
+    /// let refused = index.locate_with_keys_into(&[0, 2, 3, 2], keys, &mut ids);
+    /// assert_eq!(refused, Err(Refusal::KeyList));
+    /// assert_eq!(ids, [0, NO_ID, 1, 7]);
+    /// # Ok::<(), Refusal>(())
+    /// ```
+    pub fn locate_with_keys_into(
+        &self,
+        pairs: &[u64],
+        keys: &[u8],
+        ids: &mut [u64],
+    ) -> Result<(), Refusal> {
+        ffi::locate_with_keys(self.bytes, &self.opened, pairs, keys, ids)
+    }
+
     /// A block's separator, as the part of the index's bytes that it is.
     ///
     /// ```
@@ -247,6 +332,11 @@ impl<'a> Index<'a> {
     fn block(&self, id: u64) -> BlockAddr {
         sure(ffi::get_block(self.bytes, &self.opened, id))
     }
+}
+
+/// The front of a key that says where it stands among separators: one byte more than the longest of them has.
+fn front(key: &[u8]) -> &[u8] {
+    &key[..key.len().min(MAX_KEY_LEN + 1)]
 }
 
 /// What a lookup found; `none` says that there is nothing.

@@ -27,6 +27,7 @@
 //! let index = Index::open(&bytes)?;
 //! assert_eq!(index.get_block_with_key(b"fir"), Some((2, BlockAddr::new(8_000..11_500, 260))));
 //! assert_eq!(index.locate_with_ord(130), Some((1, BlockAddr::new(4_096..8_000, 120))));
+//! assert_eq!(index.locate_with_keys(&["oak", "ash", "zelkova"]), [Some(2), Some(0), None]);
 //!
 //! // keys that begin with b
 //! let b = Automaton::from_fn(3, |state| state == 1, |state, byte| match (state, byte) {
@@ -58,7 +59,7 @@ mod store;
 pub use automaton::{Automaton, MAX_STATES};
 pub use block::BlockAddr;
 pub use builder::{Builder, MAX_BLOCKS, MAX_KEY_LEN};
-pub use index::{Blocks, Index, Listing, Separators};
+pub use index::{Blocks, Index, Listing, MAX_BATCH_KEYS, NO_ID, Separators};
 pub use interface::INTERFACE;
 pub use refusal::Refusal;
 pub use store::{store, store_into};

@@ -8,7 +8,8 @@ macro_rules! refusals {
         /// A refused call has changed nothing. `Display` gives the sentence and the number.
         ///
         /// This crate doesn't return all of them. 1, 8, 20 and 24 are for callers of the archive that lend it areas and
-        /// opened records of their own; in place of 17 to 19 and 25, that nothing was found, it has `None`.
+        /// opened records of their own; in place of 17 to 19 and 25, that nothing was found, it has `None`. 26 comes from
+        /// [`Index::locate_with_keys_into`](crate::Index::locate_with_keys_into) alone.
         ///
         /// ```
         /// use rosmarel::{Index, Refusal};
@@ -83,6 +84,7 @@ refusals! {
     23 NextState "a next state of the automaton isn't one of its states",
     24 RoomTooShort "the room for the marks or for the example is too short",
     25 NoExample "the automaton accepts no string of the interval",
+    26 KeyList "the key list has half a pair, more than 64 keys, a key outside its bytes, an offset that falls, or too few ids",
 }
 
 impl Refusal {

@@ -34,6 +34,8 @@ fn consistent(index: &Index, entries: &Entries, any: &Automaton) {
         let before = block.first_ordinal.wrapping_sub(1);
         assert_eq!(index.locate_with_ord(before), entries.by_ord(before));
     }
+    let ids = index.locate_with_keys(&entries.keys);
+    assert!(ids.into_iter().eq((0..n).map(Some)));
     assert_eq!((index.get_block(n), index.separator(n)), (None, None));
     assert_eq!(
         index.get_block_for_automaton(any).count() as u64,

@@ -40,9 +40,9 @@ fn add_refused(key: &[u8], block: BlockAddr, refusal: Refusal) {
 fn numbers_and_sentences() {
     let all: Vec<Refusal> = (0..=100).filter_map(Refusal::from_number).collect();
     let numbers: Vec<u32> = all.iter().map(|refusal| refusal.number()).collect();
-    assert_eq!(numbers, Vec::from_iter(1..=25));
+    assert_eq!(numbers, Vec::from_iter(1..=26));
     let sentences: BTreeSet<&str> = all.iter().map(|refusal| refusal.sentence()).collect();
-    assert_eq!(sentences.len(), 25);
+    assert_eq!(sentences.len(), 26);
     for refusal in all {
         let error: Box<dyn Error + Send + Sync> = Box::new(refusal);
         let number = u32::from(refusal);

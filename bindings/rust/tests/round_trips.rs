@@ -133,8 +133,10 @@ fn look_up(draw: &mut Draw, bytes: &[u8], entries: &Entries) {
     by_ord(0);
     by_ord(u64::MAX);
     (0..50).for_each(|_| by_ord(draw.below(LIMIT)));
-    let by_key = |key: &[u8]| {
+    let mut batch = Vec::new();
+    let mut by_key = |key: &[u8]| {
         let id = entries.by_key(key);
+        batch.push((key.to_vec(), id));
         assert_eq!(index.locate_with_key(key), id);
         let found = id.map(|id| (id, entries.blocks[id as usize]));
         assert_eq!(index.get_block_with_key(key), found);
@@ -147,6 +149,8 @@ fn look_up(draw: &mut Draw, bytes: &[u8], entries: &Entries) {
     by_key(b"");
     by_key(&[0xff; 3_000]);
     (0..50).for_each(|_| by_key(&draw.key(8)));
+    let (keys, ids): (Vec<Vec<u8>>, Vec<Option<u64>>) = batch.into_iter().unzip();
+    assert_eq!(index.locate_with_keys(&keys), ids);
     iterate(&index, entries);
 }
 

@@ -4,23 +4,49 @@ mod model;
 
 use std::thread;
 
-use rosmarel::BlockAddr;
+use rosmarel::{BlockAddr, Index};
 
 fn blocks(n: u64) -> Vec<BlockAddr> {
     (0..n).map(|i| BlockAddr::new(i..i + 1, i)).collect()
 }
 
-/// Stores of a short list and of the longest one on a thread with little more stack than the least that the system gives.
+/// A thread with little more stack than the least that the system gives.
+fn on_a_small_stack(calls: impl FnOnce() + Send + 'static) {
+    let thread = thread::Builder::new().stack_size(64 << 10).spawn(calls);
+    assert!(thread.unwrap().join().is_ok());
+}
+
+/// Stores of a short list and of the longest one.
 #[test]
 fn a_small_stack_is_enough() {
     let lists: Vec<_> = [3, 65_536]
         .map(|n| (blocks(n), model::store(&blocks(n))))
         .into();
-    let stores = move || {
+    on_a_small_stack(move || {
         for (blocks, store) in &lists {
             assert_eq!(rosmarel::store(blocks).as_ref(), Ok(store));
         }
-    };
-    let thread = thread::Builder::new().stack_size(64 << 10).spawn(stores);
-    assert!(thread.unwrap().join().is_ok());
+    });
+}
+
+/// Batches of one key and of many, in a small index and in the largest.
+#[test]
+fn a_small_stack_is_enough_for_batches() {
+    let key = |i: u64| u32::to_be_bytes(i as u32).to_vec();
+    let indexes = [2, 65_536].map(|n| {
+        let entries = model::Entries {
+            blocks: blocks(n),
+            keys: (0..n).map(key).collect(),
+        };
+        (entries.index(), entries.keys)
+    });
+    on_a_small_stack(move || {
+        for (bytes, all) in &indexes {
+            let index = Index::open(bytes).unwrap();
+            for keys in [&all[..1], all] {
+                let ids = index.locate_with_keys(keys);
+                assert!(ids.into_iter().eq((0..keys.len() as u64).map(Some)));
+            }
+        }
+    });
 }

@@ -75,6 +75,9 @@ fn lookups_in_three_blocks() {
         let found = id.map(|id| (id, blocks()[id as usize]));
         assert_eq!(index.get_block_with_key(key.as_bytes()), found);
     }
+    let ids = index.locate_with_keys(&["g", "f", "c", "a", "", "b", "fa"]);
+    let some = [2, 1, 0, 0, 0].map(Some);
+    assert_eq!(ids, [&[None], &some[..], &[None]].concat());
 }
 
 /// The lines that the program `blocks` prints for these bytes.

@@ -1,4 +1,4 @@
--- Demand 3 (SPECIFICATION 18.3 to 18.10): one claim about any list of calls that begins with a fresh builder, then finish, opening
+-- Demand 3 (SPECIFICATION 18.3 to 18.10, 18.14): one claim about any list of calls that begins with a fresh builder, then finish, opening
 -- and what is found there. The calls are those of the contracts; the plain machine sees their arguments and the areas' lengths.
 use Prim.Native.Nat.{ℕ, _+_, _*_, _≤_, _<_}
 use mathlib.Core.Path.{_≡_}
@@ -32,6 +32,7 @@ use Rattle.index.specs.Lookups.{
   GetBlockWithKey,
   placeDef,
 }
+use Rattle.batch.specs.Batch.{batchNo, BatchExact, LocateWithKeys}
 use Rattle.listing.specs.Listing.{ListingLeaves, GetBlockForAutomaton}
 use Rattle.written_index.specs.Written.{lengthsBefore}
 
@@ -58,6 +59,10 @@ pub record Finds (es : List Entry) (f : List ℕ) (opened : SSTableIndexV3) : Ty
   pub by-key : (key : List ℕ) (k id : ℕ) → LocateWithKey f opened key k id → ByKeyExact (entrySeparator es) (length es) key k id
   pub address-by-key : (key : List ℕ) (k id : ℕ) (addr : BlockAddr) → GetBlockWithKey f opened key k id addr
       → AddrByKeyExact (entrySeparator es) (entryBlock es) (length es) key k id addr
+  -- 18.14: a batch of keys is refused for its list or for fewer ids than keys (26) alone; else what is written for each key is the
+  -- first block whose separator isn't below it, or 2^64 - 1 for none, and the ids after the last one stay
+  pub by-keys : (pairs bytes ids written : List ℕ) (k : ℕ) → LocateWithKeys f opened pairs bytes ids written k
+      → (k ≡ batchNo pairs bytes (length ids)) × BatchExact (entrySeparator es) (length es) pairs bytes ids written k
   -- the separator by id is separator i, at its own place; other ids have none
   pub separator-place : (id : ℕ) → placeDef opened f id ≡ entryPlace es id
   pub separator : (id : ℕ) → id < length es → partAt f (placeDef opened f id) ≡ entrySeparator es id

@@ -4,4 +4,5 @@ pub mod Opened
 pub mod ReadBack
 pub mod Reader
 pub mod Rules
+pub mod Search
 pub mod Written

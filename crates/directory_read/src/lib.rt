@@ -1,7 +1,7 @@
 // A directory in a file: its keys, the search for a key.
 ghost use mathlib.Core.Path.{_≡_};
 ghost use mathlib.Core.Bool.{false};
-ghost use Prim.Native.Nat.{_+_, _*_, _^_, _≤_, _<_, min};
+ghost use Prim.Native.Nat.{_+_, _*_, _^_, _≤_, _<_};
 ghost use lib.ListN.{length};
 ghost use Rattle.layout.specs.Layout.{maxBlocks};
 ghost use Rattle.serialize.specs.Digits.{numberAt};
@@ -48,16 +48,6 @@ pub fn key_outside(directory: &[u8], n: usize, i: usize) -> bool
     directory.len() < 4 + PAIR_LEN * n + number(directory, at) + number(directory, at + 4)
 }
 
-// The lesser of two lengths.
-fn lesser(a: usize, b: usize) -> usize
-    ensures { λ r. ⌜ r ≡ min a b ⌝ }
-{
-    if a < b {
-        return a;
-    }
-    b
-}
-
 // The first of n keys that isn't below `key`: a binary search. The key before `left` and the key at `right` share
 // `left_shared` and `right_shared` bytes with `key`; where keys rise, those between them share at least the lesser of the two.
 // The search ends at a key equal to `key`: neither has a byte behind the shared ones.
@@ -76,7 +66,11 @@ pub fn locate_with_key(directory: &[u8], n: usize, key: &[u8]) -> Found
             return Found::Outside;
         }
         let at = self::key(directory, n, mid);
-        let shared = keys::common_prefix_len_by_runs(at, key, lesser(left_shared, right_shared));
+        let shared = keys::common_prefix_len_by_runs(
+            at,
+            key,
+            keys::lesser(left_shared, right_shared),
+        );
         if shared >= key.len() {
             if shared >= at.len() {
                 return Found::At(mid);

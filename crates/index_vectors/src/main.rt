@@ -1,6 +1,7 @@
 // Replays a list of files and lookups, with answers of the Rust and of a plain model of document 01, against the proved opening and
 // lookups, and counts the lines whose answers differ.
 mod answers;
+mod batches;
 mod exact;
 mod files;
 mod free;
@@ -44,6 +45,8 @@ fn look_up(kind: u8, state: State, given: &[u64], text: &[u8], file: &[u8]) -> S
         b'K' => free::by_key(opened, data, text, given),
         b'A' => free::block_by_key(opened, data, text, given),
         b'P' => free::separator(opened, data, given),
+        b'b' => batches::exact(opened, data, text, given),
+        b'B' => batches::left_free(opened, data, text, given),
         _ => false,
     };
     state.with(same)
@@ -70,13 +73,13 @@ fn replay(text: &[u8]) {
         let case = driver::case_at(
             text,
             run.at,
-            b"f01 c11 g20 i30 o40 k51 a61 p70 I80 O80 K81 A81 P80 m-0",
+            b"f01 c11 g20 i30 o40 k51 a61 p70 I80 O80 K81 A81 P80 b91 B81 m-0",
         );
         state = step(case, state, &mut file);
         run = run.counted(case, state.same);
     }
     run.print(
-        b"files,changed files,large files,ids,ordinals,keys,addresses by key,separators,left free",
+        b"files,changed files,large files,ids,ordinals,keys,addresses by key,separators,left free,batches",
     );
 }
 

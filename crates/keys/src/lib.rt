@@ -2,6 +2,7 @@
 ghost use mathlib.Core.Path.{_≡_};
 ghost use Prim.Native.Nat.{ℕ, _+_, _≤_, _<_, min};
 ghost use mathlib.Core.List.{List};
+ghost use mathlib.Core.Bool.{true};
 ghost use lib.ListN.{length, take, drop, getD};
 ghost use lib.Dec.{ltb};
 ghost use lib.Seq.{sets};
@@ -132,6 +133,44 @@ pub fn common_prefix_len_by_runs(left: &[u8], right: &[u8], from: usize) -> usiz
     };
     let at = first_other_word(left, right, behind, short - 8);
     at + common_of_word(left, right, at)
+}
+
+// The lesser of two lengths.
+pub fn lesser(a: usize, b: usize) -> usize
+    ensures { λ r. ⌜ r ≡ min a b ⌝ }
+{
+    if a < b {
+        return a;
+    }
+    b
+}
+
+// How many bytes are in common up to the end of one word, and whether the common prefix ends there.
+pub struct Near {
+    pub len: usize,
+    pub ends: bool,
+}
+
+// What the first word from `from` on says of the common prefix, if the first `from` bytes are in common. A search that knows how many
+// are seldom has to look further; for keys of one word it never has to.
+pub fn common_prefix_near(left: &[u8], right: &[u8], from: usize) -> Near
+    ensures { λ r. ⌜ (from ≤ commonPrefixLen (now (left .entry)) (now (right .entry))
+        → (r .len ≤ commonPrefixLen (now (left .entry)) (now (right .entry)))
+        × (r .ends ≡ true → r .len ≡ commonPrefixLen (now (left .entry)) (now (right .entry)))) ⌝ }
+{
+    let short = shorter(left, right);
+    if short < 8 {
+        return Near {
+            len: common_bytes(left, right, short),
+            ends: true,
+        };
+    }
+    let at = lesser(from, short - 8);
+    let near = common_of_word(left, right, at);
+    Near {
+        len: at + near,
+        ends: (near < 8) | (at + 8 == short),
+    }
 }
 
 // The common prefix, as the front of the first key: document 01's form.

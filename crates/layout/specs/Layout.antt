@@ -1,4 +1,4 @@
--- Lengths and limits of the layouts (document 01, "Records" and the table's rows 1, 2, 7 and 12), each in one place.
+-- Lengths and limits of the layouts (document 01, "Records" and the table's rows 1, 2, 7 and 12; document 02, wish 1), each in one place.
 use Prim.Native.Nat.{ℕ}
 
 -- the most blocks that an index has
@@ -20,3 +20,7 @@ pairLen = 8
 -- the most bytes of a key
 abbrev pub maxKeyLen : ℕ
 maxKeyLen = 1024
+
+-- the most keys of a batch
+abbrev pub maxBatchKeys : ℕ
+maxBatchKeys = 64

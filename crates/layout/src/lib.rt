@@ -15,3 +15,6 @@ pub const PAIR_LEN: usize = 8;
 
 // The most bytes of a key.
 pub const MAX_KEY_LEN: usize = 1024;
+
+// The most keys of a batch.
+pub const MAX_BATCH_KEYS: usize = 64;

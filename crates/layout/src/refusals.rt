@@ -74,3 +74,6 @@ pub const ROOM_SHORT: u32 = 24;
 
 // The interval has no string that the automaton accepts.
 pub const NO_EXAMPLE: u32 = 25;
+
+// A list of keys is of an odd length, too long, not sorted by offset or reaches beyond its bytes, or the ids' room is too short.
+pub const KEY_LIST_BAD: u32 = 26;

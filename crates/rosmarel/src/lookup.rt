@@ -3,6 +3,7 @@ ghost use mathlib.Core.Path.{_≡_};
 ghost use Rattle.index.specs.Opening.{loadDef};
 ghost use Rattle.index.specs.Answers.{loadNo, loadOpened, placeOffset, placeLen};
 ghost use Rattle.index.specs.Lookups.{GetBlock, LocateWithOrd, LocateWithKey, GetBlockWithKey, placeDef};
+ghost use Rattle.batch.specs.Batch.{LocateWithKeys};
 ghost use Rattle.rosmarel.specs.Words.{openedWords, openedAt};
 ghost use Rattle.rosmarel.specs.Answers.{blockWith};
 use crate::words::opened_at;
@@ -112,6 +113,21 @@ pub extern "C" fn rosmarel_locate_with_key(
             no
         }
     }
+}
+
+// The blocks that may hold up to 64 keys: pairs of offset and length over `keys`, an id each at the front of `ids`.
+#[no_mangle]
+pub extern "C" fn rosmarel_locate_with_keys(
+    index: &[u8],
+    opened: &[u64; 7],
+    pairs: &[u64],
+    keys: &[u8],
+    ids: &mut [u64],
+) -> u32
+    ensures { λ r. ⌜ LocateWithKeys (now (index .entry)) (openedAt (now (opened .entry))) (now (pairs .entry)) (now (keys .entry))
+        (now (ids .entry)) (now (ids .exit)) r ⌝ }
+{
+    batch::locate_with_keys(opened_at(opened), index, pairs, keys, ids)
 }
 
 // The block that may hold the key, with its address.

@@ -2,6 +2,7 @@
 //! other stores.
 
 mod addresses;
+mod batches;
 mod calls;
 mod damaged_lists;
 mod folder;
@@ -36,7 +37,9 @@ fn main() {
         ("stores.txt", stores::list(), 200_000),
         ("addresses.txt", addresses::list(), 200_000),
         ("calls.txt", calls::list(), 65_000),
-        ("indexes.txt", indexes::list(), 350_000),
+        // these two are one text for the program that replays them
+        ("indexes.txt", indexes::list(), 240_000),
+        ("batches.txt", batches::list(), 87_679),
         ("patterns.txt", patterns::list(), 262_143),
         ("replays.txt", replays, 327_679),
         ("replayed.txt", answers, 400_000),

@@ -1,4 +1,4 @@
-//! Compares the exported functions of librosmarel.a with the Rust and with plain models of document 01.
+//! Compares the exported functions of librosmarel.a with the Rust and with plain models of documents 01 and 02.
 //!
 //! compare ROOT [--begin] [--stop] [TOPIC..]: the repository's folder; lent parts begin at a protected page and don't end at one;
 //! the first failure ends the run; some topics alone.

@@ -1,12 +1,14 @@
-//! Plain models of document 01, and makers of cases. Nothing here calls the library that is compared.
+//! Plain models of documents 01 and 02, and makers of cases. Nothing here calls the library that is compared.
 
 pub mod areas;
 pub mod around;
 pub mod automaton;
+pub mod batch;
 pub mod blocks;
 pub mod faults;
 pub mod files;
 pub mod foreign;
+pub mod key_lists;
 pub mod numbers;
 pub mod opening;
 pub mod patterns;

@@ -38,6 +38,17 @@ impl Opened {
         let (d, r, a) = (self.directory, self.records, self.addresses);
         [self.n, d.0, d.1, r.0, r.1, a.0, a.1]
     }
+
+    /// Whether it can't be the record of so many bytes, whatever they are: a lookup must say 20.
+    pub fn unfit(&self, len: usize) -> bool {
+        let n = i128::from(self.n);
+        let outside = |(from, length)| i128::from(from) + i128::from(length) > len as i128;
+        let places = [self.directory, self.records, self.addresses];
+        let groups = (n + GROUP - 1) / GROUP;
+        !(1..=MOST).contains(&n)
+            || places.into_iter().any(outside)
+            || i128::from(self.records.1) < RECORD * groups
+    }
 }
 
 /// A row and which of its parts is hit.

@@ -26,3 +26,6 @@ pub const WIDEST: u8 = 56;
 
 /// States that an automaton can have, and the bytes that an example takes beside the longer key.
 pub const MOST_STATES: usize = 64;
+
+/// Keys that a list can have.
+pub const MOST_KEYS: usize = 64;

@@ -171,7 +171,7 @@ fn no_17_to_19() {
 }
 
 /// Every call with a record that isn't of these bytes.
-fn with_record(index: &[u8], opened: &Opened) -> [Result<u64, Refusal>; 5] {
+fn with_record(index: &[u8], opened: &Opened) -> [Result<u64, Refusal>; 6] {
     let [any, _] = tables();
     let n = usize::try_from(opened[0]).unwrap_or(0).min(100);
     let mut marks = vec![9; n];
@@ -185,6 +185,12 @@ fn with_record(index: &[u8], opened: &Opened) -> [Result<u64, Refusal>; 5] {
     }
     let (offset, len) = separator(index, opened, 1);
     assert!(offset + len <= index.len());
+    let mut ids = [9; 2];
+    let batch = locate_with_keys(index, opened, &[0, 1], b"c", &mut ids);
+    match batch {
+        Ok(()) => assert!((ids[0] < opened[0] || ids[0] == u64::MAX) && ids[1] == 9),
+        Err(_) => assert_eq!(ids, [9; 2]),
+    }
     let checked = |(id, block): (u64, BlockAddr)| {
         assert!(id < opened[0] && block.start <= block.end && block.end < 1 << 48);
         id
@@ -194,6 +200,7 @@ fn with_record(index: &[u8], opened: &Opened) -> [Result<u64, Refusal>; 5] {
         locate_with_ord(index, opened, 5).map(checked),
         locate_with_key(index, opened, b"c"),
         get_block_with_key(index, opened, b"c").map(checked),
+        batch.map(|()| ids[0]),
         listed.map(|count| count as u64),
     ]
 }
@@ -203,7 +210,7 @@ fn no_20() {
     let (index, opened) = worked();
     assert_eq!(
         with_record(&index, &opened),
-        [Ok(1), Ok(1), Ok(1), Ok(1), Ok(3)]
+        [Ok(1), Ok(1), Ok(1), Ok(1), Ok(1), Ok(3)]
     );
     // places that don't fit the bytes
     for (at, value) in [
@@ -220,13 +227,13 @@ fn no_20() {
         let mut other = opened;
         other[at] = value;
         let all = with_record(&index, &other);
-        assert_eq!(all, [Err(Refusal::OpenedRecord); 5], "{at} {value}");
+        assert_eq!(all, [Err(Refusal::OpenedRecord); 6], "{at} {value}");
         assert_eq!(separator(&index, &other, 1), (0, 0));
     }
     let all = with_record(&index[..40], &opened);
-    assert_eq!(all, [Err(Refusal::OpenedRecord); 5]);
+    assert_eq!(all, [Err(Refusal::OpenedRecord); 6]);
     let all = with_record(&[], &opened);
-    assert_eq!(all, [Err(Refusal::OpenedRecord); 5]);
+    assert_eq!(all, [Err(Refusal::OpenedRecord); 6]);
     // a key's pair that leads out of the bytes: found only by those that read it
     let mut broken = index.clone();
     broken[4 + 8 + 3] = 0xff;
@@ -261,6 +268,7 @@ fn records_of_strangers() {
                         Refusal::OrdinalBelowFirst,
                         Refusal::KeyAboveLast,
                         Refusal::KeyAboveLast,
+                        Refusal::OpenedRecord,
                         Refusal::RoomTooShort,
                     ];
                     for (answer, none) in all.into_iter().zip(allowed) {
@@ -272,6 +280,70 @@ fn records_of_strangers() {
             }
         }
     }
+}
+
+/// A batch: the record's own test, then the list's, then what the searches read.
+#[test]
+fn no_20_and_26() {
+    let (index, opened) = worked();
+    let batch = |index: &[u8], opened: &Opened, pairs: &[u64]| {
+        let mut ids = [9; 3];
+        let answer = locate_with_keys(index, opened, pairs, b"gfa", &mut ids);
+        answer.map(|()| ids).map_err(|refusal| (refusal, ids))
+    };
+    let unfit = Err((Refusal::OpenedRecord, [9; 3]));
+    let (all, two, odd) = ([0, 1, 1, 1, 2, 1], [0, 1, 1, 1], [0, 1, 1]);
+    assert_eq!(batch(&index, &opened, &all), Ok([u64::MAX, 2, 0]));
+
+    let mut other = opened;
+    other[0] = 65_537;
+    for pairs in [&all[..], &odd, &[]] {
+        assert_eq!(batch(&index, &other, pairs), unfit);
+        assert_eq!(batch(&index[..40], &opened, pairs), unfit);
+    }
+    // separator 0 lies outside the bytes, and of these keys only a has to be held against it
+    let mut broken = index;
+    broken[4 + 3] = 0xff;
+    let found = |key: &[u8]| locate_with_key(&broken, &opened, key);
+    assert_eq!(found(b"g"), Err(Refusal::KeyAboveLast));
+    assert_eq!(found(b"f"), Ok(2));
+    assert_eq!(found(b"a"), Err(Refusal::OpenedRecord));
+    assert_eq!(batch(&broken, &opened, &two), Ok([u64::MAX, 2, 9]));
+    assert_eq!(batch(&broken, &opened, &all), unfit);
+    let bad = Err((Refusal::KeyList, [9; 3]));
+    for pairs in [&odd[..], &[2, 1, 1, 1], &[2, 2], &[0; 8], &[0; 130]] {
+        assert_eq!(batch(&broken, &opened, pairs), bad);
+    }
+    assert_eq!(batch(&broken, &opened, &[]), Ok([9; 3]));
+}
+
+/// As above with a full batch in a larger index: the last key meets what is broken.
+#[test]
+fn no_20_after_63_keys() {
+    let mut builder = crate::Builder::new();
+    let key = |i: u64| u32::to_be_bytes(i as u32);
+    for i in 0..5_000 {
+        let block = BlockAddr::new(i..i + 1, i);
+        builder.add_block(&key(i), block).unwrap();
+    }
+    let mut index = builder.finish().unwrap();
+    let opened = open(&index).unwrap();
+    let keys = [key(1_999), key(0)].concat();
+    let mut pairs = [0, 4].repeat(64);
+    pairs[126] = 4;
+    let batch = |index: &[u8], pairs: &[u64]| {
+        let mut ids = [9; 64];
+        let answer = locate_with_keys(index, &opened, pairs, &keys, &mut ids);
+        (answer, ids)
+    };
+    let mut found = [1_999; 64];
+    found[63] = 0;
+    assert_eq!(batch(&index, &pairs), (Ok(()), found));
+    index[4 + 3] = 0xff;
+    let unfit = Err(Refusal::OpenedRecord);
+    assert_eq!(batch(&index, &pairs), (unfit, [9; 64]));
+    found[63] = 9;
+    assert_eq!(batch(&index, &pairs[..126]), (Ok(()), found));
 }
 
 #[test]
@@ -462,6 +534,11 @@ fn empty_slices() {
     let record = [0; 7];
     assert_eq!(get_block(&[], &record, 0), Err(Refusal::OpenedRecord));
     assert_eq!(separator(&[], &record, 0), (0, 0));
+    let answer = locate_with_keys(&[], &record, &[], &[], &mut []);
+    assert_eq!(answer, Err(Refusal::OpenedRecord));
+    let (index, opened) = worked();
+    let answer = locate_with_keys(&index, &opened, &[], &[], &mut []);
+    assert_eq!(answer, Ok(()));
     let answer = list(&[], &record, &[], &mut []);
     assert_eq!(answer, Err(Refusal::OpenedRecord));
 }

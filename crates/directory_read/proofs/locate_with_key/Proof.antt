@@ -1,16 +1,16 @@
 -- `directory_read::locate_with_key` meets its contract: of sorted keys those before left are below the key, and right's isn't or right is behind the end.
 -- Keys from left on that aren't above the key share left's bytes with it, and keys before right that aren't below it share right's.
 use borrow.Author.Needs.{needs}
-use mathlib.Core.Path.{_≡_, sym, ap, _∙_}
-use mathlib.Core.Bool.{Bool, true≢false}
+use mathlib.Core.Path.{_≡_, sym, _∙_}
+use mathlib.Core.Bool.{true≢false}
 use mathlib.Core.List.{List}
-use Prim.Native.Nat.{ℕ, _+_, _-_, _/_, _≤_, _<_, min}
+use Prim.Native.Nat.{ℕ, _+_, _-_, _/_, _≤_, _<_}
 use native.Mathlib.Omega.{arith}
-use lib.ListN.{length}
-use Rattle.keys.specs.Order.{less, _≺_, _≼_, commonPrefixLen}
-use Rattle.keys.proofs.Order.{by-test, less-asym, less-end-right, ≼-whole}
+use Rattle.keys.specs.Order.{_≺_, _≼_, commonPrefixLen}
+use Rattle.keys.proofs.Order.{less-end-right}
 use Rattle.directory.specs.Read.{keyOf, Sorted, First, FoundIn, FoundAs}
 use Rattle.directory.proofs.Reader.{all-below, all-before, shared-below, shared-above}
+use Rattle.directory.proofs.Search.{lesser-shared, counted, tested, whole}
 use Rattle.directory_read.proofs.locate_with_key.Statement.{statement}
 use Rattle.directory_read.proofs.locate_with_key.Tie as tie
 
@@ -32,24 +32,6 @@ Inv-loop directory n key left₀ right₀ left-shared₀ right-shared₀ left ri
 
 abbrev μ-loop : tie.MeasureT-loop
 μ-loop directory n key left₀ right₀ left-shared₀ right-shared₀ left right left-shared right-shared = right - left
-
--- a key between the two shares the lesser of the two lengths
-lesser-shared : (x key : List ℕ) (low high : ℕ) → (x ≼ key → low ≤ commonPrefixLen x key) → (key ≼ x → high ≤ commonPrefixLen x key) → min low high ≤ commonPrefixLen x key
-lesser-shared x key low high f g =
-    by-test (less key x)
-    (λ e. let h = g (less-asym key x e) in omega arith)
-    (λ e. let h = f e in omega arith)
-
--- what is counted and tested of a part x of the bytes holds of the key k that it is
-module _ {x k : List ℕ} (key : List ℕ) (e : x ≡ k) where
-  counted : (skip shared : ℕ) → skip ≤ commonPrefixLen k key → (skip ≤ commonPrefixLen x key → shared ≡ commonPrefixLen x key) → shared ≡ commonPrefixLen k key
-  counted skip shared h p = rw e at p h
-
-  tested : {t b : Bool} (shared : ℕ) → shared ≡ commonPrefixLen k key → (shared ≡ commonPrefixLen x key → t ≡ less x key) → t ≡ b → less k key ≡ b
-  tested shared h p q = sym (rw e at p h) ∙ q
-
-  whole : (shared : ℕ) → shared ≡ commonPrefixLen k key → length x ≤ shared → k ≼ key
-  whole shared h l = ≼-whole k key (omega (arith, ap length e))
 
 loop-holds : tie.Need-loop-holds Inv-loop μ-loop
 loop-holds c = (

@@ -205,7 +205,7 @@ fn in_range(n: u64, no: u64, row: u64, got: &[u64], id: u64, range: (u64, u64)) 
 
 impl File {
     /// The Rust's index, if the record is the file's.
-    fn judged(&self) -> Option<&tantivy_sstable::access::Index> {
+    pub fn judged(&self) -> Option<&tantivy_sstable::access::Index> {
         self.rust.as_ref().filter(|_| self.exact)
     }
 

@@ -1,6 +1,7 @@
 //! The exported functions, as include/rosmarel.h declares them, and what each answer is held against. One file a family: its
 //! declarations, its calls with the numbers that they can answer, and the comparison.
 
+pub mod batches;
 pub mod builder;
 pub mod building;
 pub mod intervals;
@@ -24,6 +25,7 @@ pub const FAMILIES: &[&[&Call]] = &[
     keys::CALLS,
     opened::CALLS,
     lookups::CALLS,
+    batches::CALLS,
     listing::CALLS,
     intervals::CALLS,
 ];

@@ -5,6 +5,7 @@ use model::settings::OPENED_LEN;
 use tantivy_sstable::access::Index;
 
 use super::Call;
+use super::batches::Known;
 use crate::asked::{Outside, rust};
 use crate::memory::lent::Lent;
 use crate::memory::touched::calling;
@@ -43,6 +44,7 @@ pub struct File {
     /// whether opening these bytes gives this record
     pub exact: bool,
     print: Print,
+    pub known: Known,
 }
 
 /// Opens the bytes.
@@ -81,6 +83,7 @@ pub fn open(tally: &mut Tally, bytes: &[u8]) -> File {
         record: Lent::new(&numbers),
         numbers,
         print,
+        known: Known::default(),
     }
 }
 
@@ -90,6 +93,11 @@ impl File {
         self.numbers = record.numbers();
         self.record = Lent::new(&self.numbers);
         self.exact = self.opening.no() == 0 && record == self.opening.record;
+    }
+
+    /// The record that the next lookup uses.
+    pub fn numbers(&self) -> [u64; OPENED_LEN] {
+        self.numbers
     }
 
     pub fn n(&self) -> u64 {

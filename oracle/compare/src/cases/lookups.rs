@@ -1,9 +1,11 @@
 //! Lookups in a file.
 
 use model::around::{ids, keys, ords};
+use model::key_lists::Layout;
 use model::numbers::Numbers;
 use model::settings::{GROUP_LEN, LIMIT};
 
+use super::batches;
 use crate::calls::opened::File;
 use crate::tally::Tally;
 
@@ -26,13 +28,13 @@ pub fn around(tally: &mut Tally, rng: &mut Numbers, file: &File, some: usize) {
     for ord in ords(&file.opening.blocks, &ids).into_iter().chain(far) {
         file.ord(tally, ord);
     }
-    for key in keys(&file.opening.keys, &ids)
-        .into_iter()
-        .chain([vec![0xff; 1030]])
-    {
-        file.key(tally, &key);
-        file.address(tally, &key);
+    let mut pool: Vec<Vec<u8>> = keys(&file.opening.keys, &ids).into_iter().collect();
+    pool.push(vec![0xff; 1030]);
+    for key in &pool {
+        file.key(tally, key);
+        file.address(tally, key);
     }
+    batches::of_keys(tally, file, &pool);
 }
 
 /// A few lookups of each kind, with any record.
@@ -45,8 +47,11 @@ pub fn some(tally: &mut Tally, file: &File) {
     for ord in [0, 5, 1 << 47, u64::MAX] {
         file.ord(tally, ord);
     }
-    for key in [&b""[..], b"b", b"c\xff", b"\xff\xff\xff"] {
+    let keys = [&b""[..], b"b", b"c\xff", b"\xff\xff\xff"];
+    for key in keys {
         file.key(tally, key);
         file.address(tally, key);
     }
+    let list = Layout::Touching.list(&keys);
+    file.batch(tally, &list, keys.len());
 }

@@ -2,6 +2,7 @@
 
 mod areas;
 mod automata;
+mod batches;
 mod damage;
 mod finishes;
 mod foreign;
@@ -32,4 +33,5 @@ pub const TOPICS: &[(&str, fn(&mut Tally))] = &[
     ("fronts", fronts::run),
     ("finishes", finishes::run),
     ("late", late::run),
+    ("batches", batches::run),
 ];

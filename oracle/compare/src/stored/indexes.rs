@@ -1,9 +1,11 @@
 //! Files that are opened, and lookups in them.
 
+use model::batch::KeyList;
 use model::files::by_rule;
 use model::opening::Opened;
 
 use super::Words;
+use crate::calls::batches::LOCATE_WITH_KEYS;
 use crate::calls::lookups::{
     GET_BLOCK, GET_BLOCK_WITH_KEY, LOCATE_WITH_KEY, LOCATE_WITH_ORD, SEPARATOR,
 };
@@ -72,6 +74,22 @@ fn look_up(tally: &mut Tally, file: &File, letter: &str, words: &mut Words) {
             let got = [u64::from(got != [0, 0]), got[0], got[1]];
             words.hold(tally, &SEPARATOR, got, [found, offset, length]);
         }
+        "b" => {
+            let (list, room) = batch(words);
+            let (no, ids) = file.batch(tally, &list, room);
+            let (due, entries) = (words.number(), words.rest());
+            let front = if no == 0 { list.count() } else { 0 };
+            words.hold(
+                tally,
+                &LOCATE_WITH_KEYS,
+                (no, &ids[..front]),
+                (due, &entries),
+            );
+        }
+        "B" => {
+            let (list, room) = batch(words);
+            file.batch(tally, &list, room);
+        }
         "I" => drop(file.id(tally, words.number())),
         "O" => drop(file.ord(tally, words.number())),
         "K" => drop(file.key(tally, &words.bytes())),
@@ -79,4 +97,12 @@ fn look_up(tally: &mut Tally, file: &File, letter: &str, words: &mut Words) {
         "P" => drop(file.separator(tally, words.number())),
         other => panic!("{other} isn't known"),
     }
+}
+
+/// A list, and the room for its ids.
+fn batch(words: &mut Words) -> (KeyList, usize) {
+    let bytes = words.bytes();
+    let (room, count) = (words.number() as usize, words.number());
+    let pairs = (0..count).map(|_| words.number()).collect();
+    (KeyList { pairs, bytes }, room)
 }

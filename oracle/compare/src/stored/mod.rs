@@ -66,6 +66,12 @@ impl<'a> Words<'a> {
         std::array::from_fn(|_| self.number())
     }
 
+    /// The numbers up to the line's end.
+    fn rest(&mut self) -> Vec<u64> {
+        let left = self.words.clone().count();
+        (0..left).map(|_| self.number()).collect()
+    }
+
     fn bytes(&mut self) -> Vec<u8> {
         let digits = self.word().strip_prefix('x').expect("x and hex");
         let byte = |i: usize| u8::from_str_radix(&digits[2 * i..2 * i + 2], 16).expect("hex");
