@@ -110,12 +110,12 @@ pub fn key_bad_behind(
     !keys::lt_behind(last_key(builder, blocks, keys), key, common)
 }
 
-// Row 6: whether a key isn't above the last separator.
+// Row 6: whether a key isn't above the last separator. By runs: a finish asks it of every block, and long keys may share much.
 fn key_bad(builder: SSTableIndexBuilder, blocks: &[u64], keys: &[u8], key: &[u8]) -> bool
     requires { ⌜ AreaOk (viewOf builder (now blocks) (now keys)) ⌝ }
     ensures { λ r. ⌜ r ≡ keyBad (viewOf builder (now (blocks .entry)) (now (keys .entry))) (now (key .entry)) ⌝ }
 {
-    let common = common_len(builder, blocks, keys, key);
+    let common = keys::common_prefix_len_by_runs(last_key(builder, blocks, keys), key, 0);
     key_bad_behind(builder, blocks, keys, key, common)
 }
 
