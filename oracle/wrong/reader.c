@@ -21,7 +21,9 @@ rosmarel_block_addr own_block(const uint8_t *index, const uint64_t *opened, uint
         uint64_t at = kind == 1 ? i + 1 : i;
         int k = kind == 2;
         if (at == 0) continue;
-        uint64_t read = bits(fields, both * (at - 1) + (k ? widths[0] : 0), widths[k]);
+        size_t place = both * (at - 1) + (k ? widths[0] : 0);
+        if (fault("id_place_13_bits")) place %= 1 << 13;
+        uint64_t read = bits(fields, place, widths[k]);
         values[kind] = firsts[k] + read + slopes[k] * at - ((uint64_t)1 << (widths[k] - 1));
     }
     return (rosmarel_block_addr){values[0], values[1], values[2]};

@@ -101,7 +101,8 @@ uint32_t rosmarel_get_block(const uint8_t *index, size_t index_len, const uint64
     if (fault("id_reads_after_index")) touch(index + index_len);
     if (fault("id_reads_after_record")) touch(opened + 7);
     bool swapped = fault("id_one_order");
-    if ((swapped || fault("own_reader")) && no == 0 && right_open(index, index_len, own) == 0 && !memcmp(own, opened, sizeof own)) {
+    bool own_reads = swapped || fault("own_reader") || fault("id_place_13_bits");
+    if (own_reads && no == 0 && right_open(index, index_len, own) == 0 && !memcmp(own, opened, sizeof own)) {
         const uint8_t *record = index + opened[3] + GROUP_RECORD * (id / GROUP_LEN);
         /* a group of one block has no ordinal field to be taken for the other */
         if (swapped && number(record + 34, 2) == 0) return no;

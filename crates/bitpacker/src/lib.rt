@@ -59,11 +59,11 @@ fn load(data: &[u8], at: usize) -> u64
 }
 
 // The field of `num_bits` bits from bit `addr_bits` on. Bits behind the last byte are 0.
-pub fn extract_bits(data: &[u8], addr_bits: usize, num_bits: u8) -> u64
+pub fn extract_bits(data: &[u8], addr_bits: u16, num_bits: u8) -> u64
     requires { ⌜ («num_bits» ≤ 56) × («addr_bits» / 8 ≤ length (now «data»)) ⌝ }
     ensures { λ r. ⌜ r ≡ leVal (now («data» .entry)) / 2 ^ «addr_bits» % 2 ^ «num_bits» ⌝ }
 {
-    let unshifted = load(data, addr_bits / 8);
+    let unshifted = load(data, (addr_bits / 8) as usize);
     (unshifted >> (addr_bits % 8)) & ((1u64 << num_bits) - 1)
 }
 

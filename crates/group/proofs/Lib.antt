@@ -5,4 +5,5 @@ pub mod Blocks
 pub mod Metadata
 pub mod Written
 pub mod Reading
+pub mod Places
 pub mod Back

@@ -1,14 +1,15 @@
--- Laws of a group read: row 15 as plain facts, where its fields stand, and a value in range as a sum.
+-- Laws of a group read: row 15 as plain facts, and a value in range as a sum.
 use mathlib.Core.Path.{_≡_, refl, sym, ap₂}
 use mathlib.Core.Bool.{Bool, true, false, _||_, true≢false}
 use Prim.Native.Nat.{ℕ, suc, _+_, _-_, _*_, _/_, _%_, _^_, _≤_, _<_}
-use native.Mathlib.Nat.{mul-le-mul, mod-lt, lt-of-lt-of-le, lt-of-not-le, le-of-suc-le-suc}
+use native.Mathlib.Nat.{mod-lt, lt-of-lt-of-le, lt-of-not-le, le-of-suc-le-suc}
 use native.Mathlib.Numerals.{sub-one}
 use native.Mathlib.Omega.{arith}
 use borrow.Author.Tests.{ltb-false, eqb-true, not-false, le-ltb, lt-ltb, eq-eqb}
 use lib.Dec.{ltb}
 use lib.Pow.{pow-pos, pow-mono}
 use Rattle.serialize.proofs.Tests.{neither}
+use Rattle.layout.specs.Layout.{maxGroupLen}
 use Rattle.bitpacker.specs.Bits.{bytesOf}
 use Rattle.bitpacker.specs.Fields.{rangeBit, ordinalBit, groupBits}
 use Rattle.group.specs.Legal.{limit}
@@ -77,27 +78,22 @@ module _ (m : BlockAddrBlockMetadata) (count len : ℕ) where
   pub group-refused : (GroupOk m count len → ⊥) → true ≡ groupBad m count len
   group-refused h = group-bad-is true (λ e. absurd (true≢false e)) (λ k. absurd (h k))
 
-  pub readable : GroupOk m count len → m .«range_start» < limit → m .«first_ordinal» < limit → Readable m (len - m .offset)
-  readable k s o = record {
+  pub readable : GroupOk m count len → count ≤ maxGroupLen → m .«range_start» < limit → m .«first_ordinal» < limit → Readable m (len - m .offset)
+  readable k few s o = record {
     range-low = k .range-low;
     range-high = k .range-high;
     ordinal-low = k .ordinal-low;
     ordinal-high = k .ordinal-high;
+    few = let e = k .blocks in omega arith;
     inside = let h = k .inside in omega arith;
     start-small = s;
     ordinal-small = o;
   }
 
--- ---- places
-
--- counts of bits stay far below a word
-pub bits-small : (r o i : ℕ) → r ≤ 56 → o ≤ 56 → i ≤ 65536 → rangeBit r o i ≤ 112 * 65536
-bits-small r o i hr ho hi = mul-le-mul {n₂ = 112} (omega arith) hi
+-- ---- values
 
 pub field-lt : (N at w : ℕ) → w ≤ 56 → N / 2 ^ at % 2 ^ w < 2 ^ 56
 field-lt N at w h = lt-of-lt-of-le (mod-lt (N / 2 ^ at) (pow-pos w)) (pow-mono h)
-
--- ---- values
 
 module _ (first field slope i width : ℕ) where
   -- a sum below 0 stands as the limit

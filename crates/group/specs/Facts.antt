@@ -3,6 +3,7 @@ use Prim.Native.Nat.{ℕ, suc, _+_, _-_, _*_, _^_, _≤_, _<_}
 use mathlib.Core.Path.{_≡_}
 use mathlib.Core.List.{List}
 use lib.ListN.{length, getD}
+use Rattle.layout.specs.Layout.{maxGroupLen}
 use Rattle.bitpacker.specs.Bits.{bytesOf}
 use Rattle.bitpacker.specs.Fields.{groupBits}
 use Rattle.slope.specs.Slope.{storedOf}
@@ -15,7 +16,7 @@ use Rattle.group.specs.declared.BlockAddrBlockMetadata.{BlockAddrBlockMe
 -- `count` blocks of the area from block `first` on: one at least, 256 at most, all inside the area, and legal
 pub record GroupArea (area : List ℕ) (stride first count : ℕ) : Type 0 where
   pub some : 1 ≤ count
-  pub few : count ≤ 256
+  pub few : count ≤ maxGroupLen
   pub wide : 3 ≤ stride
   pub inside : stride * (first + count) ≤ length area
   pub legal : Legal (λ i. blockAt area stride (first + i)) count
@@ -35,12 +36,13 @@ pub record Fitting (m : BlockAddrBlockMetadata) (b : BlockAddr) (bs : List Block
   pub ranges : Takes (m .«range_start_slope») (m .«range_start_nbits») (rangeValues (b .start) b bs)
   pub ordinals : Takes (m .«first_ordinal_slope») (m .«first_ordinal_nbits») (ordinalValues (b .«first_ordinal») bs)
 
--- a group that keeps row 15, with its first values in range, whose bits are in `len` bytes
+-- a group of at most 256 blocks that keeps row 15, with its first values in range, whose bits are in `len` bytes
 pub record Readable (m : BlockAddrBlockMetadata) (len : ℕ) : Type 0 where
   pub range-low : 1 ≤ m .«range_start_nbits»
   pub range-high : m .«range_start_nbits» ≤ 56
   pub ordinal-low : 1 ≤ m .«first_ordinal_nbits»
   pub ordinal-high : m .«first_ordinal_nbits» ≤ 56
+  pub few : m .«block_len» < maxGroupLen
   pub inside : bytesOf (groupBits (m .«range_start_nbits») (m .«first_ordinal_nbits») (m .«block_len»)) ≤ len
   pub start-small : m .«range_start» < limit
   pub ordinal-small : m .«first_ordinal» < limit

@@ -2,7 +2,7 @@
 ghost use mathlib.Core.Path.{_≡_};
 ghost use Prim.Native.Nat.{_+_, _-_, _*_, _/_, _^_, _≤_, _<_};
 ghost use lib.ListN.{length};
-ghost use Rattle.layout.specs.Layout.{maxBlocks};
+ghost use Rattle.layout.specs.Layout.{maxBlocks, maxGroupLen};
 ghost use Rattle.serialize.specs.Digits.{leVal};
 ghost use Rattle.group.specs.Legal.{limit};
 ghost use Rattle.group.specs.Read.{widthBad, groupBad, valueRead, rangeRead, ordinalRead, blockRead};
@@ -21,8 +21,10 @@ fn width_bad(nbits: u8) -> bool
     nbits > 56
 }
 
-// Whether a group that is to have `count` blocks breaks its rule in a store with `addr_len` address bytes.
+// Whether a group that is to have `count` blocks breaks its rule in a store with `addr_len` address bytes. Widths and block count
+// come first: with others the place where the last field ends needn't fit 16 bits.
 pub fn group_bad(meta: BlockAddrBlockMetadata, count: usize, addr_len: usize) -> bool
+    requires { ⌜ count ≤ maxGroupLen ⌝ }
     ensures { λ r. ⌜ r ≡ groupBad meta count «addr_len» ⌝ }
 {
     if width_bad(meta.first_ordinal_nbits) {
@@ -39,7 +41,7 @@ pub fn group_bad(meta: BlockAddrBlockMetadata, count: usize, addr_len: usize) ->
     if meta.offset > addr_len as u64 {
         return true;
     }
-    (bits + 7) / 8 > addr_len - meta.offset as usize
+    ((bits + 7) / 8) as usize > addr_len - meta.offset as usize
 }
 
 // The value of a field: first + field + slope × i - 2^(nbits-1), or the limit where that is below 0.

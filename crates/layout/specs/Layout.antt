@@ -5,6 +5,10 @@ use Prim.Native.Nat.{ℕ}
 abbrev pub maxBlocks : ℕ
 maxBlocks = 65536
 
+-- the most blocks of a group that inner functions and laws speak of
+abbrev pub maxGroupLen : ℕ
+maxGroupLen = 256
+
 -- the blocks of a group; the last group may have fewer
 abbrev pub storeBlockLen : ℕ
 storeBlockLen = 128

@@ -71,7 +71,7 @@ pub fn fit(fields: &[u64], r: u8, o: u8) -> bool
     true
 }
 
-// Whether the field of `width` bits from bit `at` on is `value`.
+// Whether the field of `width` bits from bit `at` on, a place of 16 bits, is `value`.
 pub fn reads(data: &[u8], at: usize, width: u8, value: u64) -> bool {
     if width > 56 {
         return false;
@@ -79,7 +79,10 @@ pub fn reads(data: &[u8], at: usize, width: u8, value: u64) -> bool {
     if at / 8 > data.len() {
         return false;
     }
-    bitpacker::extract_bits(data, at, width) == value
+    if at > 65535 {
+        return false;
+    }
+    bitpacker::extract_bits(data, at as u16, width) == value
 }
 
 // Whether `data` begins with the fields in turn.

@@ -11,6 +11,7 @@ use lib.Dec.{leb}
 use borrow.Author.Tests.{leb-false}
 use lib.ListN.{length, take, drop, length-drop}
 use lib.Seq.{take-all}
+use Rattle.layout.specs.Layout.{maxGroupLen}
 use Rattle.serialize.specs.Digits.{leVal}
 use Rattle.serialize.proofs.Tests.{neither}
 use Rattle.group.specs.declared.BlockAddr.{BlockAddr}
@@ -91,11 +92,11 @@ module _ (m : BlockAddrBlockMetadata) (count : ℕ) (addr : List ℕ)
   pub group-kept : GroupOk m count (length addr)
   group-kept = group-ok m count (length addr) (neither (groupBad m count (length addr)) _ e .0)
 
-  pub part-readable : Readable m (length (take (length addr - m .offset) (drop (m .offset) addr)))
-  part-readable =
+  pub part-readable : count ≤ maxGroupLen → Readable m (length (take (length addr - m .offset) (drop (m .offset) addr)))
+  part-readable few =
       let firsts = neither (leb limit (m .«range_start»)) (leb limit (m .«first_ordinal»)) (neither (groupBad m count (length addr)) _ e .1) in
       rw (rest-part addr (m .offset), length-drop (m .offset) addr)
-      (readable m count (length addr) group-kept (leb-false limit (m .«range_start») (firsts .0)) (leb-false limit (m .«first_ordinal») (firsts .1)))
+      (readable m count (length addr) group-kept few (leb-false limit (m .«range_start») (firsts .0)) (leb-false limit (m .«first_ordinal») (firsts .1)))
 
 -- the code's own values of group g are the definitions'
 module _ (recs addr : List ℕ) (g : ℕ) (m : BlockAddrBlockMetadata) (e : m ≡ groupMeta recs g) where

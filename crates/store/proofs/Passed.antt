@@ -10,6 +10,7 @@ use native.Mathlib.Numerals.{add-one}
 use native.Mathlib.Omega.{arith}
 use lib.Dec.{eqb, ltb, leb}
 use lib.ListN.{length, take, drop}
+use Rattle.layout.specs.Layout.{maxGroupLen}
 use Rattle.serialize.specs.Digits.{leVal}
 use Rattle.serialize.proofs.Tests.{neither}
 use Rattle.group.specs.declared.BlockAddr.{BlockAddr}
@@ -136,9 +137,10 @@ later : (L g : ℕ) → 0 < L * g → 0 < g
 later L zero h = absurd (let z : ⊥ = omega (arith, mul-zero L) in z)
 later L (suc g) h = omega arith
 
--- a group that keeps row 15, with its record
+-- a group of at most 256 blocks that keeps row 15, with its record
 pub record Group (L : ℕ) (recs addr : List ℕ) (n g : ℕ) (m : BlockAddrBlockMetadata) : Type 0 where
   pub some : 1 ≤ L
+  pub few : L ≤ maxGroupLen
   pub there : L * g < n
   pub is : m ≡ groupMeta recs g
   pub keeps : groupBad m (groupLen L n g) (length addr) ≡ false
@@ -192,7 +194,7 @@ module _ {L : ℕ} {recs addr : List ℕ} {n g : ℕ} {m : BlockAddrBlockMetadat
 
     module _ (good : firstBad m g before ≡ false) where
       pub group-readable : Readable m (length (take (length addr - m .offset) (drop (m .offset) addr)))
-      group-readable = part-readable m (groupLen L n g) addr (rw (group .keeps) (first-ok m g before good .inside))
+      group-readable = part-readable m (groupLen L n g) addr (rw (group .keeps) (first-ok m g before good .inside)) (omega (arith, group .few))
 
       pub passed-turn : (r : Got) (after : BlockAddr) → r ≡ lastOf own (m .«block_len») → r ≡ Block after → Passed L recs addr n (g + 1) after
       unfolding firstsBad blockRead rangeRead ordinalRead

@@ -2,7 +2,7 @@
 use Prim.Native.Nat.{ℕ, _*_, _≤_}
 use mathlib.Core.List.{List}
 use lib.ListN.{length}
-use Rattle.layout.specs.Layout.{maxBlocks, metaLen}
+use Rattle.layout.specs.Layout.{maxBlocks, maxGroupLen, metaLen}
 use Rattle.group.specs.Blocks.{blockAt}
 use Rattle.group.specs.Legal.{Legal}
 use Rattle.store.specs.Store.{groupCount}
@@ -10,7 +10,7 @@ use Rattle.store.specs.Store.{groupCount}
 -- a group's length, 1 to 256
 pub record GroupLenOk (L : ℕ) : Type 0 where
   pub some : 1 ≤ L
-  pub few : L ≤ 256
+  pub few : L ≤ maxGroupLen
 
 -- n legal blocks that stand in the area
 pub record StoreArea (area : List ℕ) (stride n : ℕ) : Type 0 where

@@ -4,7 +4,7 @@ ghost use mathlib.Core.Bool.{_||_};
 ghost use Prim.Native.Nat.{_+_, _*_, _≤_, _<_};
 ghost use lib.Dec.{leb};
 ghost use lib.ListN.{length};
-ghost use Rattle.layout.specs.Layout.{maxBlocks, metaLen};
+ghost use Rattle.layout.specs.Layout.{maxBlocks, maxGroupLen, metaLen};
 ghost use Rattle.group.specs.Legal.{limit};
 ghost use Rattle.group.specs.Read.{groupBad};
 ghost use Rattle.store.specs.Read.{groupMeta, blockOr, storeGet, storeBlock, StoreOk, OrdFoundIn, OrdFoundAs};
@@ -21,6 +21,7 @@ const FIRST_ORDINAL: usize = 16;
 
 // Whether a group can't be read.
 fn meta_bad(meta: BlockAddrBlockMetadata, count: usize, addr_len: usize) -> bool
+    requires { ⌜ count ≤ maxGroupLen ⌝ }
     ensures { λ r. ⌜ r ≡ (groupBad meta count «addr_len» || (leb limit (meta .«range_start») || leb limit (meta .«first_ordinal»))) ⌝ }
 {
     if group_read::group_bad(meta, count, addr_len) {

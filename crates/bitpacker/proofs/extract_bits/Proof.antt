@@ -32,8 +32,14 @@ extracted s addr n h l =
     ∙ ap (λ (m : ℕ). m % 2 ^ n) (shr-shr (leVal s) (8 * (addr / 8)) (addr % 8))
     ∙ ap (λ (m : ℕ). leVal s / 2 ^ m % 2 ^ n) e
 
+cast-load : tie.Need-cast-load
+cast-load c = search needs
+
 load-requires : tie.Need-load-requires
 load-requires c κs = search needs
+
+cast-result : tie.Need-cast-result
+cast-result c = search needs
 
 shr-result : tie.Need-shr-result
 shr-result c = search needs
@@ -51,4 +57,4 @@ returns c =
     (extracted (a .«data» .now) (a .addr-bits) (a .num-bits) (λ k. c .before .shared-slice-known .given k .fits) (omega arith))
 
 pub extract-bits-spec : {M : Type 1} → statement M
-extract-bits-spec = tie.close (tie.spec load-requires shr-result shl-result sub-result returns)
+extract-bits-spec = tie.close (tie.spec cast-load load-requires cast-result shr-result shl-result sub-result returns)

@@ -5,7 +5,9 @@ use mathlib.Core.Path.{sym, _∙_}
 use mathlib.Core.Bool.{true≢false}
 use Prim.Native.Nat.{_+_, _-_, _*_, _/_, _≤_}
 use native.Mathlib.Omega.{arith}
-use Rattle.group.proofs.Reading.{width-ok, width-not-bad, bits-small, group-bad-is, group-refused}
+use Rattle.layout.specs.Layout.{maxGroupLen}
+use Rattle.group.proofs.Reading.{width-ok, width-not-bad, group-bad-is, group-refused}
+use Rattle.group.proofs.Places.{bits-end}
 use Rattle.group_read.proofs.group_bad.Statement.{statement}
 use Rattle.group_read.proofs.group_bad.Tie as tie
 
@@ -53,14 +55,17 @@ returns-4 c =
     let a = c .before .before .before .before .before .before .before .before .before .args in
     group-refused (a .meta) (a .count) (a .addr-len) (λ k. omega arith)
 
-bits-few : (c : tie.After-group-bits) → c .group-bits .result ≤ 112 * 65536 + 56
+bits-few : (c : tie.After-group-bits) → c .group-bits .result ≤ 112 * (maxGroupLen - 1) + 56
 bits-few c =
     let m = c .before .before .before .before .before .before .before .args .meta in
     let r = range-ok (c .before .before .before) .1 in
-    omega (arith, bits-small (m .«range_start_nbits») (m .«first_ordinal_nbits») (m .«block_len») r (ordinal-ok (c .before .before .before) .1) (omega arith))
+    omega (arith, bits-end (m .«range_start_nbits») (m .«first_ordinal_nbits») (m .«block_len») maxGroupLen r (ordinal-ok (c .before .before .before) .1) (omega arith))
 
 add-result : tie.Need-add-result
 add-result c = omega (arith, bits-few (c .before .before))
+
+cast-result : tie.Need-cast-result
+cast-result c = search needs
 
 sub-result : tie.Need-sub-result
 sub-result c = search needs
@@ -96,5 +101,6 @@ group-bad-spec =
     group-bits-requires
     returns-4
     add-result
+    cast-result
     sub-result
     returns-5)

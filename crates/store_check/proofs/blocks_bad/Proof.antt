@@ -42,6 +42,7 @@ group c =
     let a = s .args in
     record {
       some = s .pre .0 .some;
+      few = s .pre .0 .few;
       there = group-first-lt (s .pre .0 .some) (a .n) (l .loop .g) (omega (arith, s .pre .2));
       is = c .deserialize .ensures;
       keeps =

@@ -53,7 +53,7 @@ blocks-in-requires c κs =
     omega (arith, group-first-lt (s .pre .0 .some) (s .args .n) (l .loop .g) (omega arith))
 
 group-bad-requires : tie.Need-group-bad-requires Inv-loop μ-loop
-group-bad-requires c κs = search needs
+group-bad-requires c κs = omega (arith, c .blocks-in .ensures, c .before .before .before .before .before .before .pre .0 .few)
 
 returns : tie.Need-returns Inv-loop μ-loop
 returns c =

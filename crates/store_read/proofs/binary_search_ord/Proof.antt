@@ -7,6 +7,7 @@ use Prim.Native.Nat.{ℕ, zero, suc, _+_, _-_, _*_, _≤_, _<_}
 use native.Mathlib.Nat.{mul-zero}
 use native.Mathlib.Omega.{arith}
 use lib.ListN.{length, take, drop}
+use Rattle.layout.specs.Layout.{maxGroupLen}
 use Rattle.serialize.specs.Digits.{leVal}
 use Rattle.group.specs.declared.BlockAddrBlockMetadata.{BlockAddrBlockMetadata}
 use Rattle.group.specs.Rows.{numbersBad}
@@ -60,8 +61,12 @@ begins c = let s = c .before .before .before .before in group-first-lt (s .pre .
 blocks-in-requires : tie.Need-blocks-in-requires
 blocks-in-requires c κs = omega (arith, begins (c .before))
 
+-- a group has 256 blocks at most
+few : (c : tie.After-blocks-in) → c .blocks-in .result ≤ maxGroupLen
+few c = omega (arith, c .blocks-in .ensures, c .before .before .before .before .before .before .pre .0 .few)
+
 meta-bad-requires : tie.Need-meta-bad-requires
-meta-bad-requires c κs = search needs
+meta-bad-requires c κs = few c
 
 -- the test of the group is the definition's
 tested : (c : tie.After-meta-bad) → c .meta-bad .result
@@ -98,7 +103,7 @@ kept c = group-kept _ _ (c .before .before .before .before .before .before .befo
 part-kept : (c : tie.Else1)
     → Readable (c .before .before .before .deserialize .result)
     (length (take (length (c .before .before .before .before .before .before .before .before .args .addrs .now) - c .before .before .before .deserialize .result .offset) (drop (c .before .before .before .deserialize .result .offset) (c .before .before .before .before .before .before .before .before .args .addrs .now))))
-part-kept c = part-readable _ _ (c .before .before .before .before .before .before .before .before .args .addrs .now) (sym (c .before .meta-bad .ensures) ∙ c .if1 .left)
+part-kept c = part-readable _ _ (c .before .before .before .before .before .before .before .before .args .addrs .now) (sym (c .before .meta-bad .ensures) ∙ c .if1 .left) (few (c .before .before))
 
 sub-bisect-for-ord : tie.Need-sub-bisect-for-ord
 sub-bisect-for-ord c = omega (arith, kept (c .before .before) .inside)

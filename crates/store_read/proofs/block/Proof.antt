@@ -3,9 +3,10 @@ use borrow.Author.Needs.{needs}
 use mathlib.Core.Path.{_≡_, sym, _∙_}
 use mathlib.Core.Bool.{true, false}
 use mathlib.Core.List.{List}
-use Prim.Native.Nat.{ℕ, _-_, _/_, _<_}
+use Prim.Native.Nat.{ℕ, _-_, _/_, _≤_, _<_}
 use native.Mathlib.Omega.{arith}
 use lib.ListN.{length, take, drop}
+use Rattle.layout.specs.Layout.{maxGroupLen}
 use Rattle.group.specs.declared.BlockAddr.{BlockAddr}
 use Rattle.group.specs.Facts.{Readable}
 use Rattle.group.proofs.Reading.{GroupOk}
@@ -42,8 +43,12 @@ blocks-in-requires c κs =
     let s = c .before .before .before in
     omega (arith, block-begins (s .args .group-len) (s .args .n) (s .pre .0 .some) (s .args .block-id) (s .pre .2))
 
+-- a group has 256 blocks at most
+few : (c : tie.After-blocks-in) → c .blocks-in .result ≤ maxGroupLen
+few c = omega (arith, c .blocks-in .ensures, c .before .before .before .before .pre .0 .few)
+
 meta-bad-requires : tie.Need-meta-bad-requires
-meta-bad-requires c κs = search needs
+meta-bad-requires c κs = few c
 
 -- the test of the group is the definition's
 tested : (c : tie.After-meta-bad) → c .meta-bad .result
@@ -67,7 +72,7 @@ kept c = group-kept _ _ (c .before .before .before .before .before .before .args
 part-kept : (c : tie.Else1)
     → Readable (c .before .before .before .deserialize .result)
     (length (take (length (c .before .before .before .before .before .before .args .addrs .now) - c .before .before .before .deserialize .result .offset) (drop (c .before .before .before .deserialize .result .offset) (c .before .before .before .before .before .before .args .addrs .now))))
-part-kept c = part-readable _ _ (c .before .before .before .before .before .before .args .addrs .now) (sym (c .before .meta-bad .ensures) ∙ c .if1 .left)
+part-kept c = part-readable _ _ (c .before .before .before .before .before .before .args .addrs .now) (sym (c .before .meta-bad .ensures) ∙ c .if1 .left) (few (c .before .before))
 
 sub-deserialize-block-addr : tie.Need-sub-deserialize-block-addr
 sub-deserialize-block-addr c = omega (arith, kept c .inside)

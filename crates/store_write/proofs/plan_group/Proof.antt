@@ -11,6 +11,7 @@ use Rattle.slope.specs.Slope.{bestSlope}
 use Rattle.slope.proofs.Widths.{bestSlope-lt}
 use Rattle.group.specs.Write.{planOf}
 use Rattle.group.specs.declared.BlockAddrBlockMetadata.{BlockAddrBlockMetadata}
+use Rattle.group.proofs.Blocks.{length-group}
 use Rattle.store.proofs.Stored.{planned-fits, planned-length}
 use Rattle.store.proofs.Plans.{kept-plan}
 use Rattle.store_write.proofs.plan_group.Statement.{statement}
@@ -56,8 +57,9 @@ slice-write-kept-2 c =
 
 addr-len-requires : tie.Need-addr-len-requires
 addr-len-requires c κs =
-    let fit = planned-fits bestSlope (c .before .before .before .before .before .pre .0) 0 (c .before .before .plan-block .ensures) bestSlope-lt in
-    (fit .ranges .high, fit .ordinals .high)
+    let group = c .before .before .before .before .before .pre .0 in
+    let fit = planned-fits bestSlope group 0 (c .before .before .plan-block .ensures) bestSlope-lt in
+    (fit .ranges .high, fit .ordinals .high, omega (arith, fit .blocks, length-group group, group .few))
 
 same-length : tie.Need-same-length
 same-length c = search needs

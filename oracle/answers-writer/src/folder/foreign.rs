@@ -24,6 +24,7 @@ fn put(folder: &mut Folder, name: &str, what: &str, groups: &[Group], addresses:
 
 pub fn files(folder: &mut Folder) {
     one_group(folder);
+    last_bit(folder);
     two_groups(folder);
 }
 
@@ -100,6 +101,26 @@ fn one_group(folder: &mut Folder) {
         };
         put(folder, name, what, &[wide], vec![0; wide.length()]);
     }
+}
+
+/// The highest bit that a group's fields can take.
+fn last_bit(folder: &mut Folder) {
+    let lengths: Vec<u64> = (0..128).map(|i| i % 7).collect();
+    let full = Group {
+        blocks: &touching(70, &lengths, 5, &[3; 127]),
+        offset: 0,
+        range_slope: 3,
+        ord_slope: 2,
+        range_width: 56,
+        ord_width: 56,
+    };
+    put(
+        folder,
+        "foreign-last-bit",
+        "128 blocks, both widths 56: the last field ends at bit 14,280, the highest that a group can have",
+        &[full],
+        vec![0; full.length()],
+    );
 }
 
 fn two_groups(folder: &mut Folder) {

@@ -88,6 +88,14 @@ fn small(fault: Fault) -> Vec<u8> {
     file.with(fault).bytes()
 }
 
+/// A file of one full group, as the writer makes it, with a fault.
+fn full_group(fault: Fault) -> Vec<u8> {
+    let blocks = touching(0, &[1; 128], 0, &[1; 127]);
+    File::written(&blocks, &keys_of_one_byte(128))
+        .with(fault)
+        .bytes()
+}
+
 /// The smallest file of two groups that opens, with a fault: 129 blocks, the groups with the same address bytes.
 fn two_groups(fault: Fault) -> Vec<u8> {
     let blocks = touching(0, &[1; 129], 0, &[1; 128]);
@@ -335,6 +343,15 @@ fn more() -> Vec<Case> {
             small(|file| {
                 file.widths(0, 57, 1);
                 file.addresses = vec![0; 8];
+            }),
+        ),
+        (
+            "15-widths-255",
+            &["ordinal width", "range width"],
+            "128 blocks, both widths 255, their fields inside: these would end at bit 65,025",
+            full_group(|file| {
+                file.widths(0, 255, 255);
+                file.addresses = vec![0; 8_129];
             }),
         ),
         (

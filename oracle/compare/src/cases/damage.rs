@@ -2,11 +2,13 @@
 
 use model::blocks::{random, touching};
 use model::faults::faults;
-use model::files::{File as Parts, rising, smallest, two_group_file, worked_file};
+use model::files::{
+    File as Parts, keys_of_one_byte, rising, smallest, two_group_file, worked_file,
+};
 use model::foreign::{self, Group};
 use model::numbers::Numbers;
 use model::opening::{self, Opened};
-use model::settings::LIMIT;
+use model::settings::{GROUP_LEN, LIMIT, WIDEST};
 
 use super::lookups;
 use crate::asked::quietly;
@@ -21,6 +23,7 @@ pub fn run(tally: &mut Tally) {
     numbers(tally);
     pairs(tally);
     by_row(tally);
+    places(tally);
     random_ones(tally, 20_000);
 }
 
@@ -231,6 +234,49 @@ fn by_row(tally: &mut Tally) {
         }
     }
 }
+
+/// A full group with every two widths and with other block counts, and address bytes for the widest: where the fields end decides
+/// nothing, so that widths and count alone are to be seen.
+fn places(tally: &mut Tally) {
+    tally.section("damage: a full group with every two widths, and other block counts");
+    let blocks = touching(0, &[2; GROUP_LEN], 0, &[1; GROUP_LEN - 1]);
+    let widest = Group {
+        blocks: &blocks,
+        offset: 0,
+        range_slope: 2,
+        ord_slope: 1,
+        range_width: WIDEST,
+        ord_width: WIDEST,
+    };
+    let store = foreign::store(&[widest], vec![0; 8 * 1_024]);
+    let file = Parts::new(&keys_of_one_byte(GROUP_LEN), &store);
+    let whole = Whole::new(file.bytes());
+    let mut part = file.clone();
+    for range in 0..=255 {
+        for ord in 0..=255 {
+            part.widths(0, ord, range);
+            opened::open(tally, &part.bytes());
+        }
+    }
+    for range in AROUND_WIDTHS {
+        for ord in AROUND_WIDTHS {
+            part.widths(0, ord, range);
+            whole.with(tally, &part.bytes());
+        }
+    }
+    for (range, ord) in [(1, 1), (WIDEST, WIDEST), (255, 255)] {
+        part.widths(0, ord, range);
+        for power in 0..=16 {
+            for count in [(1u32 << power) - 1, 1 << power, (1 << power) + 1] {
+                part.record(0, 34, &(count as u16).to_le_bytes());
+                whole.with(tally, &part.bytes());
+            }
+        }
+    }
+}
+
+/// Widths around the ends of their range, and the greatest.
+const AROUND_WIDTHS: [u8; 12] = [0, 1, 2, 55, 56, 57, 58, 63, 64, 127, 128, 255];
 
 /// Many bytes at once, by chance; or no file at all.
 fn random_ones(tally: &mut Tally, count: u64) {

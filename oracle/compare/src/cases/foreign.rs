@@ -14,6 +14,7 @@ use crate::tally::Tally;
 pub fn run(tally: &mut Tally) {
     widths(tally);
     wide(tally);
+    ends(tally);
     slopes(tally, 3_000);
     gaps(tally, 300);
     overlaps(tally);
@@ -81,21 +82,58 @@ fn wide(tally: &mut Tally) {
                 rng.pick(&[0, 1, 1 << 30]),
             ];
             let blocks = near_slopes(&mut rng, count, slopes, [range_width, ord_width]);
-            let (mut groups, mut offset) = (Vec::new(), rng.below(3) as usize);
-            for blocks in blocks.chunks(GROUP_LEN) {
-                let next = Group {
-                    blocks,
-                    offset,
-                    range_slope: slopes[0],
-                    ord_slope: slopes[1],
-                    range_width,
-                    ord_width,
-                };
-                offset += next.length();
-                groups.push(next);
-            }
-            let junk = rng.bytes(offset as u64);
+            let offset = rng.below(3) as usize;
+            let (groups, end) = touching_groups(&blocks, offset, slopes, [range_width, ord_width]);
+            let junk = rng.bytes(end as u64);
             open(tally, &mut rng, &groups, junk);
+        }
+    }
+}
+
+/// The groups of these blocks from an offset on, no byte between them, and where the last one's fields end.
+fn touching_groups(
+    blocks: &[Block],
+    mut offset: usize,
+    slopes: [u32; 2],
+    widths: [u8; 2],
+) -> (Vec<Group<'_>>, usize) {
+    let mut groups = Vec::new();
+    for blocks in blocks.chunks(GROUP_LEN) {
+        let next = Group {
+            blocks,
+            offset,
+            range_slope: slopes[0],
+            ord_slope: slopes[1],
+            range_width: widths[0],
+            ord_width: widths[1],
+        };
+        offset += next.length();
+        groups.push(next);
+    }
+    (groups, offset)
+}
+
+/// Widths at their ends in full groups, where the last field ends at bit 14,280 at most: every id, and the ordinals around every
+/// block's. No byte is to spare.
+fn ends(tally: &mut Tally) {
+    tally.section("foreign: full groups of the widest fields, every id and every ordinal");
+    let mut rng = Numbers::from_seed(117);
+    let widths = [1, 2, 49, 55, WIDEST];
+    for widths in widths.map(|range| widths.map(|ord| [range, ord])).concat() {
+        for n in [GROUP_LEN - 1, GROUP_LEN, GROUP_LEN + 1, 2 * GROUP_LEN] {
+            let slopes = [rng.pick(&[3, 1 << 31]), rng.pick(&[1, 1 << 30])];
+            let blocks = near_slopes(&mut rng, n, slopes, widths);
+            let (groups, end) = touching_groups(&blocks, 0, slopes, widths);
+            let keys = rising(&mut rng, n as u64, 4);
+            let store = foreign::store(&groups, rng.bytes(end as u64));
+            let file = opened::open(tally, &Parts::new(&keys, &store).bytes());
+            assert_eq!(file.opening.blocks, blocks);
+            for (id, block) in (0..).zip(&blocks) {
+                file.id(tally, id);
+                for ord in [block.ord.saturating_sub(1), block.ord, block.ord + 1] {
+                    file.ord(tally, ord);
+                }
+            }
         }
     }
 }

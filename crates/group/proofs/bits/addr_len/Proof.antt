@@ -1,7 +1,8 @@
 -- `group::bits::addr_len` meets its contract.
 use borrow.Author.Needs.{needs}
 use native.Mathlib.Omega.{arith}
-use Rattle.group.proofs.Reading.{bits-small}
+use Rattle.layout.specs.Layout.{maxGroupLen}
+use Rattle.group.proofs.Places.{bits-end}
 use Rattle.group.proofs.bits.addr_len.Statement.{statement}
 use Rattle.group.proofs.bits.addr_len.Tie as tie
 
@@ -15,10 +16,13 @@ add-result : tie.Need-add-result
 add-result c =
     let start = c .before .before in
     let m = start .args .meta in
-    omega (arith, bits-small (m .«range_start_nbits») (m .«first_ordinal_nbits») (m .«block_len») (start .pre .0) (start .pre .1) (omega arith))
+    omega (arith, bits-end (m .«range_start_nbits») (m .«first_ordinal_nbits») (m .«block_len») maxGroupLen (omega arith) (omega arith) (omega arith))
+
+cast-result : tie.Need-cast-result
+cast-result c = search needs
 
 returns : tie.Need-returns
 returns c = search needs
 
 pub addr-len-spec : {M : Type 1} → statement M
-addr-len-spec = tie.close (tie.spec cast-group-bits group-bits-requires add-result returns)
+addr-len-spec = tie.close (tie.spec cast-group-bits group-bits-requires add-result cast-result returns)
