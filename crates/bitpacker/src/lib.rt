@@ -15,24 +15,12 @@ pub fn compute_num_bits(value: u64) -> u8
     if amplitude <= 56 { amplitude as u8 } else { 64 }
 }
 
-// The number that the last bytes spell, fewer than eight. Each count has its own loads and no loop, and the code is too long
-// to be copied to every call of `load`.
-fn load_tail(data: &[u8], at: usize, left: usize) -> u64
-    requires { ⌜ (left < 8) × (at + left ≤ length (now «data»)) ⌝ }
+// The number that the last bytes spell, fewer than four. Each count has its own loads and no loop.
+fn load_few(data: &[u8], at: usize, left: usize) -> u64
+    requires { ⌜ (left < 4) × (at + left ≤ length (now «data»)) ⌝ }
     ensures { λ r. ⌜ r ≡ numberAt (now («data» .entry)) at left ⌝ }
+    ensures { λ r. ⌜ r < 2 ^ 24 ⌝ }
 {
-    if left >= 7 {
-        return serialize::deserialize_le(data, at, 7);
-    }
-    if left >= 6 {
-        return serialize::deserialize_le(data, at, 6);
-    }
-    if left >= 5 {
-        return serialize::deserialize_le(data, at, 5);
-    }
-    if left >= 4 {
-        return serialize::deserialize_le(data, at, 4);
-    }
     if left >= 3 {
         return serialize::deserialize_le(data, at, 3);
     }
@@ -43,6 +31,19 @@ fn load_tail(data: &[u8], at: usize, left: usize) -> u64
         return serialize::deserialize_le(data, at, 1);
     }
     0
+}
+
+// The number that the last bytes spell, fewer than eight: four at once, then the rest. It is short, so that it can be copied to
+// where a field is read.
+fn load_tail(data: &[u8], at: usize, left: usize) -> u64
+    requires { ⌜ (left < 8) × (at + left ≤ length (now «data»)) ⌝ }
+    ensures { λ r. ⌜ r ≡ numberAt (now («data» .entry)) at left ⌝ }
+{
+    if left < 4 {
+        return load_few(data, at, left);
+    }
+    let low = serialize::deserialize_le(data, at, 4);
+    low + 0x1_0000_0000 * load_few(data, at + 4, left - 4)
 }
 
 // The number that the eight bytes from `at` on spell, or those that are left.

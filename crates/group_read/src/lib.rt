@@ -91,6 +91,44 @@ pub fn first_ordinal(meta: BlockAddrBlockMetadata, data: &[u8], i: usize) -> u64
     )
 }
 
+// A block's start and first ordinal.
+pub struct BlockStartAddr {
+    pub range_start: u64,
+    pub first_ordinal: u64,
+}
+
+// The start and the first ordinal of block i, which isn't the group's first, where their fields have at most 56 bits together: the
+// fields touch, so that one read gives both.
+pub fn block_start(meta: BlockAddrBlockMetadata, data: &[u8], i: usize) -> BlockStartAddr
+    requires { ⌜ Readable meta (length (now «data»)) × (0 < i) × (i ≤ meta .«block_len»)
+        × (meta .«range_start_nbits» + meta .«first_ordinal_nbits» ≤ 56) ⌝ }
+    ensures { λ r. ⌜ (r .«range_start» ≡ rangeRead meta (leVal (now («data» .entry))) i)
+        × (r .«first_ordinal» ≡ ordinalRead meta (leVal (now («data» .entry))) i) ⌝ }
+{
+    let range_nbits = meta.range_start_nbits;
+    let ordinal_nbits = meta.first_ordinal_nbits;
+    let bit = bits::range_bit(range_nbits, ordinal_nbits, i - 1);
+    let both = bitpacker::extract_bits(data, bit, range_nbits + ordinal_nbits);
+    let range = both & ((1u64 << range_nbits) - 1);
+    let ordinal = both >> range_nbits;
+    BlockStartAddr {
+        range_start: value(
+            meta.range_start,
+            range,
+            meta.range_start_slope,
+            i,
+            range_nbits,
+        ),
+        first_ordinal: value(
+            meta.first_ordinal,
+            ordinal,
+            meta.first_ordinal_slope,
+            i,
+            ordinal_nbits,
+        ),
+    }
+}
+
 // Block i of the group. `data` is the address bytes from the group's offset on.
 pub fn deserialize_block_addr(
     meta: BlockAddrBlockMetadata,

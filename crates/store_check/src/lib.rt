@@ -1,7 +1,7 @@
 // Rows 15 and 16 over a whole store.
 ghost use mathlib.Core.Path.{_≡_};
 ghost use mathlib.Core.Bool.{false, not, _||_, _&&_, cond};
-ghost use Prim.Native.Nat.{_+_};
+ghost use Prim.Native.Nat.{_+_, _≤_};
 ghost use lib.Dec.{eqb, ltb, leb};
 ghost use lib.ListN.{length};
 ghost use Rattle.serialize.specs.Digits.{leVal};
@@ -61,8 +61,8 @@ fn first_bad(meta: BlockAddrBlockMetadata, g: usize, before: BlockAddr) -> bool
 
 // The last block of a group whose blocks keep rows 3 to 5. Each field is read once: a block's end is the start of the
 // next, and as starts and ordinals don't fall, only the last are held to the limit.
-fn last_block(meta: BlockAddrBlockMetadata, data: &[u8]) -> Got
-    requires { ⌜ Readable meta (length (now «data»)) ⌝ }
+fn last_block_narrow(meta: BlockAddrBlockMetadata, data: &[u8]) -> Got
+    requires { ⌜ Readable meta (length (now «data»)) × (meta .«range_start_nbits» + meta .«first_ordinal_nbits» ≤ 56) ⌝ }
     ensures { λ r. ⌜ r ≡ cond (blocksBad (blockRead meta (leVal (now («data» .entry)))) (meta .«block_len» + 1)) Broken
         (Block (blockRead meta (leVal (now («data» .entry))) (meta .«block_len»))) ⌝ }
 {
@@ -71,16 +71,15 @@ fn last_block(meta: BlockAddrBlockMetadata, data: &[u8]) -> Got
     let mut first_ordinal = meta.first_ordinal;
     let mut i: usize = 0;
     while i < last {
-        let end = group_read::range_start(meta, data, i + 1);
-        let next = group_read::first_ordinal(meta, data, i + 1);
-        if end < start {
+        let next = group_read::block_start(meta, data, i + 1);
+        if next.range_start < start {
             return Got::Broken;
         }
-        if next <= first_ordinal {
+        if next.first_ordinal <= first_ordinal {
             return Got::Broken;
         }
-        start = end;
-        first_ordinal = next;
+        start = next.range_start;
+        first_ordinal = next.first_ordinal;
         i += 1;
     }
     let end = group_read::range_start(meta, data, last + 1);
@@ -93,6 +92,53 @@ fn last_block(meta: BlockAddrBlockMetadata, data: &[u8]) -> Got
         return Got::Broken;
     }
     Got::Block(block)
+}
+
+// The same where a block's two fields have more bits than one read gives. A loop of its own, so that the compiler keeps the other small.
+fn last_block_wide(meta: BlockAddrBlockMetadata, data: &[u8]) -> Got
+    requires { ⌜ Readable meta (length (now «data»)) ⌝ }
+    ensures { λ r. ⌜ r ≡ cond (blocksBad (blockRead meta (leVal (now («data» .entry)))) (meta .«block_len» + 1)) Broken
+        (Block (blockRead meta (leVal (now («data» .entry))) (meta .«block_len»))) ⌝ }
+{
+    let len = meta.block_len as usize;
+    let mut start = meta.range_start;
+    let mut first_ordinal = meta.first_ordinal;
+    let mut i: usize = 0;
+    while i < len {
+        let end = group_read::range_start(meta, data, i + 1);
+        let next = group_read::first_ordinal(meta, data, i + 1);
+        if end < start {
+            return Got::Broken;
+        }
+        if next <= first_ordinal {
+            return Got::Broken;
+        }
+        start = end;
+        first_ordinal = next;
+        i += 1;
+    }
+    let end = group_read::range_start(meta, data, len + 1);
+    let block = BlockAddr {
+        start,
+        end,
+        first_ordinal,
+    };
+    if group::rows::numbers_bad(block) {
+        return Got::Broken;
+    }
+    Got::Block(block)
+}
+
+// The last block of a group, or that one of its blocks breaks rows 3 to 5.
+fn last_block(meta: BlockAddrBlockMetadata, data: &[u8]) -> Got
+    requires { ⌜ Readable meta (length (now «data»)) ⌝ }
+    ensures { λ r. ⌜ r ≡ cond (blocksBad (blockRead meta (leVal (now («data» .entry)))) (meta .«block_len» + 1)) Broken
+        (Block (blockRead meta (leVal (now («data» .entry))) (meta .«block_len»))) ⌝ }
+{
+    if meta.range_start_nbits + meta.first_ordinal_nbits > 56 {
+        return last_block_wide(meta, data);
+    }
+    last_block_narrow(meta, data)
 }
 
 // Row 16: whether a first value is outside the range, or a block breaks 3, 4 or 5.

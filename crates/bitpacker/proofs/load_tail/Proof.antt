@@ -1,83 +1,70 @@
--- `bitpacker::load_tail` meets its contract: each count is that of its own loads. Assumes nothing.
+-- `bitpacker::load_tail` meets its contract: the four lowest bytes and those after them are all of them. Assumes nothing.
 use borrow.Author.Needs.{needs}
-use mathlib.Core.Path.{_≡_, refl, sym, ap, _∙_}
+use mathlib.Core.Path.{_≡_, sym, ap, _∙_}
 use mathlib.Core.List.{List}
-use Prim.Native.Nat.{ℕ}
+use Prim.Native.Nat.{ℕ, _+_, _-_, _*_, _/_, _%_, _^_}
 use native.Mathlib.Omega.{arith}
-use lib.ListN.{take, drop}
-use Rattle.serialize.specs.Digits.{ofDigits, leVal}
+use lib.ListN.{drop}
+use lib.Pow.{mod-pow-add, shr-shr}
+use Rattle.serialize.specs.Digits.{leVal, numberAt, DigitsBelow}
+use Rattle.serialize.proofs.Digits.{ofDigits-take, ofDigits-drop, below-drop}
 use Rattle.bitpacker.proofs.load_tail.Statement.{statement}
 use Rattle.bitpacker.proofs.load_tail.Tie as tie
 
--- as many bytes as are left
-same : (l : List ℕ) (r at k left : ℕ) → r ≡ leVal (take k (drop at l)) → left ≡ k → r ≡ leVal (take left (drop at l))
-same l r at k left e h = e ∙ ap (λ (w : ℕ). leVal (take w (drop at l))) (sym h)
+-- the number of 4 + k bytes by its parts
+split : (l : List ℕ) (at k left : ℕ) → DigitsBelow 8 l → left ≡ 4 + k → numberAt l at 4 + 4294967296 * numberAt l (at + 4) k ≡ numberAt l at left
+split l at k left h e =
+    let all = leVal (drop at l) in
+    let low : numberAt l at 4 ≡ all % 2 ^ 32 = ofDigits-take 8 4 (drop at l) (below-drop 8 at l h) in
+    let shift : 8 * (at + 4) ≡ 8 * at + 32 = omega arith in
+    let behind : leVal (drop (at + 4) l) ≡ all / 2 ^ 32 =
+    ofDigits-drop 8 (at + 4) l h
+    ∙ ap (λ (x : ℕ). leVal l / 2 ^ x) shift
+    ∙ sym (shr-shr (leVal l) (8 * at) 32)
+    ∙ ap (λ (x : ℕ). x / 2 ^ 32) (sym (ofDigits-drop 8 at l h)) in
+    let high : numberAt l (at + 4) k ≡ all / 2 ^ 32 % 2 ^ (8 * k) =
+    ofDigits-take 8 k (drop (at + 4) l) (below-drop 8 (at + 4) l h) ∙ ap (λ (x : ℕ). x % 2 ^ (8 * k)) behind in
+    let bits : 8 * left ≡ 8 * k + 32 = omega arith in
+    let whole : numberAt l at left ≡ (all / 2 ^ 32 % 2 ^ (8 * k)) * 2 ^ 32 + all % 2 ^ 32 =
+    ofDigits-take 8 left (drop at l) (below-drop 8 at l h) ∙ ap (λ (x : ℕ). all % 2 ^ x) bits ∙ mod-pow-add all (8 * k) 32 in
+    omega (arith, low, high, whole)
+
+load-few-requires : tie.Need-load-few-requires
+load-few-requires c κs = search needs
+
+returns : tie.Need-returns
+returns c = search needs
 
 deserialize-le-requires : tie.Need-deserialize-le-requires
 deserialize-le-requires c κs = search needs
 
-returns : tie.Need-returns
-returns c =
-    let a = c .before .before .before .args in
-    same (a .«data» .now) _ (a .at) 7 (a .left) (c .deserialize-le .ensures .0) (omega (arith, c .before .if1 .taken, c .before .before .before .pre .0))
+add-load-few : tie.Need-add-load-few
+add-load-few c = search needs
 
-deserialize-le-requires-2 : tie.Need-deserialize-le-requires-2
-deserialize-le-requires-2 c κs = search needs
+load-few-requires-2 : tie.Need-load-few-requires-2
+load-few-requires-2 c κs = search needs
+
+mul-result : tie.Need-mul-result
+mul-result c = search needs
+
+add-result : tie.Need-add-result
+add-result c = search needs
 
 returns-2 : tie.Need-returns-2
 returns-2 c =
     let a = c .before .before .before .before .args in
-    same (a .«data» .now) _ (a .at) 6 (a .left) (c .deserialize-le2 .ensures .0) (omega (arith, c .before .if2 .taken, c .before .before .if1 .left))
-
-deserialize-le-requires-3 : tie.Need-deserialize-le-requires-3
-deserialize-le-requires-3 c κs = search needs
-
-returns-3 : tie.Need-returns-3
-returns-3 c =
-    let a = c .before .before .before .before .before .args in
-    same (a .«data» .now) _ (a .at) 5 (a .left) (c .deserialize-le3 .ensures .0) (omega (arith, c .before .if3 .taken, c .before .before .if2 .left))
-
-deserialize-le-requires-4 : tie.Need-deserialize-le-requires-4
-deserialize-le-requires-4 c κs = search needs
-
-returns-4 : tie.Need-returns-4
-returns-4 c =
-    let a = c .before .before .before .before .before .before .args in
-    same (a .«data» .now) _ (a .at) 4 (a .left) (c .deserialize-le4 .ensures .0) (omega (arith, c .before .if4 .taken, c .before .before .if3 .left))
-
-deserialize-le-requires-5 : tie.Need-deserialize-le-requires-5
-deserialize-le-requires-5 c κs = search needs
-
-returns-5 : tie.Need-returns-5
-returns-5 c =
-    let a = c .before .before .before .before .before .before .before .args in
-    same (a .«data» .now) _ (a .at) 3 (a .left) (c .deserialize-le5 .ensures .0) (omega (arith, c .before .if5 .taken, c .before .before .if4 .left))
-
-deserialize-le-requires-6 : tie.Need-deserialize-le-requires-6
-deserialize-le-requires-6 c κs = search needs
-
-returns-6 : tie.Need-returns-6
-returns-6 c =
-    let a = c .before .before .before .before .before .before .before .before .args in
-    same (a .«data» .now) _ (a .at) 2 (a .left) (c .deserialize-le6 .ensures .0) (omega (arith, c .before .if6 .taken, c .before .before .if5 .left))
-
-deserialize-le-requires-7 : tie.Need-deserialize-le-requires-7
-deserialize-le-requires-7 c κs = search needs
-
-returns-7 : tie.Need-returns-7
-returns-7 c =
-    let a = c .before .before .before .before .before .before .before .before .before .args in
-    same (a .«data» .now) _ (a .at) 1 (a .left) (c .deserialize-le7 .ensures .0) (omega (arith, c .before .if7 .taken, c .before .before .if6 .left))
-
--- none are left
-nothing : (l : List ℕ) (at : ℕ) → 0 ≡ leVal (take 0 (drop at l))
-unfolding ofDigits
-nothing l at = refl
-
-returns-8 : tie.Need-returns-8
-returns-8 c =
-    let a = c .before .before .before .before .before .before .before .before .args in
-    same (a .«data» .now) 0 (a .at) 0 (a .left) (nothing (a .«data» .now) (a .at)) (omega (arith, c .if7 .left))
+    rw (c .before .deserialize-le .ensures .0, c .load-few2 .ensures .0)
+    (split (a .«data» .now) (a .at) (a .left - 4) (a .left) (λ k. c .before .before .before .shared-slice-known .given k .fits) (omega arith))
 
 pub load-tail-spec : {M : Type 1} → statement M
-load-tail-spec = tie.close (tie.spec deserialize-le-requires returns deserialize-le-requires-2 returns-2 deserialize-le-requires-3 returns-3 deserialize-le-requires-4 returns-4 deserialize-le-requires-5 returns-5 deserialize-le-requires-6 returns-6 deserialize-le-requires-7 returns-7 returns-8)
+load-tail-spec =
+    tie.close
+    (tie.spec
+    load-few-requires
+    returns
+    deserialize-le-requires
+    add-load-few
+    load-few-requires-2
+    mul-result
+    add-result
+    returns-2)
