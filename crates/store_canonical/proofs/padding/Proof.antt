@@ -8,10 +8,6 @@ use Rattle.bitpacker.specs.Fields.{groupBits}
 use Rattle.group.proofs.Places.{bits-end}
 use Rattle.store_canonical.proofs.padding.Statement.{statement}
 use Rattle.store_canonical.proofs.padding.Tie as tie
-use Rattle.store_canonical.proofs.padding.Reads as reads
-use Rattle.store_canonical.proofs.padding.Lts as lts
-use Rattle.bitpacker.proofs.extract_bits.Reads as extract-bits-reads
-use Rattle.group.proofs.bits.group_bits.Reads as group-bits-reads
 
 -- where the bits end
 few-bits : (s : tie.Start) → let m = s .args .meta in groupBits (m .«range_start_nbits») (m .«first_ordinal_nbits») (m .«block_len») ≤ 28616
