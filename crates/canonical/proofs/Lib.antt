@@ -1,2 +1,3 @@
 pub mod Cut
 pub mod Parts
+pub mod Theorems

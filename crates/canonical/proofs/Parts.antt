@@ -53,7 +53,7 @@ same-five D H R A R′ A′ F e =
 
 -- ---- an opened file
 
-length-blocksFrom : (block : ℕ → BlockAddr) (i count : ℕ) → length (blocksFrom block i count) ≡ count
+pub length-blocksFrom : (block : ℕ → BlockAddr) (i count : ℕ) → length (blocksFrom block i count) ≡ count
 unfolding blocksFrom
 length-blocksFrom block i zero = refl
 length-blocksFrom block i (suc count) = ap suc (length-blocksFrom block (suc i) count)
