@@ -5,8 +5,7 @@ use mathlib.Core.Bool.{Bool, true, false, _&&_, cond, and-assoc}
 use mathlib.Core.List.{List, [], _∷_, _++_, append-assoc, append-cancel-right}
 use native.Mathlib.Omega.{arith}
 use lib.Dec.{eqb}
-use lib.ListN.{length, drop, length-drop}
-use lib.Seq.{length-take-le}
+use lib.ListN.{length}
 use Rattle.serialize.specs.Digits.{leBytes, DigitsBelow}
 use Rattle.group.specs.declared.BlockAddr.{BlockAddr}
 use Rattle.group.specs.Rows.{orRow}
@@ -21,9 +20,9 @@ use Rattle.store_canonical.proofs.Same.{same-self, same-true, same-equal, same-
 use Rattle.builder.specs.Index.{Settings, indexBytes}
 use Rattle.index.specs.Parts.{directoryLen, directoryPart, groupRecordsLen, groupRecordsPart, addrsPart, countIn, blockIn}
 use Rattle.index.specs.Opening.{openNo}
-use Rattle.index.proofs.OpeningRows.{FooterOk, footer-ok, RecordsExact, records-ok, OpenOk, open-ok, length-directoryPart}
+use Rattle.index.proofs.OpeningRows.{footer-ok, records-ok, open-ok, length-directoryPart}
 use Rattle.canonical.specs.Canonical.{blocksIn, separatorsIn, rewritten, canonicalNo}
-use Rattle.canonical.proofs.Cut.{directory-bytes, file-is}
+use Rattle.canonical.proofs.Cut.{length-recordsPart, directory-bytes, file-is}
 
 -- ---- the test of equal bytes, by parts
 
@@ -73,15 +72,6 @@ module _ (S : Settings) (f : List ℕ) (len : GroupLenOk (S .groupLen)) (bytes :
   abbrev addrs-anew : List ℕ
   addrs-anew = addrs (S .choose) (S .groupLen) (groupCount (S .groupLen) (countIn f)) (blocksIn (S .groupLen) f)
 
-  ok : OpenOk (S .groupLen) f
-  ok = open-ok (S .groupLen) f opened
-
-  footer : FooterOk f
-  footer = footer-ok f (ok .footer)
-
-  records : RecordsExact (S .groupLen) f
-  records = records-ok (S .groupLen) f (ok .records)
-
   length-blocksIn : length (blocksIn (S .groupLen) f) ≡ countIn f
   length-blocksIn = length-blocksFrom (blockIn (S .groupLen) f) 0 (countIn f)
 
@@ -90,17 +80,18 @@ module _ (S : Settings) (f : List ℕ) (len : GroupLenOk (S .groupLen)) (bytes :
       ≡ directoryBytes (separatorsIn f) ++ ((leBytes 8 (groupRecordsLen f) ++ (records-anew ++ addrs-anew)) ++ leBytes 8 (directoryLen f))
   unfolding rewritten
   rewritten-is =
+      let ok = open-ok (S .groupLen) f opened in
       index-by S (blocksIn (S .groupLen) f) (separatorsIn f) (countIn f) (directoryLen f) (groupRecordsLen f) length-blocksIn
-      (ap length (sym (directory-bytes (S .groupLen) f bytes opened)) ∙ length-directoryPart f footer) (records .exact)
+      (ap length (sym (directory-bytes (S .groupLen) f bytes opened)) ∙ length-directoryPart f (footer-ok f (ok .footer)))
+      (records-ok (S .groupLen) f (ok .records) .exact)
 
   length-anew : length (groupRecordsPart f) ≡ length records-anew
   length-anew =
-      let at = directoryLen f + 8 in
       let G = groupCount (S .groupLen) (countIn f) in
       let some = len .some in
       let below : S .groupLen * G < length (blocksIn (S .groupLen) f) + S .groupLen = rw length-blocksIn (group-count-below some (countIn f)) in
-      length-take-le (groupRecordsLen f) (drop at f) (omega (arith, length-drop at f, footer .inside, records .inside))
-      ∙ records .exact ∙ sym (length-records (S .choose) (S .groupLen) G 0 (blocksIn (S .groupLen) f) some below)
+      length-recordsPart (S .groupLen) f opened
+      ∙ sym (length-records (S .choose) (S .groupLen) G 0 (blocksIn (S .groupLen) f) some below)
 
   pub canonical-parts : canonicalNo S f
       ≡ cond (storeCanonical (S .choose) (S .groupLen) (groupRecordsPart f) (addrsPart f) (countIn f)) 0 27

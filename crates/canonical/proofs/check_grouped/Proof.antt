@@ -1,32 +1,34 @@
+-- `canonical::check_grouped` meets its contract: opening's number, or that of the opened index.
 use borrow.Author.Needs.{needs}
+use mathlib.Core.Path.{sym, _∙_}
+use Rattle.builder.specs.Index.{settingsOf}
+use Rattle.index.specs.Opening.{OpensBy}
+use Rattle.canonical.proofs.Opened.{refused-number}
 use Rattle.canonical.proofs.check_grouped.Statement.{statement}
 use Rattle.canonical.proofs.check_grouped.Tie as tie
-use Rattle.canonical.proofs.check_grouped.Reads as reads
-use Rattle.canonical.proofs.check_grouped.Lts as lts
-use Rattle.canonical.proofs.store_no.Reads as store-no-reads
-use Rattle.index_load.proofs.grouped.load.Reads as load-reads
 
--- src/lib.rt:38:11
 load-requires : tie.Need-load-requires
 load-requires c κs = search needs
 
--- src/lib.rt:39:25
 enum-known-no : tie.Need-enum-known-no
 enum-known-no c = search needs
 
--- src/lib.rt:40:24
 enum-known-opened : tie.Need-enum-known-opened
 enum-known-opened c = search needs
 
--- src/lib.rt:40:35
+opens : (c : tie.After-opened) → let a = c .before .before .before .before .args in OpensBy (a .group-len) (a .«data» .now) (c .opened .given .0 .0)
+opens c = sym (c .before .before .load .ensures) ∙ c .opened .given .1
+
 store-no-requires : tie.Need-store-no-requires
-store-no-requires c κs = ?
+store-no-requires c κs = (c .before .before .before .before .before .pre, opens (c .before))
 
--- src/lib.rt:34:1
 returns : tie.Need-returns
-returns c = ?
+returns c =
+    let found = c .before in
+    let loaded = found .before .before in
+    let a = loaded .before .before .args in
+    refused-number (settingsOf (a .group-len)) (a .«data» .now) (found .no .given .0 .0) (sym (loaded .load .ensures) ∙ found .no .given .1)
 
--- src/lib.rt:34:1
 returns-2 : tie.Need-returns-2
 returns-2 c = search needs
 
