@@ -1,10 +1,9 @@
 -- A file that opens differs from the index made of its blocks and separators in the store alone, and there in the group records and the address bytes.
-use Prim.Native.Nat.{ℕ, zero, suc, _+_, _*_, _<_}
+use Prim.Native.Nat.{ℕ, _+_, _*_, _<_}
 use mathlib.Core.Path.{_≡_, refl, sym, ap, _∙_}
 use mathlib.Core.Bool.{Bool, true, false, _&&_, cond, and-assoc}
 use mathlib.Core.List.{List, [], _∷_, _++_, append-assoc, append-cancel-right}
 use native.Mathlib.Omega.{arith}
-use lib.Dec.{eqb}
 use lib.ListN.{length}
 use Rattle.serialize.specs.Digits.{leBytes, DigitsBelow}
 use Rattle.group.specs.declared.BlockAddr.{BlockAddr}
@@ -15,10 +14,11 @@ use Rattle.store.specs.Facts.{GroupLenOk}
 use Rattle.store.proofs.Groups.{group-count-below}
 use Rattle.store.proofs.Stored.{length-records}
 use Rattle.store_canonical.specs.Same.{sameBytes}
-use Rattle.store_canonical.specs.Canonical.{blocksFrom, storeCanonical}
+use Rattle.store_canonical.specs.Canonical.{storeCanonical}
+use Rattle.store_canonical.proofs.Blocks.{length-blocksFrom}
 use Rattle.store_canonical.proofs.Same.{same-self, same-true, same-equal, same-differs, differs-same}
 use Rattle.builder.specs.Index.{Settings, indexBytes}
-use Rattle.index.specs.Parts.{directoryLen, directoryPart, groupRecordsLen, groupRecordsPart, addrsPart, countIn, blockIn}
+use Rattle.index.specs.Parts.{directoryLen, groupRecordsLen, groupRecordsPart, addrsPart, countIn, blockIn}
 use Rattle.index.specs.Opening.{openNo}
 use Rattle.index.proofs.OpeningRows.{footer-ok, records-ok, open-ok, length-directoryPart}
 use Rattle.canonical.specs.Canonical.{blocksIn, separatorsIn, rewritten, canonicalNo}
@@ -51,11 +51,6 @@ same-five D H R A R′ A′ F e =
     rw (append-assoc H (R′ ++ A′) F, append-assoc R′ A′ F, same-front D, same-front H, same-parts R R′ (A ++ F) (A′ ++ F) e, same-back A A′ F)
 
 -- ---- an opened file
-
-pub length-blocksFrom : (block : ℕ → BlockAddr) (i count : ℕ) → length (blocksFrom block i count) ≡ count
-unfolding blocksFrom
-length-blocksFrom block i zero = refl
-length-blocksFrom block i (suc count) = ap suc (length-blocksFrom block (suc i) count)
 
 -- an index by the count of its blocks, the length of its directory and that of its group records
 index-by : (S : Settings) (bs : List BlockAddr) (ks : List (List ℕ)) (n d m : ℕ) → length bs ≡ n → length (directoryBytes ks) ≡ d → m ≡ 36 * groupCount (S .groupLen) n

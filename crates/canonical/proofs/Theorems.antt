@@ -9,22 +9,21 @@ use borrow.Author.Tests.{le-ltb}
 use lib.ListN.{length, take}
 use lib.Seq.{sets}
 use Rattle.serialize.proofs.Stores.{sets-part}
-use Rattle.group.specs.Blocks.{blocksAt}
 use Rattle.group.specs.Rows.{orRow}
 use Rattle.group.proofs.Blocks.{length-blocksAt}
 use Rattle.group.proofs.RowOrder.{orRow-first, orRow-zero}
 use Rattle.store_canonical.specs.Same.{sameBytes}
+use Rattle.store_canonical.proofs.Blocks.{length-blocksFrom}
 use Rattle.store_canonical.proofs.Same.{same-true, same-equal}
 use Rattle.builder.specs.View.{stride}
-use Rattle.builder.specs.Index.{Settings, indexBytes}
-use Rattle.builder.specs.Finish.{areaDirectory, areaIndex, Finish, finishDef}
+use Rattle.builder.specs.Index.{Settings}
+use Rattle.builder.specs.Finish.{areaDirectory, areaIndex, finishDef}
 use Rattle.builder.specs.declared.SSTableIndexBuilder.{SSTableIndexBuilder}
 use Rattle.builder.proofs.FinishNumbers.{finish-taken}
 use Rattle.index.specs.Parts.{countIn, blockIn}
 use Rattle.index.specs.Opening.{openNo}
 use Rattle.index.proofs.OpeningRows.{footer-ok, directory-ok, open-ok}
 use Rattle.canonical.specs.Canonical.{blocksIn, separatorsIn, rewritten, canonicalNo, AreasHold}
-use Rattle.canonical.proofs.Parts.{length-blocksFrom}
 
 -- ---- the number
 
