@@ -1,0 +1,4 @@
+pub mod Cut
+pub mod Parts
+pub mod Theorems
+pub mod Opened
