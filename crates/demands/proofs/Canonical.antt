@@ -4,14 +4,13 @@ use mathlib.Core.Path.{_≡_, refl, sym, _∙_}
 use mathlib.Core.List.{List, []}
 use native.Mathlib.Nat.{zero-add}
 use native.Mathlib.Omega.{arith}
-use lib.ListN.{length, getD}
+use lib.ListN.{length}
 use lib.Seq.{ext-getD}
 use Rattle.group.specs.declared.BlockAddr.{BlockAddr}
-use Rattle.group.specs.Blocks.{blockOf, noBlock}
+use Rattle.group.specs.Blocks.{noBlock}
 use Rattle.directory.proofs.Opened.{length-keysFrom, getD-keysFrom}
 use Rattle.builder.specs.Index.{Settings, indexBytes}
 use Rattle.index.specs.Parts.{directoryPart, countIn, blockIn, separatorIn}
-use Rattle.index.specs.Opening.{openNo}
 use Rattle.written_index.specs.Written.{WrittenIndex, IndexRead}
 use Rattle.written_index.proofs.IndexRead.{written-facts, index-read}
 use Rattle.store_canonical.proofs.Blocks.{length-blocksFrom, blocksFrom-at}

@@ -1,5 +1,6 @@
--- Demand 3 (SPECIFICATION 18.3 to 18.10, 18.14, 18.15): one claim about any list of calls that begins with a fresh builder, then finish, opening
--- and what is found there. The calls are those of the contracts; the plain machine sees their arguments and the areas' lengths.
+-- Demand 3 (SPECIFICATION 18.3 to 18.10, 18.14, 18.15): one claim about any list of calls that begins with a fresh builder, then
+-- finish, opening and what is found there. The calls are those of the contracts; the plain machine sees their arguments and the
+-- areas' lengths.
 use Prim.Native.Nat.{ℕ, _+_, _*_, _≤_, _<_}
 use mathlib.Core.Path.{_≡_}
 use mathlib.Core.Bool.{cond}
