@@ -1,4 +1,3 @@
-pub mod Cut
 pub mod Parts
 pub mod Theorems
 pub mod Opened

@@ -22,7 +22,7 @@ use Rattle.index.specs.Opening.{openNo, openedOf, openStep, openDef, OpensBy}
 use Rattle.index.proofs.OpenFacts.{OpenFacts, opens-facts-by}
 use Rattle.index.proofs.OpeningRows.{open-ok}
 use Rattle.canonical.specs.Canonical.{canonicalNo}
-use Rattle.canonical.proofs.Cut.{length-recordsPart}
+use Rattle.index.proofs.OpeningJoined.{length-recordsPart}
 use Rattle.canonical.proofs.Parts.{canonical-parts}
 
 refused-by : (f : List ℕ) (m later k : ℕ) → openStep m f ≡ Refused k → k ≡ orRow m later

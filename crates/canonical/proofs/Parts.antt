@@ -22,7 +22,7 @@ use Rattle.index.specs.Parts.{directoryLen, groupRecordsLen, groupRecordsPart, 
 use Rattle.index.specs.Opening.{openNo}
 use Rattle.index.proofs.OpeningRows.{footer-ok, records-ok, open-ok, length-directoryPart}
 use Rattle.canonical.specs.Canonical.{blocksIn, separatorsIn, rewritten, canonicalNo}
-use Rattle.canonical.proofs.Cut.{length-recordsPart, directory-bytes, file-is}
+use Rattle.index.proofs.OpeningJoined.{length-recordsPart, directory-bytes, file-is}
 
 -- ---- the test of equal bytes, by parts
 

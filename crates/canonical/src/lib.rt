@@ -7,8 +7,7 @@ ghost use Rattle.canonical.specs.Canonical.{canonicalNo};
 use index::Loaded;
 use index::SSTableIndexV3;
 use layout::STORE_BLOCK_LEN;
-
-const NOT_CANONICAL: u32 = 27;
+use layout::refusals::NOT_CANONICAL;
 
 // Row 27 for an index that opened. The directory and the lengths can't differ from what finish writes: rows 10 to 14 leave one
 // form for them.

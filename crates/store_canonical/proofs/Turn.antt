@@ -16,15 +16,14 @@ use Rattle.bitpacker.specs.Fields.{groupBits}
 use Rattle.group.specs.declared.BlockAddr.{BlockAddr}
 use Rattle.group.specs.declared.BlockAddrBlockMetadata.{BlockAddrBlockMetadata}
 use Rattle.group.specs.Blocks.{noBlock, blockOf}
-use Rattle.group.specs.Legal.{limit, Legal}
+use Rattle.group.specs.Legal.{Legal}
 use Rattle.group.specs.Meta.{metaBytes}
 use Rattle.group.specs.Write.{metaOf, groupNumber, addrBytes}
 use Rattle.group.specs.Read.{groupBad, blockRead}
-use Rattle.group.specs.Facts.{Readable, Fitting}
-use Rattle.group.proofs.Limit.{limit-high}
+use Rattle.group.specs.Facts.{Readable}
 use Rattle.group.proofs.Blocks.{legal-same}
 use Rattle.group.proofs.Metadata.{MetaFits, length-metaBytes, meta-back, meta-bytes}
-use Rattle.group.proofs.Written.{fits, length-addrBytes}
+use Rattle.group.proofs.Written.{meta-fits, length-addrBytes}
 use Rattle.group.proofs.Reading.{GroupOk, group-ok}
 use Rattle.store.specs.Store.{groupCount, groupRecord, groupAddrs, groupRecords, addrs}
 use Rattle.store.specs.Read.{groupMeta, groupLen, storeBlock, metaBad, StoreOk}
@@ -128,22 +127,9 @@ module _ {choose : List ℕ → ℕ} {L : ℕ} {recs addr : List ℕ} {n : ℕ} 
       (legal-same (λ j h. blocksFrom-all (blockRead m (leVal own)) (m .«block_len») j (omega arith)) own-legal)
 
   planned-fits : (offset : ℕ) → offset < 2 ^ 64 → MetaFits (metaOf choose offset (groupFirst m own) (groupRest m own))
-  unfolding metaOf
   planned-fits offset small =
-      let size = length-blocksFrom (blockRead m (leVal own)) 1 (m .«block_len») in
-      let fit = fits (groupFirst m own) (groupRest m own) list-legal choose offset (given .slopes) (omega (arith, size, group-few)) in
-      let b = own-legal .numbers 0 (omega arith) in
-      let s = limit-high in
-      record {
-        offset = small;
-        range-start = omega (arith, b .ordered, b .end-small);
-        first-ordinal = omega (arith, b .ordinal-small);
-        range-start-slope = given .slopes _;
-        first-ordinal-slope = given .slopes _;
-        first-ordinal-nbits = omega (arith, fit .ordinals .high);
-        range-start-nbits = omega (arith, fit .ranges .high);
-        block-len = omega (arith, size, group-few);
-      }
+      meta-fits (groupFirst m own) (groupRest m own) list-legal choose offset small (given .slopes)
+      (omega (arith, length-blocksFrom (blockRead m (leVal own)) 1 (m .«block_len»), group-few))
 
   -- how many bytes its bits take
   pub bits-long : length (addrBytes m (groupFirst m own) (groupRest m own))
