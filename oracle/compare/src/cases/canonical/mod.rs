@@ -15,10 +15,10 @@ use crate::calls::opened::{self, File};
 use crate::tally::Tally;
 
 pub fn run(tally: &mut Tally) {
-    written::run(tally);
+    bytes::run(tally);
     foreign::run(tally);
     moved::run(tally);
-    bytes::run(tally);
+    written::run(tally);
 }
 
 /// Around one, two and three full groups, and more.
