@@ -1,7 +1,7 @@
 // Whether a store that keeps its rows is, byte for byte, the one that the writer makes of the blocks read in it.
 ghost use mathlib.Core.Path.{_≡_};
 ghost use mathlib.Core.Bool.{true, false, not};
-ghost use Prim.Native.Nat.{_+_, _*_, _≤_};
+ghost use Prim.Native.Nat.{_+_, _*_, _≤_, min};
 ghost use lib.Dec.{eqb};
 ghost use lib.ListN.{length};
 ghost use Rattle.layout.specs.Layout.{metaLen};
@@ -23,6 +23,9 @@ use store::grouping;
 
 // How many numbers a block takes in the area.
 const STRIDE: usize = 3;
+
+// As many blocks take a small area, so that a short index doesn't clear the large one.
+const FEW_BLOCKS: usize = 16;
 
 // Reads the group's blocks into the front of the area. Each field is read once: a block's end is the start of the next.
 fn read_group(meta: BlockAddrBlockMetadata, data: &[u8], area: &mut [u64])
@@ -93,6 +96,35 @@ fn group_canonical(meta: BlockAddrBlockMetadata, offset: u64, data: &[u8], area:
     padding(meta, data) == 0
 }
 
+// The same of a whole store, with an area that has room for a group's blocks.
+fn groups_canonical(
+    metas: &[u8],
+    addrs: &[u8],
+    n: usize,
+    group_len: usize,
+    area: &mut [u64],
+) -> bool
+    requires { ⌜ GroupLenOk «group_len» × GroupRecordsOk «group_len» (now metas) n
+        × (length (now metas) ≡ metaLen * groupCount «group_len» n)
+        × (storeNo «group_len» (now metas) (now addrs) n ≡ 0)
+        × (3 * min «group_len» n ≤ length (now area)) ⌝ }
+    ensures { λ r. ⌜ r ≡ storeCanonical bestSlope «group_len» (now (metas .entry)) (now (addrs .entry)) n ⌝ }
+{
+    let groups = grouping::group_count(n, group_len);
+    let mut offset: usize = 0;
+    let mut g: usize = 0;
+    while g < groups {
+        let meta = group::meta::deserialize(metas, META_LEN * g);
+        let from = meta.offset as usize;
+        if !group_canonical(meta, offset as u64, &addrs[from..], area) {
+            return false;
+        }
+        offset += group::bits::addr_len(meta);
+        g += 1;
+    }
+    offset == addrs.len()
+}
+
 // Whether group records and address bytes are those that the writer makes of the blocks read in them.
 pub fn store_canonical(metas: &[u8], addrs: &[u8], n: usize, group_len: usize) -> bool
     requires { ⌜ GroupLenOk «group_len» × GroupRecordsOk «group_len» (now metas) n
@@ -100,18 +132,10 @@ pub fn store_canonical(metas: &[u8], addrs: &[u8], n: usize, group_len: usize) -
         × (storeNo «group_len» (now metas) (now addrs) n ≡ 0) ⌝ }
     ensures { λ r. ⌜ r ≡ storeCanonical bestSlope «group_len» (now (metas .entry)) (now (addrs .entry)) n ⌝ }
 {
-    let groups = grouping::group_count(n, group_len);
-    let mut area = [0u64; 768];
-    let mut offset: usize = 0;
-    let mut g: usize = 0;
-    while g < groups {
-        let meta = group::meta::deserialize(metas, META_LEN * g);
-        let from = meta.offset as usize;
-        if !group_canonical(meta, offset as u64, &addrs[from..], &mut area) {
-            return false;
-        }
-        offset += group::bits::addr_len(meta);
-        g += 1;
+    if n <= FEW_BLOCKS {
+        let mut area = [0u64; 48];
+        return groups_canonical(metas, addrs, n, group_len, &mut area);
     }
-    offset == addrs.len()
+    let mut area = [0u64; 768];
+    groups_canonical(metas, addrs, n, group_len, &mut area)
 }
