@@ -25,7 +25,7 @@ use store::grouping;
 const STRIDE: usize = 3;
 
 // As many blocks take a small area, so that a short index doesn't clear the large one.
-const FEW_BLOCKS: usize = 16;
+const SMALL_STORE: usize = 16;
 
 // Reads the group's blocks into the front of the area. Each field is read once: a block's end is the start of the next.
 fn read_group(meta: BlockAddrBlockMetadata, data: &[u8], area: &mut [u64])
@@ -132,7 +132,7 @@ pub fn store_canonical(metas: &[u8], addrs: &[u8], n: usize, group_len: usize) -
         × (storeNo «group_len» (now metas) (now addrs) n ≡ 0) ⌝ }
     ensures { λ r. ⌜ r ≡ storeCanonical bestSlope «group_len» (now (metas .entry)) (now (addrs .entry)) n ⌝ }
 {
-    if n <= FEW_BLOCKS {
+    if n <= SMALL_STORE {
         let mut area = [0u64; 48];
         return groups_canonical(metas, addrs, n, group_len, &mut area);
     }
