@@ -29,7 +29,7 @@ extern "C" {
 #endif
 
 /* The interface that these declarations are of: rosmarel_interface() of an archive that fits them. */
-#define ROSMAREL_INTERFACE 2
+#define ROSMAREL_INTERFACE 3
 
 /* The most keys of a batch, and the entry of a key that has no block. */
 #define ROSMAREL_MAX_BATCH_KEYS 64
@@ -46,6 +46,7 @@ typedef struct rosmarel_block_addr {
  * What the calls return: the first row that is hit, in the order of their numbers but for three places. Lookups try 20
  * before 17, 18 and 19. A batch tries 20 on the record, then 26, then 20 on what its searches read. Opening tries 10 for
  * a file under 8 bytes, then 11, then the rest of 10: a directory length of 0 is 11 in any file of 8 bytes or more.
+ * The check has opening's rows, in opening's order, before its own 27.
  */
 enum rosmarel_no {
     ROSMAREL_OK = 0,
@@ -74,7 +75,8 @@ enum rosmarel_no {
     ROSMAREL_STATE = 23,         /* automaton: a next state that there isn't */
     ROSMAREL_ROOM = 24,          /* list: under n bytes; example: under the longer key + 64 (an absent start is none) */
     ROSMAREL_NO_EXAMPLE = 25,    /* example: no accepted string in the interval */
-    ROSMAREL_KEY_LIST = 26       /* batch: half a pair, over 64 keys, one beyond the bytes, a falling offset, few ids */
+    ROSMAREL_KEY_LIST = 26,      /* batch: half a pair, over 64 keys, one beyond the bytes, a falling offset, few ids */
+    ROSMAREL_NOT_CANONICAL = 27  /* check: an index that opens, but isn't the one that finish makes of what it holds */
 };
 
 /* The number of the archive's interface, one more where calls are added or changed, or the opened record is. */
@@ -122,6 +124,12 @@ uint64_t rosmarel_common_prefix_len(const uint8_t *left, size_t left_len, const 
 /* Opens the bytes of an index that anyone may have written. They have no magic number and no checksum: opening shows
    that they keep the rules, not that they are the ones that you wrote. */
 uint32_t rosmarel_open(const uint8_t *index, size_t index_len, uint64_t opened[7]);
+
+/* Whether an index is canonical: byte for byte the one that rosmarel_finish makes of the blocks and separators read in it.
+   0 where it is; 10 to 16 as rosmarel_open says them; 27 where it opens but has gaps between groups, wider fields than
+   needed, other slopes, padding that isn't 0, or the like. Two canonical files of one list are equal, and whatever
+   rosmarel_finish wrote of two blocks or more is canonical. It needs no opened record and writes nothing. */
+uint32_t rosmarel_check_canonical(const uint8_t *index, size_t index_len);
 
 /* The address of block id; 17 where id isn't below n. */
 uint32_t rosmarel_get_block(const uint8_t *index, size_t index_len, const uint64_t opened[7], uint64_t id,

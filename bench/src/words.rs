@@ -43,6 +43,8 @@ pub const METHOD: &str = "\
   between rounds, outside the time.
 - Opening: the plain pass sums bytes in 32-bit numbers, which the compiler vectorises; a sum in 64-bit numbers it leaves scalar, and
   that one isn't the bar. The bar is for long keys; short ones are shown without.
+- Check canonical: the same indexes as for opening, all of them canonical, so that every group is looked at. The other side opens the
+  index and finishes its blocks and keys into a buffer that is there, three times each.
 - Lookups: 4,096 questions made beforehand, spread over the whole index at random. Ids are all there; ordinals reach from 0 to 99
   after the last block's first; of the keys half are separators and half are a separator and one more byte, 00.
 - Locate 64 keys: the same 4,096 keys in 64 lists. Areas and pairs are filled beforehand, each key's bytes right after those of the

@@ -49,6 +49,7 @@ uint32_t right_finish_len(uint64_t, const uint64_t *, size_t, const uint8_t *, s
 uint32_t right_store(const rosmarel_block_addr *, size_t, uint8_t *, size_t, uint64_t *);
 uint64_t right_common_prefix_len(const uint8_t *, size_t, const uint8_t *, size_t);
 uint32_t right_open(const uint8_t *, size_t, uint64_t *);
+uint32_t right_check_canonical(const uint8_t *, size_t);
 uint32_t right_get_block(const uint8_t *, size_t, const uint64_t *, uint64_t, uint64_t *, uint64_t *, uint64_t *);
 uint32_t right_locate_with_ord(const uint8_t *, size_t, const uint64_t *, uint64_t, uint64_t *, uint64_t *, uint64_t *, uint64_t *);
 uint32_t right_locate_with_key(const uint8_t *, size_t, const uint64_t *, const uint8_t *, size_t, uint64_t *);

@@ -262,6 +262,66 @@ static void opening(void) {
     drop(index);
 }
 
+/* ---- the check */
+
+static uint32_t check(part index) {
+    uint32_t no = rosmarel_check_canonical(index.at, index.len);
+    WANT(stays(index));
+    return no;
+}
+
+/* Checks the worked index with one number put in another's place. */
+static uint32_t checked_with(size_t at, uint64_t number, size_t len) {
+    part index = part_of(worked, sizeof worked);
+    put(index, at, number, len);
+    uint32_t no = check(index);
+    drop(index);
+    return no;
+}
+
+/* Checks the worked index with a byte put in before its byte `at`, its group's fields beginning at `offset`. */
+static uint32_t checked_with_byte(size_t at, uint8_t byte, uint64_t offset) {
+    uint8_t bytes[sizeof worked + 1];
+    memcpy(bytes, worked, at);
+    bytes[at] = byte;
+    memcpy(bytes + at + 1, worked + at, sizeof worked - at);
+    part index = part_of(bytes, sizeof bytes);
+    put(index, 39, offset, 8);
+    uint64_t opened[7];
+    WANT(open_part(index, opened) == ROSMAREL_OK);
+    uint32_t no = check(index);
+    drop(index);
+    return no;
+}
+
+static void checking(void) {
+    part index = part_of(worked, sizeof worked), nothing = filled(0, 0);
+    uint64_t opened[7];
+    WANT(check(index) == ROSMAREL_OK && check(nothing) == ROSMAREL_FOOTER);
+    for (size_t len = 0; len < sizeof worked; len++) {
+        part front = part_of(worked, len), rear = part_of(worked + sizeof worked - len, len);
+        WANT(check(front) == open_part(front, opened) && check(rear) == open_part(rear, opened));
+        drop(front), drop(rear);
+    }
+    WANT(checked_with(77, UINT64_MAX, 8) == ROSMAREL_FOOTER);
+    WANT(checked_with(77, 0, 8) == ROSMAREL_NO_DIRECTORY);
+    WANT(checked_with(0, 4, 4) == ROSMAREL_DIRECTORY);
+    WANT(checked_with(29, 'b', 1) == ROSMAREL_KEYS);
+    WANT(checked_with(31, 72, 8) == ROSMAREL_RECORDS);
+    WANT(checked_with(71, 57, 1) == ROSMAREL_GROUPS);
+    WANT(checked_with(47, UINT64_MAX, 8) == ROSMAREL_VALUES);
+    /* each padding bit; bytes before and after the fields */
+    for (int bit = 5; bit < 8; bit++) WANT(checked_with(76, 0x05 | 1 << bit, 1) == ROSMAREL_NOT_CANONICAL);
+    WANT(checked_with_byte(75, 0, 1) == ROSMAREL_NOT_CANONICAL && checked_with_byte(77, 0, 0) == ROSMAREL_NOT_CANONICAL);
+    /* ordinal slope 4 and fields 3 2 7 3 1: the same blocks in the same widths */
+    put(index, 67, 4, 4), put(index, 75, 0x07f3, 2);
+    WANT(open_part(index, opened) == ROSMAREL_OK && check(index) == ROSMAREL_NOT_CANONICAL);
+    /* other lists' own files: another separator, all blocks 7 further on, all ordinals 5 higher */
+    WANT(checked_with(28, 'c', 1) == ROSMAREL_OK);
+    WANT(checked_with(47, 7, 8) == ROSMAREL_OK && checked_with(55, 5, 8) == ROSMAREL_OK);
+    drop(index), drop(nothing);
+}
+
 typedef struct found {
     uint64_t id, start, end, first_ordinal;
 } found;
@@ -518,6 +578,24 @@ static void batch_of_groups(part index, const uint64_t opened[7], size_t n) {
     drop(lent), drop(keys), drop(ids);
 }
 
+/* The same blocks, the fields of the first two groups in each other's place. */
+static void exchanged_groups(part index, const uint64_t opened[7]) {
+    part other = part_of(index.at, index.len);
+    const uint8_t *records = index.at + opened[3], *fields = index.at + opened[5];
+    size_t first = 0, both = 0;
+    for (size_t k = 0; k < 8; k++) first |= (size_t)records[36 + k] << (8 * k), both |= (size_t)records[72 + k] << (8 * k);
+    memcpy(other.at + opened[5], fields + first, both - first);
+    memcpy(other.at + opened[5] + (both - first), fields, first);
+    memcpy(other.kept, other.at, other.len);
+    put(other, opened[3], both - first, 8), put(other, opened[3] + 36, 0, 8);
+    uint64_t again[7];
+    found f;
+    WANT(open_part(other, again) == ROSMAREL_OK && memcmp(again, opened, sizeof again) == 0);
+    WANT(by_id(other, again, 130, &f) == ROSMAREL_OK && f.start == 130 * 130);
+    WANT(check(other) == ROSMAREL_NOT_CANONICAL);
+    drop(other);
+}
+
 static void several_groups(size_t n) {
     uint8_t key[101];
     uint64_t total, directory_len, opened[7];
@@ -532,6 +610,8 @@ static void several_groups(size_t n) {
     WANT(finish(a, index, &total, &directory_len) == ROSMAREL_OK && total == index.len);
     memcpy(index.kept, index.at, index.len);
     WANT(open_part(index, opened) == ROSMAREL_OK && opened[0] == n);
+    WANT(check(index) == ROSMAREL_OK);
+    exchanged_groups(index, opened);
     for (size_t i = 0; i < n; i++) {
         WANT(by_id(index, opened, i, &f) == ROSMAREL_OK && f.start == i * i && f.end == (i + 1) * (i + 1));
         WANT(by_ordinal(index, opened, 3 * i + 2, &f) == ROSMAREL_OK && f.id == i);
@@ -551,6 +631,7 @@ int main(void) {
     finishing();
     storing();
     opening();
+    checking();
     lookups();
     batch_example();
     batches();

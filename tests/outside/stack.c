@@ -8,7 +8,7 @@
 #include <string.h>
 #include <ucontext.h>
 
-enum { LIMIT = 24 * 1024, STACK = 4 * 1024 * 1024, MOST = 65536, LONGEST = 1024, STATES = 64, ROOM = LONGEST + 64 };
+enum { LIMIT = 16 * 1024, STACK = 4 * 1024 * 1024, MOST = 65536, LONGEST = 1024, STATES = 64, ROOM = LONGEST + 64 };
 enum { BATCH = ROSMAREL_MAX_BATCH_KEYS };
 
 static const uint64_t paint = UINT64_C(0x5a5aa5a55a5aa5a5);
@@ -112,6 +112,8 @@ static void call_finish_len(void) { answer = rosmarel_finish_len(n, blocks, 5 * 
 static void call_store(void) { answer = rosmarel_store(addrs, n, out, out_len, &word[0]); }
 
 static void call_open(void) { answer = rosmarel_open(out, index_len, opened); }
+
+static void call_check_canonical(void) { answer = rosmarel_check_canonical(out, index_len); }
 
 static void call_get_block(void) {
     answer = rosmarel_get_block(out, index_len, opened, n - 1, &word[0], &word[1], &word[2]);
@@ -222,8 +224,26 @@ static void batches(void) {
     opened[0] = n;
 }
 
+/* An index of our own; one with a byte more behind its groups' fields; one that is cut off. */
+static void checks(void) {
+    ANSWERED(0, check_canonical);
+    uint8_t *whole = out;
+    size_t whole_len = index_len;
+    out = room(whole_len + 1);
+    memcpy(out, whole, whole_len - 8);
+    memcpy(out + whole_len - 7, whole + whole_len - 8, 8);
+    index_len += 1;
+    ANSWERED(27, check_canonical);
+    free(out);
+    out = whole;
+    index_len = 7;
+    ANSWERED(10, check_canonical);
+    index_len = whole_len;
+}
+
 static void lookups(void) {
     ANSWERED(0, open);
+    checks();
     ANSWERED(0, get_block);
     ANSWERED(0, locate_with_ord);
     write_key(end_key, key_len, 2 * n - 3);

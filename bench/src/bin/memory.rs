@@ -147,6 +147,8 @@ fn looking_up(input: &Input) {
         black_box(access::Index::load(shared.clone()));
     });
     line("rosmarel_open", input.n, taken, of_rust);
+    let taken = stack(|| ffi::check_canonical(index).unwrap());
+    line("rosmarel_check_canonical", input.n, taken, None);
     let taken = stack(|| {
         black_box(ffi::get_block(index, opened, id).unwrap());
     });

@@ -5,6 +5,7 @@ pub mod by_id;
 pub mod by_key;
 pub mod by_keys;
 pub mod by_ordinal;
+pub mod canonical;
 pub mod example;
 pub mod finish;
 pub mod listing;
@@ -69,12 +70,13 @@ pub struct Family {
 }
 
 /// In the document's order.
-pub const FAMILIES: [Family; 11] = [
+pub const FAMILIES: [Family; 12] = [
     add::FAMILY,
     shorten::FAMILY,
     finish::FAMILY,
     store::FAMILY,
     opening::FAMILY,
+    canonical::FAMILY,
     by_id::FAMILY,
     by_ordinal::FAMILY,
     by_key::FAMILY,

@@ -69,6 +69,7 @@ unsafe extern "C" {
         len: *mut u64,
     ) -> u32;
     fn rosmarel_open(index: *const u8, index_len: usize, opened: *mut Opened) -> u32;
+    fn rosmarel_check_canonical(index: *const u8, index_len: usize) -> u32;
     fn rosmarel_get_block(
         index: *const u8,
         index_len: usize,
@@ -296,6 +297,13 @@ pub fn open(index: &[u8]) -> Result<Opened, Refusal> {
     // SAFETY: as in `add`.
     let number = unsafe { rosmarel_open(index.as_ptr(), index.len(), &mut opened) };
     answer(number, opened)
+}
+
+/// Whether an index is the one that finish makes of what it holds.
+pub fn check_canonical(index: &[u8]) -> Result<(), Refusal> {
+    // SAFETY: as in `add`.
+    let number = unsafe { rosmarel_check_canonical(index.as_ptr(), index.len()) };
+    answer(number, ())
 }
 
 /// The block with this id.

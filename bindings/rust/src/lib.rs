@@ -10,6 +10,7 @@
 //!
 //! - [`Builder`] takes blocks and keys and writes an index.
 //! - [`Index`] opens one, which anyone may have written, and looks blocks up.
+//! - [`check_canonical`] says whether an index is, byte for byte, the one that [`Builder::finish`] would write.
 //! - [`Automaton`] is a pattern, for [`Index::get_block_for_automaton`].
 //! - [`Refusal`] says why a call was refused.
 //!
@@ -71,6 +72,40 @@ pub use store::{store, store_into};
 /// ```
 pub fn interface() -> u64 {
     ffi::interface()
+}
+
+/// Whether an index is canonical: byte for byte the one that [`Builder::finish`] makes of the blocks and separators that
+/// are read in it. Two canonical files of one list are equal, and whatever `finish` wrote of two blocks or more is
+/// canonical.
+///
+/// A file that opens needn't be: it may have bytes between its groups or behind them, wider fields than needed, other
+/// slopes, or padding that isn't 0. It is read, and nothing is allocated.
+///
+/// # Errors
+///
+/// What [`Index::open`] refuses, for the same reason (10 to 16); [`NotCanonical`](Refusal::NotCanonical) (27) for a file
+/// that opens but isn't that one.
+///
+/// ```
+/// use rosmarel::{BlockAddr, Builder, Index, Refusal};
+///
+/// let mut builder = Builder::new();
+/// builder.add_block(b"b", BlockAddr::new(0..10, 0))?;
+/// builder.add_block(b"d", BlockAddr::new(10..25, 4))?;
+/// let mut bytes = builder.finish()?;
+/// assert_eq!(rosmarel::check_canonical(&bytes), Ok(()));
+///
+/// // a byte more in front of the footer: it opens, with the same blocks
+/// bytes.insert(bytes.len() - 8, 0);
+/// assert_eq!(Index::open(&bytes)?.get_block(1), Some(BlockAddr::new(10..25, 4)));
+/// assert_eq!(rosmarel::check_canonical(&bytes), Err(Refusal::NotCanonical));
+///
+/// // no footer: refused as opening refuses it
+/// assert_eq!(rosmarel::check_canonical(&bytes[..7]), Err(Refusal::Footer));
+/// # Ok::<(), Refusal>(())
+/// ```
+pub fn check_canonical(index: &[u8]) -> Result<(), Refusal> {
+    ffi::check_canonical(index)
 }
 
 /// The length of the longest common prefix of two keys.

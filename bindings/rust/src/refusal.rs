@@ -9,7 +9,8 @@ macro_rules! refusals {
         ///
         /// This crate doesn't return all of them. 1, 8, 20 and 24 are for callers of the archive that lend it areas and
         /// opened records of their own; in place of 17 to 19 and 25, that nothing was found, it has `None`. 26 comes from
-        /// [`Index::locate_with_keys_into`](crate::Index::locate_with_keys_into) alone.
+        /// [`Index::locate_with_keys_into`](crate::Index::locate_with_keys_into) alone, 27 from
+        /// [`check_canonical`](crate::check_canonical).
         ///
         /// ```
         /// use rosmarel::{Index, Refusal};
@@ -85,6 +86,7 @@ refusals! {
     24 RoomTooShort "the room for the marks or for the example is too short",
     25 NoExample "the automaton accepts no string of the interval",
     26 KeyList "the key list has half a pair, more than 64 keys, a key outside its bytes, an offset that falls, or too few ids",
+    27 NotCanonical "the index opens, but isn't the one that finish makes of the blocks and separators in it",
 }
 
 impl Refusal {

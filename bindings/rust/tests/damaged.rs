@@ -7,6 +7,8 @@ use rosmarel::{Automaton, BlockAddr, Index};
 
 /// Files that opened.
 fn check(bytes: &[u8], any: &Automaton) -> bool {
+    let checked = rosmarel::check_canonical(bytes).map_or_else(|refusal| refusal.number(), |()| 0);
+    assert_eq!(checked, model::canonical_no(bytes), "{bytes:02x?}");
     let index = match (Index::open(bytes), model::open(bytes)) {
         (Ok(index), Ok(entries)) => {
             consistent(&index, &entries, any);

@@ -79,7 +79,7 @@ fn declared_as_exported() {
     let names =
         |all: &BTreeMap<String, Signature>| -> Vec<String> { all.keys().cloned().collect() };
     assert_eq!(names(&declared), names(&exported));
-    assert_eq!(declared.len(), 17);
+    assert_eq!(declared.len(), 18);
     for (name, signature) in &declared {
         assert_eq!(signature, &exported[name], "rosmarel_{name}");
     }

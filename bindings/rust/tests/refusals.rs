@@ -40,9 +40,9 @@ fn add_refused(key: &[u8], block: BlockAddr, refusal: Refusal) {
 fn numbers_and_sentences() {
     let all: Vec<Refusal> = (0..=100).filter_map(Refusal::from_number).collect();
     let numbers: Vec<u32> = all.iter().map(|refusal| refusal.number()).collect();
-    assert_eq!(numbers, Vec::from_iter(1..=26));
+    assert_eq!(numbers, Vec::from_iter(1..=27));
     let sentences: BTreeSet<&str> = all.iter().map(|refusal| refusal.sentence()).collect();
-    assert_eq!(sentences.len(), 26);
+    assert_eq!(sentences.len(), 27);
     for refusal in all {
         let error: Box<dyn Error + Send + Sync> = Box::new(refusal);
         let number = u32::from(refusal);
@@ -245,6 +245,7 @@ fn opened(change: impl Fn(&mut Vec<u8>)) -> Refusal {
     change(&mut bytes);
     let refusal = Index::open(&bytes).unwrap_err();
     assert_eq!(model::open(&bytes), Err(refusal.number()));
+    assert_eq!(rosmarel::check_canonical(&bytes), Err(refusal));
     refusal
 }
 

@@ -97,7 +97,9 @@ fn lists_of_calls() {
         );
         if entries.blocks.len() < 2 {
             assert_eq!(bytes, b"");
+            assert_eq!(rosmarel::check_canonical(&bytes), Err(Refusal::Footer));
         } else {
+            assert_eq!(rosmarel::check_canonical(&bytes), Ok(()));
             look_up(&mut draw, &bytes, &entries);
         }
     }

@@ -4,7 +4,7 @@ mod model;
 
 use std::thread;
 
-use rosmarel::{BlockAddr, Index};
+use rosmarel::{BlockAddr, Index, Refusal};
 
 fn blocks(n: u64) -> Vec<BlockAddr> {
     (0..n).map(|i| BlockAddr::new(i..i + 1, i)).collect()
@@ -29,17 +29,19 @@ fn a_small_stack_is_enough() {
     });
 }
 
-/// Batches of one key and of many, in a small index and in the largest.
+/// A small index and the largest.
+fn indexes() -> [model::Entries; 2] {
+    let key = |i: u64| u32::to_be_bytes(i as u32).to_vec();
+    [2, 65_536].map(|n| model::Entries {
+        blocks: blocks(n),
+        keys: (0..n).map(key).collect(),
+    })
+}
+
+/// Batches of one key and of many.
 #[test]
 fn a_small_stack_is_enough_for_batches() {
-    let key = |i: u64| u32::to_be_bytes(i as u32).to_vec();
-    let indexes = [2, 65_536].map(|n| {
-        let entries = model::Entries {
-            blocks: blocks(n),
-            keys: (0..n).map(key).collect(),
-        };
-        (entries.index(), entries.keys)
-    });
+    let indexes = indexes().map(|entries| (entries.index(), entries.keys));
     on_a_small_stack(move || {
         for (bytes, all) in &indexes {
             let index = Index::open(bytes).unwrap();
@@ -47,6 +49,20 @@ fn a_small_stack_is_enough_for_batches() {
                 let ids = index.locate_with_keys(keys);
                 assert!(ids.into_iter().eq((0..keys.len() as u64).map(Some)));
             }
+        }
+    });
+}
+
+/// The check of canonical indexes, and of ones that aren't: a byte more stands behind their groups.
+#[test]
+fn a_small_stack_is_enough_for_the_check() {
+    let indexes = indexes().map(|entries| entries.index());
+    on_a_small_stack(move || {
+        for bytes in &indexes {
+            assert_eq!(rosmarel::check_canonical(bytes), Ok(()));
+            let mut more = bytes.clone();
+            more.insert(bytes.len() - 8, 0);
+            assert_eq!(rosmarel::check_canonical(&more), Err(Refusal::NotCanonical));
         }
     });
 }

@@ -50,6 +50,21 @@ fn index_of_three_blocks() {
     assert_eq!(index, wanted);
 }
 
+/// It is canonical; its last three bits are padding, and have to be 0.
+#[test]
+fn check_of_three_blocks() {
+    let mut index = index();
+    assert_eq!(rosmarel::check_canonical(&index), Ok(()));
+    for bit in 5..8 {
+        index[76] ^= 1 << bit;
+        assert_eq!(
+            rosmarel::check_canonical(&index),
+            Err(Refusal::NotCanonical)
+        );
+        index[76] ^= 1 << bit;
+    }
+}
+
 #[test]
 fn lookups_in_three_blocks() {
     let bytes = index();

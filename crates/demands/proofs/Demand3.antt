@@ -1,4 +1,4 @@
--- Demand 3: the calls' answers are the plain machine's; a finish that isn't refused writes the entries' index; it opens, and the blocks are found there.
+-- Demand 3: the calls' answers are the plain machine's; a finish that isn't refused writes the entries' index; it opens, the blocks are found there, and the check says yes.
 use Prim.Native.Nat.{ℕ, _^_, _≤_, _<_}
 use mathlib.Core.Path.{_≡_, refl, sym, ap, subst, _∙_}
 use mathlib.Core.List.{List, []}
@@ -20,8 +20,9 @@ use Rattle.machine.proofs.Finishing.{finish-plain}
 use Rattle.machine.proofs.PlainFinish.{plain-number, plain-front}
 use Rattle.machine.proofs.SameIndex.{same-index, fresh-inj}
 use Rattle.index.specs.Opening.{Opens, openedOf}
+use Rattle.canonical.specs.Canonical.{canonicalNo}
 use Rattle.demands.specs.Demand3.{Finds, entriesOfCalls, Finishes, indexOfCalls, Demand3}
-use Rattle.demands.proofs.Found.{settings, entries-open, found}
+use Rattle.demands.proofs.Found.{settings, entries-open, found, entries-canonical}
 
 module _ (choose : List ℕ → ℕ) (slopes : (vs : List ℕ) → choose vs < 2 ^ 32) where
   settings-ok : SettingsOk (settings choose)
@@ -55,6 +56,11 @@ module _ (choose : List ℕ → ℕ) (slopes : (vs : List ℕ) → choose vs < 2
           subst (λ (f : List ℕ). Finds (entriesOfCalls cs fresh) f (openedOf f)) (sym laid-out)
           (found choose slopes (entriesOfCalls cs fresh) (both .1) (both .0 .rep .few) (h .two))
 
+      canonical : canonicalNo (settings choose) (indexOfCalls (settings choose) cs fresh out) ≡ 0
+      canonical =
+          let both = run-rules cs fresh none in
+          rw laid-out (entries-canonical choose slopes (entriesOfCalls cs fresh) (both .1) (both .0 .rep .few) (h .two))
+
   -- for every choice of slopes
   pub demand-3-of : (cs : List Call) (fresh : State) (out : List ℕ) → FreshState fresh → Demand3 (settings choose) cs fresh out
   demand-3-of cs fresh out none = record {
@@ -67,6 +73,7 @@ module _ (choose : List ℕ → ℕ) (slopes : (vs : List ℕ) → choose vs < 2
     finish-never-8 = only-nine cs fresh out none 8 (λ e. omega arith) (λ e. omega arith);
     opens = opens cs fresh out none;
     finds = finds cs fresh out none;
+    canonical = canonical cs fresh out none;
     equal = λ cs′ fresh′ out′ none′ h h′ same.
         fresh-inj (settings choose) (settings choose) refl settings-ok settings-ok cs cs′ fresh fresh′ none none′ (h .two)
         (sym (laid-out cs fresh out none h) ∙ same ∙ laid-out cs′ fresh′ out′ none′ h′);

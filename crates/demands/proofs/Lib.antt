@@ -1,4 +1,5 @@
 pub mod Same
+pub mod Canonical
 pub mod Found
 pub mod Demand3
 pub mod Automata

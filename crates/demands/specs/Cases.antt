@@ -24,6 +24,7 @@ use Rattle.pruning.specs.Interval.{Marked}
 use Rattle.index.specs.declared.SSTableIndexV3.{SSTableIndexV3}
 use Rattle.index.specs.Opening.{Opens, openedOf}
 use Rattle.index.specs.Lookups.{GetBlock, LocateWithOrd}
+use Rattle.canonical.specs.Canonical.{canonicalNo}
 use Rattle.demands.specs.Demand3.{entriesOfCalls, indexOfCalls}
 
 -- ---- the list
@@ -106,11 +107,12 @@ pub record Worked (fresh : State) (out : List ℕ) : Type 0 where
   -- 15.1: the address bytes and the store's length
   pub address-bytes : addrs bestSlope storeBlockLen 1 (blocksOf (entriesOfCalls workedCalls fresh)) ≡ 235 ∷ 5 ∷ []
   pub store : length (storeBytes bestSlope storeBlockLen (blocksOf (entriesOfCalls workedCalls fresh))) ≡ 46
-  -- 15.1: the index's length; finish returns it, and the index opens
+  -- 15.1: the index's length; finish returns it, and the index opens and is what finish makes of what is read in it
   pub accepted : finishedAfter standard workedCalls fresh out .no ≡ 0
   pub total : finishedAfter standard workedCalls fresh out .total ≡ 85
   pub index-bytes : length (workedIndex fresh out) ≡ 85
   pub opens : Opens (workedIndex fresh out) (workedOpened fresh out)
+  pub canonical : canonicalNo standard (workedIndex fresh out) ≡ 0
   -- 15.2
   pub id-2 : (k : ℕ) (addr : BlockAddr) → GetBlock (workedIndex fresh out) (workedOpened fresh out) 2 k addr
       → (k ≡ 0) × (addr ≡ block2)

@@ -1,5 +1,6 @@
--- Demand 3 (SPECIFICATION 18.3 to 18.10, 18.14): one claim about any list of calls that begins with a fresh builder, then finish, opening
--- and what is found there. The calls are those of the contracts; the plain machine sees their arguments and the areas' lengths.
+-- Demand 3 (SPECIFICATION 18.3 to 18.10, 18.14, 18.15): one claim about any list of calls that begins with a fresh builder, then
+-- finish, opening and what is found there. The calls are those of the contracts; the plain machine sees their arguments and the
+-- areas' lengths.
 use Prim.Native.Nat.{ℕ, _+_, _*_, _≤_, _<_}
 use mathlib.Core.Path.{_≡_}
 use mathlib.Core.Bool.{cond}
@@ -35,6 +36,7 @@ use Rattle.index.specs.Lookups.{
 use Rattle.batch.specs.Batch.{batchNo, BatchExact, LocateWithKeys}
 use Rattle.listing.specs.Listing.{ListingLeaves, GetBlockForAutomaton}
 use Rattle.written_index.specs.Written.{lengthsBefore}
+use Rattle.canonical.specs.Canonical.{canonicalNo}
 
 -- the block and the separator of an entry, the oldest being 0 (SPECIFICATION 4.6)
 abbrev pub entryBlock : List Entry → ℕ → BlockAddr
@@ -100,6 +102,9 @@ pub record Demand3 (S : Settings) (cs : List Call) (fresh : State) (out : List �
   pub opens : Finishes S cs fresh out → Opens (indexOfCalls S cs fresh out) (openedOf (indexOfCalls S cs fresh out))
   pub finds : Finishes S cs fresh out
       → Finds (entriesOfCalls cs fresh) (indexOfCalls S cs fresh out) (openedOf (indexOfCalls S cs fresh out))
+  -- 18.15: every finished index of two blocks or more is the one that finish makes of what is read in it: the check of document 02's
+  -- wish 3 says yes
+  pub canonical : Finishes S cs fresh out → canonicalNo S (indexOfCalls S cs fresh out) ≡ 0
   -- 18.10
   pub equal : (cs′ : List Call) (fresh′ : State) (out′ : List ℕ) → FreshState fresh′
       → Finishes S cs fresh out → Finishes S cs′ fresh′ out′

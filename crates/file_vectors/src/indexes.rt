@@ -22,10 +22,18 @@ fn same_blocks(opened: SSTableIndexV3, data: &[u8], expected: &[u8]) -> bool
     at == expected.len()
 }
 
+// Whether the text is the line of this refusal, and the check of the file gives its number too.
+fn same_refusal(data: &[u8], expected: &[u8], no: u32) -> bool {
+    if canonical::check_canonical(data) != no {
+        return false;
+    }
+    is_refusal(expected, no)
+}
+
 fn same_answer(data: &[u8], expected: &[u8]) -> bool {
     match index_load::load(data) {
         Loaded::Opened(opened) => same_blocks(opened, data, expected),
-        Loaded::Refused(no) => is_refusal(expected, no),
+        Loaded::Refused(no) => same_refusal(data, expected, no),
     }
 }
 

@@ -62,6 +62,15 @@ fn by_key(opened: SSTableIndexV3, data: &[u8], key: &[u8], given: &[u64]) -> boo
     }
 }
 
+// NO
+fn by_check(data: &[u8], given: &[u64]) -> bool {
+    if given.len() != 1 {
+        return false;
+    }
+    let no = canonical::check_canonical(data);
+    given[0] == no as u64
+}
+
 // How many byte strings a line of a kind has.
 fn strings_of(kind: u8) -> usize {
     if kind == b'k' { 1 } else { 0 }
@@ -84,6 +93,7 @@ fn is_answered(line: Line, numbers: &[u64], key: &[u8], opened: SSTableIndexV3, 
         b'i' => by_id(opened, data, given),
         b'o' => by_ordinal(opened, data, given),
         b'k' => by_key(opened, data, key, given),
+        b'c' => by_check(data, given),
         _ => false,
     }
 }

@@ -20,6 +20,7 @@ use Rattle.group.specs.Facts.{Takes, Fitting}
 use Rattle.group.specs.declared.BlockAddr.{BlockAddr}
 use Rattle.group.specs.declared.BlockAddrBlockMetadata.{BlockAddrBlockMetadata}
 use Rattle.group.proofs.Limit.{limit-high}
+use Rattle.group.proofs.Metadata.{MetaFits}
 
 -- ---- points
 
@@ -132,6 +133,24 @@ module _ (b : BlockAddr) (bs : List BlockAddr) (legal : Legal (blockOf (b ∷ bs
         takes (choose (ordinalValues (b .«first_ordinal») bs)) (ordinalValues (b .«first_ordinal») bs) (slopes (ordinalValues (b .«first_ordinal») bs))
         (omega (arith, length-ordinalValues (b .«first_ordinal») bs)) (ordinal-small (b .«first_ordinal»));
   }
+
+  -- and every number of the record fits its bytes
+  pub meta-fits : (choose : List ℕ → ℕ) (offset : ℕ) → offset < 2 ^ 64 → ((vs : List ℕ) → choose vs < 2 ^ 32) → length bs < 256 → MetaFits (metaOf choose offset b bs)
+  unfolding metaOf
+  meta-fits choose offset small slopes few =
+      let fit = fits choose offset slopes few in
+      let first = legal .numbers 0 (omega arith) in
+      let s = limit-high in
+      record {
+        offset = small;
+        range-start = omega (arith, first .ordered, first .end-small);
+        first-ordinal = omega (arith, first .ordinal-small);
+        range-start-slope = slopes _;
+        first-ordinal-slope = slopes _;
+        first-ordinal-nbits = omega (arith, fit .ordinals .high);
+        range-start-nbits = omega (arith, fit .ranges .high);
+        block-len = omega arith;
+      }
 
 pub length-addrBytes : (m : BlockAddrBlockMetadata) (b : BlockAddr) (bs : List BlockAddr)
     → length (addrBytes m b bs) ≡ bytesOf (groupBits (m .«range_start_nbits») (m .«first_ordinal_nbits») (length bs))

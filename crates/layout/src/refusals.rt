@@ -77,3 +77,6 @@ pub const NO_EXAMPLE: u32 = 25;
 
 // A list of keys is of an odd length, too long, not sorted by offset or reaches beyond its bytes, or the ids' room is too short.
 pub const KEY_LIST_BAD: u32 = 26;
+
+// The file opens, but isn't the one that finish makes from the blocks and separators read in it.
+pub const NOT_CANONICAL: u32 = 27;

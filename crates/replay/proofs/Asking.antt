@@ -82,10 +82,10 @@ pub given-number : (k : ℕ) (S : Settings) (es : List Entry) (f : List ℕ) (lo
 given-number k S es f (Index opened) g = sym (g .0)
 given-number k S es f (Refused j) g = sym (g .0)
 
-pub opened-asks : (k : ℕ) (S : Settings) (es : List Entry) (qs : List Question) (i j : ℕ) (answers answers′ answers″ : List ℕ) → j ≡ k
-    → answers′ ≡ sets answers (5 * i) (cells j 0 0 0 0) → QuestionsAnswered k S es qs (i + 1) answers′ answers″ → OpeningAnswered k S es qs i answers answers″
-opened-asks k S es qs i j answers answers′ answers″ n e a = record {
+pub opened-asks : (k : ℕ) (S : Settings) (es : List Entry) (qs : List Question) (i j l : ℕ) (answers answers′ answers″ : List ℕ) → j ≡ k → l ≡ k
+    → answers′ ≡ sets answers (5 * i) (cells j l 0 0 0) → QuestionsAnswered k S es qs (i + 1) answers′ answers″ → OpeningAnswered k S es qs i answers answers″
+opened-asks k S es qs i j l answers answers′ answers″ n m e a = record {
   asked = a .asked;
   answered = a .answered;
-  written = a .written ∙ sym (cells-turn answers answers′ (cells k 0 0 0 0) (a .asked) i refl (e ∙ ap (λ (x : ℕ). sets answers (5 * i) (cells x 0 0 0 0)) n));
+  written = a .written ∙ sym (cells-turn answers answers′ (cells k k 0 0 0) (a .asked) i refl (rw (n, m) at e));
 }

@@ -1,4 +1,4 @@
--- The first total bytes of a list's finish open as the entries' index, or are none and get 10.
+-- The first total bytes of a list's finish open as the entries' index and pass the check, or are none and get 10 from both.
 use Prim.Native.Nat.{ℕ, _≤_, _<_}
 use mathlib.Core.Path.{_≡_, refl, sym, ap, subst, _∙_}
 use mathlib.Core.List.{List, []}
@@ -16,10 +16,11 @@ use Rattle.machine.specs.Finished.{plainFinish}
 use Rattle.machine.proofs.PlainFinish.{plain-none, plain-refused, plain-taken, plain-number}
 use Rattle.index.specs.declared.Loaded.{Loaded}
 use Rattle.index.specs.Opening.{footerNo, openNo, openDef, loadDef, openedOf}
+use Rattle.canonical.specs.Canonical.{canonicalNo}
 use Rattle.demands.specs.Demand3.{Finishes, indexOfCalls}
 use Rattle.replay.specs.Format.{calls}
 use Rattle.replay.specs.Made.{listSettings, freshOf, entriesOf, finishOfList, openNumber}
-use Rattle.replay.specs.Asked.{OpenedAs}
+use Rattle.replay.specs.Asked.{CheckedAs}
 use Rattle.replay.proofs.Entries.{list-demand, list-finish}
 
 -- ---- a finish of entries
@@ -62,9 +63,9 @@ module _ (S : Settings) (es : List Entry) (out : List ℕ) where
       (plain-number S es out)
 
 -- no bytes get 10
-opens-none : (S : Settings) (es : List Entry) → OpenedAs 10 S es [] (loadDef [])
-unfolding openDef openNo footerNo
-opens-none S es = (refl, omega arith)
+opens-none : (S : Settings) (es : List Entry) → CheckedAs 10 S es []
+unfolding openDef canonicalNo openNo footerNo
+opens-none S es = record { opening = (refl, omega arith); checked = refl }
 
 -- ---- the bytes after a list's calls and finish
 
@@ -86,21 +87,24 @@ module _ (s B K out : List ℕ) where
     accepted = ap (λ (x : Finish). x .no) (list-finish s B K out) ∙ parts .taken some;
   }
 
-  opened-some : (f .total ≡ 0 → ⊥) → OpenedAs 0 (listSettings s) (entriesOf s B K) (take (f .total) (f .out)) (loadDef (take (f .total) (f .out)))
+  opened-some : (f .total ≡ 0 → ⊥) → CheckedAs 0 (listSettings s) (entriesOf s B K) (take (f .total) (f .out))
   opened-some some =
       let d = list-demand s B K out in
       let finishes = list-finishes some in
       let opens : loadDef (take (f .total) (f .out)) ≡ Loaded.Opened (openedOf (take (f .total) (f .out))) = rw list-after at (d .opens finishes) in
-      rw opens (
-        refl,
-        record {
-          bytes = parts .some some;
-          few = d .few;
-          finds = rw list-after at (d .finds finishes);
-        },
-      )
+      record {
+        opening = rw opens (
+          refl,
+          record {
+            bytes = parts .some some;
+            few = d .few;
+            finds = rw list-after at (d .finds finishes);
+          },
+        );
+        checked = rw list-after at (d .canonical finishes);
+      }
 
-  pub list-opened : OpenedAs (openNumber f) (listSettings s) (entriesOf s B K) (take (f .total) (f .out)) (loadDef (take (f .total) (f .out)))
+  pub list-opened : CheckedAs (openNumber f) (listSettings s) (entriesOf s B K) (take (f .total) (f .out))
   unfolding openNumber
   list-opened =
       by-test (eqb (f .total) 0)

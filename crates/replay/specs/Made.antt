@@ -42,3 +42,8 @@ finishOfList s B K out = plainFinish (listSettings s) (entriesOf s B K) out
 -- the number that the first total bytes get, opened alone: no bytes get 10
 unfoldable pub openNumber : Finish → ℕ
 openNumber f = cond (eqb (f .total) 0) 10 0
+
+-- an opening's is that number, and behind it the number of the check of document 02's wish 3, which is the same one for what finish
+-- wrote: 0 for an index of two blocks or more, 10 for no bytes
+abbrev pub openingCells : Finish → List ℕ
+openingCells f = cells (openNumber f) (openNumber f) 0 0 0

@@ -32,7 +32,7 @@ use Rattle.replay.specs.Format.{
   questionCount,
   listBad,
 }
-use Rattle.replay.specs.Made.{cells, callCells, finishCells, listSettings, freshOf, entriesOf, finishOfList, openNumber}
+use Rattle.replay.specs.Made.{cells, callCells, finishCells, openingCells, listSettings, freshOf, entriesOf, finishOfList, openNumber}
 
 -- by id: the entry's block, or 17
 pub record IdAnswer (es : List Entry) (id : ℕ) (cs : List ℕ) : Type 0 where
@@ -112,4 +112,4 @@ pub record Replayed (s B K out answers B′ K′ out′ answers′ : List ℕ) :
   pub written : answers′
       ≡ sets answers 0
       (callCells (plainNumbers (roomsOf (freshOf B K)) (calls s) [])
-      ++ (finishCells (finishOfList s B K out) ++ (cells (openNumber (finishOfList s B K out)) 0 0 0 0 ++ asked)))
+      ++ (finishCells (finishOfList s B K out) ++ (openingCells (finishOfList s B K out) ++ asked)))

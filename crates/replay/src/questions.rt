@@ -8,13 +8,12 @@ ghost use Rattle.layout.specs.Layout.{maxBlocks};
 ghost use Rattle.builder.specs.Index.{Settings};
 ghost use Rattle.machine.specs.Plain.{Entry};
 ghost use Rattle.index.specs.Answers.{loadNo, locatedNo, locatedId, locatedAddr};
-ghost use Rattle.index.specs.Opening.{loadDef};
 ghost use Rattle.listing.specs.Listing.{listedNo, listedCount};
 ghost use Rattle.replay.specs.Format.{questionLen, questionAt, items, behind, questionCount, headBad};
 ghost use Rattle.replay.specs.Made.{cells};
 ghost use Rattle.replay.specs.Steps.{cellsOf};
 ghost use Rattle.replay.specs.Replay.{IdAnswer, OrdAnswer, KeyAnswer, AddrAnswer, SeparatorAnswer, MarkAnswer, AnswerTo, AnswerIn};
-ghost use Rattle.replay.specs.Asked.{Indexed, OpenedAs, QuestionsAnswered, OpeningAnswered};
+ghost use Rattle.replay.specs.Asked.{Indexed, OpenedAs, CheckedAs, QuestionsAnswered, OpeningAnswered};
 use crate::cells::Cells;
 use crate::cells::WIDTH;
 use crate::format;
@@ -239,16 +238,23 @@ fn load_no(loaded: Loaded) -> u32
     }
 }
 
-// Opens the bytes and asks the list's questions of them. The opening is answer `first`.
+// Opens the bytes and asks the list's questions of them. The opening, with the number of the check beside its own, is answer `first`.
 pub fn open_list(list: &[u8], from: usize, data: &[u8], answers: &mut [u64], first: usize)
     requires { ⌜ (headBad (now list) ≡ false) × (behind (questionLen (now list)) from (questionCount (now list)) ≡ 0 → ⊥)
         × (5 * (first + 1 + questionCount (now list)) ≤ length (now answers)) ⌝ }
-    ensures { λ _. ⌜ ((k : ℕ) (S : Settings) (es : List Entry) → OpenedAs k S es (now («data» .entry)) (loadDef (now («data» .entry)))
+    ensures { λ _. ⌜ ((k : ℕ) (S : Settings) (es : List Entry) → CheckedAs k S es (now («data» .entry))
         → OpeningAnswered k S es (items (questionLen (now (list .entry))) (questionAt (now (list .entry))) from
         (questionCount (now (list .entry)))) first (now (answers .entry)) (now (answers .exit))) ⌝ }
 {
     let loaded = index_load::load(data);
-    Cells::number(load_no(loaded)).write(answers, WIDTH * first);
+    let opening = Cells {
+        no: load_no(loaded),
+        a: canonical::check_canonical(data) as u64,
+        b: 0,
+        c: 0,
+        d: 0,
+    };
+    opening.write(answers, WIDTH * first);
     let count = format::question_count(list);
     ask_questions(list, from, count, loaded, data, answers, first + 1);
 }

@@ -1,8 +1,10 @@
 // Opening an index, and its lookups.
 ghost use mathlib.Core.Path.{_≡_};
+ghost use Rattle.builder.specs.Index.{standard};
 ghost use Rattle.index.specs.Opening.{loadDef};
 ghost use Rattle.index.specs.Answers.{loadNo, loadOpened, placeOffset, placeLen};
 ghost use Rattle.index.specs.Lookups.{GetBlock, LocateWithOrd, LocateWithKey, GetBlockWithKey, placeDef};
+ghost use Rattle.canonical.specs.Canonical.{canonicalNo};
 ghost use Rattle.batch.specs.Batch.{LocateWithKeys};
 ghost use Rattle.rosmarel.specs.Words.{openedWords, openedAt};
 ghost use Rattle.rosmarel.specs.Answers.{blockWith};
@@ -30,6 +32,15 @@ pub extern "C" fn rosmarel_open(index: &[u8], opened: &mut [u64; 7]) -> u32
             no
         }
     }
+}
+
+// Whether the bytes are the index that finish makes from the blocks and separators read in them: 0, or 27; opening's number for bytes
+// that don't open.
+#[no_mangle]
+pub extern "C" fn rosmarel_check_canonical(index: &[u8]) -> u32
+    ensures { λ r. ⌜ r ≡ canonicalNo standard (now (index .entry)) ⌝ }
+{
+    canonical::check_canonical(index)
 }
 
 // The address of block `id`.

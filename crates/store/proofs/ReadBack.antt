@@ -20,11 +20,10 @@ use Rattle.group.specs.Read.{blockRead}
 use Rattle.group.specs.Facts.{Fitting}
 use Rattle.group.specs.declared.BlockAddr.{BlockAddr}
 use Rattle.group.specs.declared.BlockAddrBlockMetadata.{BlockAddrBlockMetadata}
-use Rattle.group.proofs.Limit.{limit-high}
 use Rattle.group.proofs.Legal.{numbers-good}
 use Rattle.group.proofs.Blocks.{length-blocksAt, legal-same}
 use Rattle.group.proofs.Metadata.{MetaFits, meta-back}
-use Rattle.group.proofs.Written.{fits, length-addrBytes}
+use Rattle.group.proofs.Written.{fits, meta-fits, length-addrBytes}
 use Rattle.group.proofs.Reading.{GroupOk, group-not-bad}
 use Rattle.group.proofs.Back.{block-back}
 use Rattle.store.specs.Store.{groupCount, groupAddrs, groupRecords, addrs, storeBytes}
@@ -98,26 +97,16 @@ module _ {choose : List ℕ → ℕ} {L : ℕ} {bs : List BlockAddr} (given : St
     fit : Fitting meta head tail
     fit = fits head tail group-legal choose (length (addrs choose L g bs)) (given .slopes) (omega (arith, length-group, given .group .few))
 
-    meta-fits : MetaFits meta
-    unfolding metaOf
-    meta-fits =
-        let n = given .legal .numbers (L * g) there in
-        let s = limit-high in
-        record {
-          offset = omega (arith, offset-small g (omega (arith, inside, group-count-le (given .group .some) (length bs), given .few)));
-          range-start = omega (arith, n .ordered, n .end-small);
-          first-ordinal = omega (arith, n .ordinal-small);
-          range-start-slope = given .slopes _;
-          first-ordinal-slope = given .slopes _;
-          first-ordinal-nbits = omega (arith, fit .ordinals .high);
-          range-start-nbits = omega (arith, fit .ranges .high);
-          block-len = omega (arith, length-group, given .group .few);
-        }
+    meta-ok : MetaFits meta
+    meta-ok =
+        meta-fits head tail group-legal choose (length (addrs choose L g bs))
+        (omega (arith, offset-small g (omega (arith, inside, group-count-le (given .group .some) (length bs), given .few)))) (given .slopes)
+        (omega (arith, length-group, given .group .few))
 
     -- its record
     group-meta : groupMeta (groupRecords choose L count 0 bs) g ≡ meta
     group-meta =
-        meta-back meta (groupRecords choose L count 0 bs) (36 * g) meta-fits
+        meta-back meta (groupRecords choose L count 0 bs) (36 * g) meta-ok
         (record-at choose (given .group .some) bs count g inside there 0 ∙ rw (zero-add (length (addrs choose L g bs))))
 
     -- its bits

@@ -1,4 +1,3 @@
 pub mod IndexRead
 pub mod Joined
 pub mod ListingRead
-pub mod OpeningJoined

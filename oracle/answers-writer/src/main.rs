@@ -26,7 +26,10 @@ use std::{env, fs};
 fn main() {
     let folder = env::args().nth(1).expect("the folder to write to");
     if folder == "--stores" {
-        let seed = env::args().nth(2).and_then(|word| word.parse().ok()).expect("a seed");
+        let seed = env::args()
+            .nth(2)
+            .and_then(|word| word.parse().ok())
+            .expect("a seed");
         print!("{}", stores::list_from(seed, seed + 1));
         return;
     }

@@ -6,6 +6,7 @@ use tantivy_sstable::access::{self, Index};
 
 use model::areas::{Areas, Entry, MARK, Machine, first, index};
 use model::automaton::{Table, mark, number, table_hits};
+use model::canonical;
 use model::opening::{self, Opening};
 use model::settings::{LONGEST_KEY, STRIDE};
 
@@ -283,6 +284,9 @@ fn run(mut builder: Builder, rooms: Rooms, calls: &[Call], questions: &[Question
     let opening = opening::open(&bytes);
     let no = opening.no();
     assert_eq!(no == 0, fits && builder.machine.entries.len() > 1);
+    // what finish wrote is canonical, so the check gives opening's number
+    let check = canonical::number(&opening, &bytes);
+    assert_eq!(check, no);
     let questions: Vec<Cells> = if no == 0 {
         let read: Vec<Entry> = opening
             .blocks
@@ -305,7 +309,7 @@ fn run(mut builder: Builder, rooms: Rooms, calls: &[Call], questions: &[Question
     };
     let alone = |no: u64| [no, 0, 0, 0, 0];
     let mut cells: Vec<Cells> = calls.iter().copied().map(alone).collect();
-    cells.extend([finished, alone(no)]);
+    cells.extend([finished, [no, check, 0, 0, 0]]);
     cells.extend(&questions);
     Replayed {
         no: 0,

@@ -46,10 +46,15 @@ impl Group<'_> {
         fields
     }
 
+    /// How many bits the fields take.
+    pub fn bits(&self) -> usize {
+        let (r, o) = (usize::from(self.range_width), usize::from(self.ord_width));
+        (r + o) * (self.blocks.len() - 1) + r
+    }
+
     /// How many bytes the fields take.
     pub fn length(&self) -> usize {
-        let (r, o) = (usize::from(self.range_width), usize::from(self.ord_width));
-        ((r + o) * (self.blocks.len() - 1) + r).div_ceil(8)
+        self.bits().div_ceil(8)
     }
 }
 
@@ -81,16 +86,18 @@ fn field(i: u64, value: u64, slope: u32, width: u8) -> u64 {
     stored as u64
 }
 
-/// The lowest width that holds all points with this slope; a field may be 0.
+/// Whether fields of this width hold all points with this slope; a field may be 0.
+pub fn fits(points: &[(u64, u64)], slope: u32, width: u8) -> bool {
+    let half = 1i64 << (width - 1);
+    points
+        .iter()
+        .all(|&(i, value)| (-half..half).contains(&derivation(i, value, slope)))
+}
+
+/// The lowest width that holds all points with this slope.
 pub fn least_width(points: &[(u64, u64)], slope: u32) -> u8 {
-    let fits = |width: u8| {
-        let half = 1i64 << (width - 1);
-        points
-            .iter()
-            .all(|&(i, value)| (-half..half).contains(&derivation(i, value, slope)))
-    };
     (1..=WIDEST)
-        .find(|&width| fits(width))
+        .find(|&width| fits(points, slope, width))
         .expect("the widest field is enough")
 }
 

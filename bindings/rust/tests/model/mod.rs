@@ -145,43 +145,92 @@ pub fn best_slope(values: &[u64]) -> (u32, u32) {
     (slope, if bits <= 56 { bits } else { 64 } + 1)
 }
 
+/// Slopes and widths of a group's fields.
+#[derive(Clone, Copy, Debug, PartialEq)]
+pub struct Plan {
+    pub range: (u32, u32),
+    pub ordinal: (u32, u32),
+}
+
+/// A group's range values and ordinal values, relative to its first block.
+fn values(group: &[BlockAddr]) -> (Vec<u64>, Vec<u64>) {
+    let (first, last) = (group[0], group[group.len() - 1]);
+    let mut ranges: Vec<u64> = group[1..].iter().map(|b| b.start - first.start).collect();
+    ranges.push(last.end - first.start);
+    let ordinals = group[1..].iter();
+    (
+        ranges,
+        ordinals
+            .map(|b| b.first_ordinal - first.first_ordinal)
+            .collect(),
+    )
+}
+
+/// The writer's plan.
+pub fn plan(group: &[BlockAddr]) -> Plan {
+    let (ranges, ordinals) = values(group);
+    Plan {
+        range: best_slope(&ranges),
+        ordinal: best_slope(&ordinals),
+    }
+}
+
+/// Whether all fields fit.
+pub fn fits(group: &[BlockAddr], plan: Plan) -> bool {
+    let (ranges, ordinals) = values(group);
+    let all = |values: &[u64], (slope, width): (u32, u32)| {
+        let inside = |(i, &value)| (0..1 << width).contains(&field(value, i, slope, width));
+        values.iter().enumerate().all(inside)
+    };
+    all(&ranges, plan.range) && all(&ordinals, plan.ordinal)
+}
+
+/// A group's record, its fields beginning at this offset.
+pub fn record(group: &[BlockAddr], plan: Plan, offset: usize) -> Vec<u8> {
+    let mut record = Vec::new();
+    record.extend((offset as u64).to_le_bytes());
+    record.extend(group[0].start.to_le_bytes());
+    record.extend(group[0].first_ordinal.to_le_bytes());
+    record.extend(plan.range.0.to_le_bytes());
+    record.extend(plan.ordinal.0.to_le_bytes());
+    record.extend([plan.ordinal.1 as u8, plan.range.1 as u8]);
+    record.extend((group.len() as u16 - 1).to_le_bytes());
+    record
+}
+
+/// A group's fields, the last byte filled with zeros.
+pub fn fields(group: &[BlockAddr], plan: Plan) -> Vec<u8> {
+    let (ranges, ordinals) = values(group);
+    let mut bits = Vec::new();
+    for (i, &range) in ranges.iter().enumerate() {
+        push_field(&mut bits, range, i, plan.range);
+        if let Some(&ordinal) = ordinals.get(i) {
+            push_field(&mut bits, ordinal, i, plan.ordinal);
+        }
+    }
+    let byte = |bits: &[u8]| bits.iter().rev().fold(0, |value, &bit| 2 * value + bit);
+    bits.chunks(8).map(byte).collect()
+}
+
 pub fn store(blocks: &[BlockAddr]) -> Vec<u8> {
     let mut records = Vec::new();
     let mut addresses: Vec<u8> = Vec::new();
     for group in blocks.chunks(128) {
-        let (first, last) = (group[0], group[group.len() - 1]);
-        let mut ranges: Vec<u64> = group[1..].iter().map(|b| b.start - first.start).collect();
-        ranges.push(last.end - first.start);
-        let ordinals: Vec<u64> = group[1..]
-            .iter()
-            .map(|b| b.first_ordinal - first.first_ordinal)
-            .collect();
-        let (range_slope, range_width) = best_slope(&ranges);
-        let (ordinal_slope, ordinal_width) = best_slope(&ordinals);
-        records.extend((addresses.len() as u64).to_le_bytes());
-        records.extend(first.start.to_le_bytes());
-        records.extend(first.first_ordinal.to_le_bytes());
-        records.extend(range_slope.to_le_bytes());
-        records.extend(ordinal_slope.to_le_bytes());
-        records.extend([ordinal_width as u8, range_width as u8]);
-        records.extend((group.len() as u16 - 1).to_le_bytes());
-        let mut bits = Vec::new();
-        for (i, &range) in ranges.iter().enumerate() {
-            push_field(&mut bits, range, i, range_slope, range_width);
-            if let Some(&ordinal) = ordinals.get(i) {
-                push_field(&mut bits, ordinal, i, ordinal_slope, ordinal_width);
-            }
-        }
-        for byte in bits.chunks(8) {
-            addresses.push(byte.iter().rev().fold(0, |value, &bit| 2 * value + bit));
-        }
+        let plan = plan(group);
+        records.extend(record(group, plan, addresses.len()));
+        addresses.extend(fields(group, plan));
     }
     let len = records.len() as u64;
     [len.to_le_bytes().to_vec(), records, addresses].concat()
 }
 
-fn push_field(bits: &mut Vec<u8>, value: u64, i: usize, slope: u32, width: u32) {
-    let field = i128::from(value) - i128::from(slope) * (i as i128 + 1) + (1 << (width - 1));
+/// The field of a value; its place counts from 0.
+fn field(value: u64, place: usize, slope: u32, width: u32) -> i128 {
+    i128::from(value) - i128::from(slope) * (place as i128 + 1) + (1 << (width - 1))
+}
+
+fn push_field(bits: &mut Vec<u8>, value: u64, place: usize, (slope, width): (u32, u32)) {
+    let field = field(value, place, slope, width);
     assert!((0..1 << width).contains(&field));
     bits.extend((0..width).map(|bit| (field >> bit & 1) as u8));
 }
@@ -189,6 +238,15 @@ fn push_field(bits: &mut Vec<u8>, value: u64, i: usize, slope: u32, width: u32) 
 fn number(bytes: &[u8], at: usize, count: usize) -> u64 {
     let digits = bytes[at..at + count].iter().rev();
     digits.fold(0, |value, &byte| 256 * value + u64::from(byte))
+}
+
+/// The number of the check: what opening refuses, or 27 where the file isn't the index of what is read in it.
+pub fn canonical_no(file: &[u8]) -> u32 {
+    match open(file) {
+        Err(number) => number,
+        Ok(entries) if entries.index() == file => 0,
+        Ok(_) => 27,
+    }
 }
 
 /// Opens a file: its entries, or the first row that it hits.

@@ -39,6 +39,12 @@ pub fn files(folder: &mut Folder) {
             keys(&[b"", b"a"]),
         ),
         (
+            "moved",
+            "worked.index but for first start 7 and first ordinal 5: what is read moves along, and it is that list's own file",
+            touching(7, &[10, 15, 5], 5, &[4, 5]),
+            keys(&[b"b", b"d", b"f"]),
+        ),
+        (
             "empty-blocks",
             "blocks without bytes; a first ordinal that isn't 0",
             touching(7, &[0, 0, 5, 0], 2, &[1, 3, 1]),
@@ -86,6 +92,18 @@ pub fn files(folder: &mut Folder) {
             "129 blocks: the second group has one",
             uneven(129),
             many(129),
+        ),
+        (
+            "two-full-groups",
+            "256 blocks: two groups",
+            uneven(256),
+            many(256),
+        ),
+        (
+            "three-groups",
+            "257 blocks: the third group has one",
+            uneven(257),
+            many(257),
         ),
     ] {
         let file = File::written(&blocks, &keys);

@@ -2,6 +2,7 @@
 
 mod foreign;
 mod good;
+mod one_way;
 mod refused;
 mod tables;
 
@@ -9,11 +10,12 @@ use std::fmt::Write;
 use std::fs;
 use std::path::Path;
 
-use tantivy_sstable::access::{Block, Index};
+use tantivy_sstable::access::{self, Block, Index};
 
 use crate::indexes;
 use crate::text::hex;
 use model::around;
+use model::canonical::{self, NOT_CANONICAL};
 use model::numbers::Numbers;
 use model::opening::{self, Opening};
 
@@ -57,11 +59,12 @@ impl Folder {
         let opening = opening::open(bytes);
         assert_eq!(opening.no(), 0, "{name}");
         let index = indexes::rust(bytes, &opening).unwrap();
-        let cell = format!("{} blocks", opening.keys.len());
+        let check = check(bytes, &opening);
+        let cell = format!("{} blocks, `{check}`", opening.keys.len());
         self.case(table, &format!("{name}.index"), bytes, what, &cell);
         let lines = lines(&index, &opening);
         self.put(format!("{name}.expected"), lines.into());
-        let questions = questions(&index, &opening);
+        let questions = questions(&index, &opening) + &format!("c {check}\n");
         self.questions += questions.lines().count();
         self.put(format!("{name}.questions"), questions.into());
         self.names.push(format!("{name}.questions"));
@@ -98,6 +101,7 @@ impl Folder {
             "more",
             "good",
             "foreign",
+            "one way",
             "refused tables",
             "tables",
         ] {
@@ -109,6 +113,18 @@ impl Folder {
         }
         text
     }
+}
+
+/// The check's number for a file that opens: whether the Rust's builder writes the same bytes of what is read in it.
+fn check(bytes: &[u8], opening: &Opening) -> u64 {
+    let keys = opening.keys.iter().map(Vec::as_slice);
+    let given: Vec<(Block, &[u8])> = opening.blocks.iter().copied().zip(keys).collect();
+    let no = match access::write_index(&given) == bytes {
+        true => 0,
+        false => NOT_CANONICAL,
+    };
+    assert_eq!(canonical::number(opening, bytes), no);
+    no
 }
 
 /// What `blocks` prints: the Rust's blocks, and the separators.
@@ -171,6 +187,7 @@ pub fn write(place: &Path) {
     refused::files(&mut folder);
     good::files(&mut folder);
     foreign::files(&mut folder);
+    one_way::files(&mut folder);
     tables::tables(&mut folder);
     let readme = folder.readme();
     folder.put("README.md".to_string(), readme.into());

@@ -4,6 +4,7 @@
 pub mod batches;
 pub mod builder;
 pub mod building;
+pub mod canonical;
 pub mod intervals;
 pub mod keys;
 pub mod listing;
@@ -24,6 +25,7 @@ pub const FAMILIES: &[&[&Call]] = &[
     stores::CALLS,
     keys::CALLS,
     opened::CALLS,
+    canonical::CALLS,
     lookups::CALLS,
     batches::CALLS,
     listing::CALLS,

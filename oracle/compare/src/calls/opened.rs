@@ -1,11 +1,11 @@
-//! Files that the library opens, beside the model and the Rust.
+//! Files that the library opens and checks, beside the model and the Rust.
 
 use model::opening::{self, Opened, Opening};
 use model::settings::OPENED_LEN;
 use tantivy_sstable::access::Index;
 
-use super::Call;
 use super::batches::Known;
+use super::{Call, canonical};
 use crate::asked::{Outside, rust};
 use crate::memory::lent::Lent;
 use crate::memory::touched::calling;
@@ -45,9 +45,11 @@ pub struct File {
     pub exact: bool,
     print: Print,
     pub known: Known,
+    /// the check's number
+    pub checked: u64,
 }
 
-/// Opens the bytes.
+/// Opens the bytes, and checks whether they are the ones that finish writes.
 pub fn open(tally: &mut Tally, bytes: &[u8]) -> File {
     let opening = opening::open(bytes);
     let due = opening.no();
@@ -74,6 +76,7 @@ pub fn open(tally: &mut Tally, bytes: &[u8]) -> File {
             &bytes[..len.min(300)]
         )
     });
+    let checked = canonical::check(tally, &lent, bytes, &opening, print);
     File {
         bytes: bytes.to_vec(),
         lent,
@@ -84,6 +87,7 @@ pub fn open(tally: &mut Tally, bytes: &[u8]) -> File {
         numbers,
         print,
         known: Known::default(),
+        checked,
     }
 }
 

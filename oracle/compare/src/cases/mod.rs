@@ -3,6 +3,7 @@
 mod areas;
 mod automata;
 mod batches;
+mod canonical;
 mod damage;
 mod finishes;
 mod foreign;
@@ -34,4 +35,5 @@ pub const TOPICS: &[(&str, fn(&mut Tally))] = &[
     ("finishes", finishes::run),
     ("late", late::run),
     ("batches", batches::run),
+    ("canonical", canonical::run),
 ];

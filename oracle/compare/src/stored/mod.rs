@@ -1,6 +1,7 @@
 //! The stored lists of answers, which the gate replays, run through the library.
 
 mod builders;
+mod files;
 mod indexes;
 mod leaves;
 mod patterns;
@@ -34,6 +35,7 @@ pub fn run(tally: &mut Tally, root: &Path) {
         let lines: Vec<&str> = text.lines().filter(|line| !line.starts_with('#')).collect();
         replay(tally, &lines);
     }
+    files::run(tally, root);
 }
 
 /// The parts of a line after its letter.

@@ -16,8 +16,8 @@ same-blocks-requires c κs = let o = c .before in sym (o .before .before .load .
 enum-known-no : tie.Need-enum-known-no
 enum-known-no c = search needs
 
-is-refusal-requires : tie.Need-is-refusal-requires
-is-refusal-requires c κs = search needs
+same-refusal-requires : tie.Need-same-refusal-requires
+same-refusal-requires c κs = search needs
 
 returns : tie.Need-returns
 returns c = search needs
@@ -33,6 +33,6 @@ same-answer-spec =
     enum-known-opened
     same-blocks-requires
     enum-known-no
-    is-refusal-requires
+    same-refusal-requires
     returns
     returns-2)

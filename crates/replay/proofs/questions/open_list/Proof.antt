@@ -1,8 +1,6 @@
--- `replay::questions::open_list` meets its contract: the opening's number, and behind it the questions' answers.
-use Prim.Native.Nat.{_*_}
-use mathlib.Core.Path.{ap, _∙_}
+-- `replay::questions::open_list` meets its contract: the opening's number and the check's, and behind them the questions' answers.
+use mathlib.Core.Path.{_∙_}
 use native.Mathlib.Omega.{arith}
-use lib.Seq.{sets}
 use Rattle.replay.specs.Asked.{OpenedAs}
 use Rattle.replay.proofs.Asking.{given-number, opened-asks}
 use borrow.Author.Needs.{needs}
@@ -15,8 +13,11 @@ load-requires c κs = search needs
 load-no-requires : tie.Need-load-no-requires
 load-no-requires c κs = search needs
 
-number-requires : tie.Need-number-requires
-number-requires c κs = search needs
+check-canonical-requires : tie.Need-check-canonical-requires
+check-canonical-requires c κs = search needs
+
+cast-t11 : tie.Need-cast-t11
+cast-t11 c = search needs
 
 mul-write : tie.Need-mul-write
 mul-write c = search needs
@@ -41,11 +42,12 @@ same-length c = search needs
 
 returns : tie.Need-returns
 returns c = λ k S es x.
+    let checks = c .before .before .before .before .before .before .before .before .before .check-canonical in
     let o = c .before .before .before .before .before .before .before .before .before .before .before in
     let a = c .before .before .before .before .before .before .before .before .before .before .before .before .before .before .before .args in
-    let g : OpenedAs k S es (a .«data» .now) (o .load .result) = rw (o .load .ensures) x in
-    opened-asks k S es _ (a .first) _ (a .answers .now) _ _ (c .before .before .before .before .before .before .before .before .before .before .load-no .ensures ∙ given-number k S es (a .«data» .now) (o .load .result) g)
-    (c .before .before .before .before .before .before .before .write .ensures ∙ ap (sets (a .answers .now) (5 * a .first)) (c .before .before .before .before .before .before .before .before .before .number .ensures))
+    let g : OpenedAs k S es (a .«data» .now) (o .load .result) = rw (o .load .ensures) (x .opening) in
+    opened-asks k S es _ (a .first) _ _ (a .answers .now) _ _ (c .before .before .before .before .before .before .before .before .before .before .load-no .ensures ∙ given-number k S es (a .«data» .now) (o .load .result) g)
+    (checks .ensures ∙ x .checked) (c .before .before .before .before .before .before .before .write .ensures)
     (rw (c .before .before .before .before .question-count .ensures .0) at (c .before .before .ask-questions .ensures k S es g))
 
 pub open-list-spec : {M : Type 1} → statement M
@@ -54,7 +56,8 @@ open-list-spec =
     (tie.spec
     load-requires
     load-no-requires
-    number-requires
+    check-canonical-requires
+    cast-t11
     mul-write
     write-requires
     question-count-requires
