@@ -1,4 +1,6 @@
 // Fields of bits in slices of bytes: `extract_bits` of src/index/v3.rs, and the missing `compute_num_bits` and `BitPacker`.
+#![tactic(auto)]
+
 ghost use Rattle.std.specs.Prelude.{◌≡◌, ◌+◌, ◌*◌, ◌/◌, ◌%◌, ◌^◌, ◌≤◌, ◌<◌, length};
 ghost use Rattle.std.proofs.lemmas.List.Edits.{sets};
 ghost use Rattle.serialize.specs.Digits.{le_val, number_at, le_bytes};
@@ -67,7 +69,7 @@ pub fn extract_bits(data: &[u8], addr_bits: u16, num_bits: u8) -> u64
 }
 
 // A writer of fields: `written` bytes are out, and `buffer` holds the `filled` bits after them.
-#[derive(Drop)]
+#[derive(Clone, Copy)]
 pub struct BitPacker {
     pub buffer: u64,
     pub filled: usize,

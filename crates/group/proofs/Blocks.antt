@@ -17,6 +17,7 @@ length-blocks_at area stride i (suc count) = ap suc (length-blocks_at area strid
 
 pub blocks_at-at : (area : List ℕ) (stride i count j : ℕ) → j < count → block_of (blocks_at area stride i count) j ≡ block_at area stride (i + j)
 unfolding blocks_at
+blocks_at-at area stride i zero j h = elim h [ ]
 blocks_at-at area stride i (suc count) zero h = rw add-zero
 blocks_at-at area stride i (suc count) (suc j) h =
     blocks_at-at area stride (suc i) count j (omega arith) ∙ ap (block_at area stride) (omega arith)

@@ -1,7 +1,7 @@
 -- Laws of a group read: row 15 as plain facts, and a value in range as a sum.
 use mathlib.Core.Path.{◌≡◌, refl, sym, ap₂}
 use mathlib.Core.Bool.{Bool, true, false, ◌||◌, true≢false}
-use Prim.Native.Nat.{ℕ, suc, ◌+◌, ◌-◌, ◌*◌, ◌/◌, ◌%◌, ◌^◌, ◌≤◌, ◌<◌}
+use Prim.Native.Nat.{zero, ℕ, suc, ◌+◌, ◌-◌, ◌*◌, ◌/◌, ◌%◌, ◌^◌, ◌≤◌, ◌<◌}
 use native.Mathlib.Nat.{mod-lt, lt_of_lt_of_le, lt_of_not-le, le_of_suc-le-suc}
 use native.Mathlib.Numerals.{sub-one}
 use native.Mathlib.Omega.{arith}
@@ -122,6 +122,7 @@ pub range_read-suc : (m : BlockAddrBlockMetadata) (N i : ℕ) → 0 < i
     ≡ value_read m.range_start (N / 2 ^ range_bit m.range_start_nbits m.first_ordinal_nbits (i - 1) % 2 ^ m.range_start_nbits)
     m.range_start_slope i m.range_start_nbits
 unfolding range_read
+range_read-suc m N zero h = elim h [ ]
 range_read-suc m N (suc j) h = rw (sub-one (suc j)) refl
 
 pub ordinal_read-suc : (m : BlockAddrBlockMetadata) (N i : ℕ) → 0 < i
@@ -129,4 +130,5 @@ pub ordinal_read-suc : (m : BlockAddrBlockMetadata) (N i : ℕ) → 0 < i
     ≡ value_read m.first_ordinal (N / 2 ^ ordinal_bit m.range_start_nbits m.first_ordinal_nbits (i - 1) % 2 ^ m.first_ordinal_nbits)
     m.first_ordinal_slope i m.first_ordinal_nbits
 unfolding ordinal_read
+ordinal_read-suc m N zero h = elim h [ ]
 ordinal_read-suc m N (suc j) h = rw (sub-one (suc j)) refl

@@ -38,6 +38,7 @@ length-ordinal_values base (c ∷ cs) = ap suc (length-ordinal_values base cs)
 pub range-start-at : (base : ℕ) (b : BlockAddr) (bs : List BlockAddr) (j : ℕ) → j < length bs
     → get_or (range_values base b bs) j 0 ≡ (block_of bs j).start - base
 unfolding range_values
+range-start-at base b [] j h = elim h [ ]
 range-start-at base b (c ∷ cs) zero h = refl
 range-start-at base b (c ∷ cs) (suc j) h = range-start-at base c cs j (omega arith)
 
@@ -50,6 +51,7 @@ range-last-at base b (c ∷ cs) = range-last-at base c cs
 pub ordinal-at : (base : ℕ) (bs : List BlockAddr) (j : ℕ) → j < length bs
     → get_or (ordinal_values base bs) j 0 ≡ (block_of bs j).first_ordinal - base
 unfolding ordinal_values
+ordinal-at base [] j h = elim h [ ]
 ordinal-at base (c ∷ cs) zero h = refl
 ordinal-at base (c ∷ cs) (suc j) h = ordinal-at base cs j (omega arith)
 
@@ -63,6 +65,7 @@ length_fields slope width i (v ∷ vs) = ap suc (length_fields slope width (suc 
 fields-at-from : (slope width i : ℕ) (vs : List ℕ) (j : ℕ) → j < length vs
     → get_or (fields slope width i vs) j 0 ≡ stored_of slope width (i + j) (get_or vs j 0)
 unfolding fields
+fields-at-from slope width i [] j h = elim h [ ]
 fields-at-from slope width i (v ∷ vs) zero h = rw add-zero
 fields-at-from slope width i (v ∷ vs) (suc j) h =
     rw (add-suc i j, ← (suc-add i j)) (fields-at-from slope width (suc i) vs j (omega arith))

@@ -1,4 +1,6 @@
 // One group of block addresses: `BlockAddrBlockMetadata` and `flush_block` of src/index/v3.rs.
+#![tactic(auto)]
+
 pub mod area;
 pub mod bits;
 pub mod meta;
@@ -6,7 +8,7 @@ pub mod rows;
 
 // A block: where it starts and ends in the file, and its first term's ordinal.
 #[repr(C)]
-#[derive(Drop)]
+#[derive(Clone, Copy)]
 pub struct BlockAddr {
     pub start: u64,
     pub end: u64,
@@ -14,7 +16,7 @@ pub struct BlockAddr {
 }
 
 // A group's record: where its bits stand, its first block's start and ordinal, and the slopes and widths of its fields.
-#[derive(Drop)]
+#[derive(Clone, Copy)]
 pub struct BlockAddrBlockMetadata {
     pub offset: u64,
     pub range_start: u64,

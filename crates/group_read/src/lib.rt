@@ -1,4 +1,6 @@
 // Reading a group: its rule, its numbers, the search by ordinal inside it.
+#![tactic(auto)]
+
 ghost use Rattle.std.specs.Prelude.{◌≡◌, ◌+◌, ◌-◌, ◌*◌, ◌/◌, ◌^◌, ◌≤◌, ◌<◌, length};
 ghost use Rattle.layout.specs.Layout.{max_blocks, max_group_len};
 ghost use Rattle.serialize.specs.Digits.{le_val};
@@ -89,7 +91,7 @@ pub fn first_ordinal(meta: BlockAddrBlockMetadata, data: &[u8], i: usize) -> u64
 }
 
 // A block's start and first ordinal.
-#[derive(Drop)]
+#[derive(Clone, Copy)]
 pub struct BlockStartAddr {
     pub range_start: u64,
     pub first_ordinal: u64,

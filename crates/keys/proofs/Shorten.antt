@@ -91,8 +91,8 @@ first-below-ff (x ∷ xs) =
     (first-below-ff xs))
     (λ e. inr (0, omega arith, (λ i l. absurd (omega arith)), eqb-false x 255 e))
 
-get_d-from : (n : ℕ) (l : List ℕ) (i : ℕ) → n ≤ i → get_or l i 0 ≡ get_or (drop n l) (i - n) 0
-get_d-from n l i h = rw get_or-drop (ap (λ (m : ℕ). get_or l m 0) (omega arith))
+get_or-from : (n : ℕ) (l : List ℕ) (i : ℕ) → n ≤ i → get_or l i 0 ≡ get_or (drop n l) (i - n) 0
+get_or-from n l i h = rw get_or-drop (ap (λ (m : ℕ). get_or l m 0) (omega arith))
 
 -- at most one byte changes: left is unchanged, or one of its bytes is raised and the rest dropped
 pub shorten-one-byte : (left right : List ℕ) → (shorten left right ≡ left) ⊎ Raised left right
@@ -100,11 +100,11 @@ shorten-one-byte left right =
     let n : ℕ = common_prefix_len left right + 1 in
     let w : length (drop n left) ≡ length left - n = length-drop n left in
     ⊎_elim
-    (λ h. inl (shorten-all-ff left right (λ i m l. get_d-from n left i (omega arith) ∙ h (i - n) (omega arith))))
+    (λ h. inl (shorten-all-ff left right (λ i m l. get_or-from n left i (omega arith) ∙ h (i - n) (omega arith))))
     (λ f.
     let b : common_prefix_len left right < n + f.0 = omega arith in
     let t : n + f.0 < length left = omega arith in
-    let u : (i : ℕ) → common_prefix_len left right < i → i < n + f.0 → get_or left i 0 ≡ 255 = λ i m l. get_d-from n left i (omega arith) ∙ f.2 (i - n) (omega arith) in
+    let u : (i : ℕ) → common_prefix_len left right < i → i < n + f.0 → get_or left i 0 ≡ 255 = λ i m l. get_or-from n left i (omega arith) ∙ f.2 (i - n) (omega arith) in
     let v : get_or left (n + f.0) 0 ≡ 255 → ⊥ = λ e. f.3 (get_or-drop n left f.0 0 ∙ e) in
     inr record { place = n + f.0; behind = b; within = t; passed = u; not-ff = v; result = shorten-at left right (n + f.0) b t u v })
     (first-below-ff (drop n left))

@@ -1,4 +1,6 @@
 // Keys: the order of byte strings, the common prefix (src/lib.rs) and the shortened separator (src/index/mod.rs).
+#![tactic(auto)]
+
 ghost use Rattle.std.specs.Prelude.{◌≡◌, ℕ, ◌+◌, ◌≤◌, ◌<◌, min, List, true, length, take, drop, get_or, ltb};
 ghost use Rattle.std.proofs.lemmas.List.Edits.{sets};
 ghost use Rattle.keys.specs.Order.{less, common_prefix_len};
@@ -141,7 +143,7 @@ pub fn lesser(a: usize, b: usize) -> usize
 }
 
 // How many bytes are in common up to the end of one word, and whether the common prefix ends there.
-#[derive(Drop)]
+#[derive(Clone, Copy)]
 pub struct Near {
     pub len: usize,
     pub ends: bool,

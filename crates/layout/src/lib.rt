@@ -1,4 +1,6 @@
 // Lengths and limits of the layouts, and the numbers of refusals, each in one place: writers and readers rest on these.
+#![tactic(auto)]
+
 pub mod refusals;
 
 // The most blocks that an index has.

@@ -4,12 +4,11 @@ use mathlib.Core.List.{List, [], ◌∷◌, ◌++◌}
 use Prim.Native.Nat.{ℕ, zero, suc, ◌+◌, ◌-◌, ◌*◌, ◌/◌, ◌%◌, ◌^◌, ◌≤◌, ◌<◌}
 use native.Mathlib.Nat.{mul-suc, mul_assoc, mul_comm, div-one, zero-div, zero-mod, mod-one, mod-lt, mod-eq_of_lt, div-div-eq-div-mul, add-zero, add-mul, add_assoc, mul-one, mul-zero, zero-mul, zero-add, suc-add, not-suc-le-zero, le_of_suc-le-suc}
 use native.Mathlib.Omega.{arith}
-use native.Mathlib.Numerals.{add-one, sub-one}
 use lib.Arith.{digits_div, digits_mod, mod-mul}
-use lib.ListN.{length, take, drop, get_or, set}
-use lib.Seq.{get_or-drop, sets, take-length}
+use lib.ListN.{length, take, drop, get_or}
+use lib.Seq.{get_or-drop, take-length}
 use lib.Pow.{pow-add, pow_pos, field, mod-mod-pow}
-use Rattle.serialize.specs.Digits.{of_digits, digits_of, le_val, le_bytes, DigitsBelow}
+use Rattle.serialize.specs.Digits.{of_digits, digits_of, DigitsBelow}
 
 pub pow-mul-suc : (k n : ℕ) → 2 ^ (k * suc n) ≡ 2 ^ (k * n) * 2 ^ k
 pow-mul-suc k n = ap (λ (m : ℕ). 2 ^ m) (mul-suc k n) ∙ pow-add 2 (k * n) k

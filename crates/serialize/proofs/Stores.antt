@@ -1,14 +1,13 @@
 -- Laws of a run of stores, the kit's `sets`: stores one after the other, into a part, and what a reader finds there.
-use mathlib.Core.Path.{◌≡◌, refl, sym, ap, ap₂, ◌∙◌}
+use mathlib.Core.Path.{◌≡◌, refl, sym, ap, ◌∙◌}
 use mathlib.Core.List.{List, [], ◌∷◌, ◌++◌, append_assoc, append-nil}
-use Prim.Native.Nat.{ℕ, zero, suc, ◌+◌, ◌-◌, ◌*◌, ◌/◌, ◌%◌, ◌^◌, ◌≤◌, ◌<◌}
-use native.Mathlib.Nat.{add-zero, zero-add, add-suc, suc-add, add_assoc}
+use Prim.Native.Nat.{ℕ, suc, ◌+◌, ◌-◌, ◌*◌, ◌^◌, ◌≤◌, ◌<◌}
+use native.Mathlib.Nat.{add-zero, zero-add, add-suc, suc-add}
 use native.Mathlib.Omega.{arith}
-use native.Mathlib.Numerals.{add-one, sub-one}
-use lib.ListN.{length, take, drop, get_or, set, length-take, length-drop, length-append, length-set, take-append-drop, drop_of_length-le}
-use lib.Seq.{sets, sets-eq, length-sets, take-length, take_at, drop_at, length-take-le, take-append-le, drop-append-add, drop-drop, take_all, drop-set-add, set-append_left, take-set-le, drop-set-lt}
+use lib.ListN.{length, take, drop, set, length-drop, take-append-drop, drop_of_length-le}
+use lib.Seq.{sets, sets-eq, take-length, take_at, drop_at, length-take-le, take_all, drop-set-add, take-set-le, drop-set-lt}
 use borrow.Rule.Slice.PartMut.{put_mid}
-use Rattle.serialize.specs.Digits.{digits_of, le_val, le_bytes}
+use Rattle.serialize.specs.Digits.{le_val, le_bytes}
 use Rattle.serialize.proofs.Digits.{length-digits_of, of_digits-digits_of-lt}
 
 -- stores one after the other are one run

@@ -1,7 +1,7 @@
 -- One turn of the loops that read and write a number: one byte more.
 use mathlib.Core.Path.{◌≡◌, refl, ap, ◌∙◌}
 use mathlib.Core.List.{List}
-use Prim.Native.Nat.{ℕ, suc, ◌+◌, ◌-◌, ◌*◌, ◌/◌, ◌%◌, ◌^◌, ◌<◌}
+use Prim.Native.Nat.{zero, ℕ, suc, ◌+◌, ◌-◌, ◌*◌, ◌/◌, ◌%◌, ◌^◌, ◌<◌}
 use native.Mathlib.Omega.{arith}
 use native.Mathlib.Numerals.{add-one, sub-one}
 use lib.ListN.{take, drop, get_or, set}
@@ -20,4 +20,5 @@ or-next-byte s at i r h l q =
 
 pub store-next-byte : (out : List ℕ) (p left x : ℕ) → 0 < left → sets out p (le_bytes left x) ≡ sets (set out p (x % 256)) (p + 1) (le_bytes (left - 1) (x / 256))
 unfolding digits_of
+store-next-byte out p zero x h = elim h [ ]
 store-next-byte out p (suc k) x h = rw (add-one p, sub-one (suc k)) refl

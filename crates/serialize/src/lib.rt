@@ -1,4 +1,6 @@
 // Little-endian numbers in slices of bytes: the Rust's `BinarySerializable` for u16, u32 and u64.
+#![tactic(auto)]
+
 ghost use Rattle.std.specs.Prelude.{◌≡◌, ◌+◌, ◌*◌, ◌^◌, ◌≤◌, ◌<◌, length};
 ghost use Rattle.std.proofs.lemmas.List.Edits.{sets};
 ghost use Rattle.serialize.specs.Digits.{number_at, le_bytes};

@@ -22,6 +22,7 @@ next at stride j = omega (arith, mul-suc stride j)
 
 pub column-at : (area : List ℕ) (at stride base count j : ℕ) → j < count → get_or (column area at stride base count) j 0 ≡ get_or area (at + stride * j) 0 - base
 unfolding column
+column-at area at stride base zero j h = elim h [ ]
 column-at area at stride base (suc count) zero h = rw (mul-zero, add-zero)
 column-at area at stride base (suc count) (suc j) h = rw place (column-at area (at + stride) stride base count j (omega arith))
 

@@ -17,6 +17,7 @@ one-add j = omega arith
 -- no derivation is above the largest, numbered from i on
 pub derivation-le-from : (s i : ℕ) (vs : List ℕ) (j : ℕ) → j < length vs → derivation s (i + j) (get_or vs j 0) ≤ max_derivation s i vs
 unfolding max_derivation
+derivation-le-from s i [] j h = elim h [ ]
 derivation-le-from s i (v ∷ vs) zero h = rw add-zero (le-max_left (derivation s i v) (max_derivation s (suc i) vs))
 derivation-le-from s i (v ∷ vs) (suc j) h =
     rw (add-suc, ← suc-add)

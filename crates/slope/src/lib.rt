@@ -1,11 +1,13 @@
 // `find_best_slope` of src/index/v3.rs, over values taken from a lent area.
+#![tactic(auto)]
+
 ghost use Rattle.std.specs.Prelude.{◌≡◌, ◌+◌, ◌-◌, ◌*◌, ◌/◌, ◌%◌, ◌^◌, ◌≤◌, ◌<◌, max};
 ghost use Rattle.slope.specs.Slope.{best_slope, max_derivation, width_of};
 ghost use Rattle.slope.specs.Extremes.{New, ExtremesAt};
 ghost use Rattle.slope.specs.Column.{column, ColumnOk};
 
 // A point with its slope.
-#[derive(Drop)]
+#[derive(Clone, Copy)]
 struct Point {
     i: u64,
     v: u64,
@@ -40,7 +42,7 @@ fn near(i: u64, v: u64, s: u64) -> Point
 }
 
 // The lowest and the highest of the points before place j; a tie goes to the later one.
-#[derive(Drop)]
+#[derive(Clone, Copy)]
 struct Extremes {
     low: Point,
     high: Point,
@@ -190,7 +192,7 @@ pub fn width_of(area: &[u64], at: usize, stride: usize, base: u64, count: usize,
     bitpacker::compute_num_bits(max_derivation(area, at, stride, base, count, slope)) + 1
 }
 
-#[derive(Drop)]
+#[derive(Clone, Copy)]
 pub struct Slope {
     pub slope: u32,
     pub nbits: u8,

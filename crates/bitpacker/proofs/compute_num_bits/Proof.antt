@@ -9,19 +9,19 @@ use Rattle.bitpacker.specs.Bits.{num_bits_of}
 use Rattle.bitpacker.proofs.compute_num_bits.Statement.{statement}
 use Rattle.bitpacker.proofs.compute_num_bits.Tie as tie
 
-sub-amplitude : tie.Need-overflow-sub-amplitude
+sub-amplitude : tie.Need-overflow_sub-amplitude
 sub-amplitude c = leading_le 64 c.args.value
 
-cast-result : tie.Need-overflow-cast-result
+cast-result : tie.Need-overflow_cast-result
 cast-result c = search rules
 
-returns : tie.Need-returns
+returns : tie.Need-returns-then-amplitude-le56
 unfolding num_bits_of
-returns c = rw (le-leb (64 - count_leading_zeros 64 c.before.args.value) 56 (omega arith)) refl
+returns c = rw (le-leb (64 - count_leading_zeros 64 c.args.value) 56 (omega arith)) refl
 
-returns-2 : tie.Need-returns-2
+returns-2 : tie.Need-returns-else-amplitude-le56
 unfolding num_bits_of
-returns-2 c = rw (lt-leb (64 - count_leading_zeros 64 c.before.args.value) 56 (omega arith)) refl
+returns-2 c = rw (lt-leb (64 - count_leading_zeros 64 c.args.value) 56 (omega arith)) refl
 
-pub compute-num-bits-spec : {M : Type 1} → statement M
-compute-num-bits-spec = tie.close (tie.spec sub-amplitude cast-result returns returns-2)
+pub compute_num_bits_spec : {M : Type 1} → statement M
+compute_num_bits_spec = tie.close (tie.spec sub-amplitude cast-result returns returns-2)

@@ -32,29 +32,29 @@ extracted s addr n h l =
     ∙ ap (λ (m : ℕ). m % 2 ^ n) (shr-shr (le_val s) (8 * (addr / 8)) (addr % 8))
     ∙ ap (λ (m : ℕ). le_val s / 2 ^ m % 2 ^ n) e
 
-cast-load : tie.Need-overflow-cast-load
+cast-load : tie.Need-overflow_cast-addr_bits
 cast-load c = search rules
 
-load-requires : tie.Need-load-requires
+load-requires : tie.Need-load-unshifted-requires
 load-requires c κs = search rules
 
-cast-result : tie.Need-overflow-cast-result
+cast-result : tie.Need-overflow_cast-result
 cast-result c = search rules
 
-shr-result : tie.Need-overflow-shr-result
+shr-result : tie.Need-overflow_shr-result
 shr-result c = search rules
 
-shl-result : tie.Need-overflow-shl-result
+shl-result : tie.Need-overflow_shl-result
 shl-result c = search rules
 
-sub-result : tie.Need-overflow-sub-result
-sub-result c = rw (one_shl c.before.before.args.num-bits (omega arith)) (pow_pos c.before.before.args.num-bits)
+sub-result : tie.Need-overflow_sub-result
+sub-result c = rw (one_shl c.args.num_bits (omega arith)) (pow_pos c.args.num_bits)
 
 returns : tie.Need-returns
 returns c =
-    let a = c.before.before.args in
-    rw c.load.ensures
-    (extracted a.«data».now a.addr-bits a.num-bits (λ k. (c.before.shared-slice-known.given k).fits) (omega arith))
+    let a = c.args in
+    rw c.load-unshifted.ensures
+    (extracted a.«data».now a.addr_bits a.num_bits (λ k. (c.shared_slice_known-1.given k).fits) (omega arith))
 
-pub extract-bits-spec : {M : Type 1} → statement M
-extract-bits-spec = tie.close (tie.spec cast-load load-requires cast-result shr-result shl-result sub-result returns)
+pub extract_bits_spec : {M : Type 1} → statement M
+extract_bits_spec = tie.close (tie.spec cast-load load-requires cast-result shr-result shl-result sub-result returns)

@@ -9,21 +9,21 @@ use Rattle.serialize.specs.Digits.{le_val}
 use Rattle.bitpacker.proofs.load.Statement.{statement}
 use Rattle.bitpacker.proofs.load.Tie as tie
 
-sub-left : tie.Need-overflow-sub-left
+sub-left : tie.Need-overflow_sub-left
 sub-left c = search rules
 
-deserialize-u64-requires : tie.Need-deserialize-u64-requires
+deserialize-u64-requires : tie.Need-deserialize_u64-requires
 deserialize-u64-requires c κs = search rules
 
-load-tail-requires : tie.Need-load-tail-requires
+load-tail-requires : tie.Need-load_tail-requires
 load-tail-requires c κs = search rules
 
-returns : tie.Need-returns
+returns : tie.Need-returns-then-left-ge8
 returns c = search rules
 
-returns-2 : tie.Need-returns-2
+returns-2 : tie.Need-returns-else-left-ge8
 returns-2 c =
-    let a = c.before.before.before.args in
+    let a = c.args in
     let rest = drop a.at a.«data».now in
     c.load_tail.ensures
     ∙ ap le_val

@@ -17,37 +17,37 @@ none : (l : List ℕ) (at : ℕ) → 0 ≡ le_val (take 0 (drop at l))
 unfolding of_digits
 none l at = refl
 
-deserialize-le-requires : tie.Need-deserialize-le-requires
+deserialize-le-requires : tie.Need-deserialize_le-requires
 deserialize-le-requires c κs = search rules
 
-returns : tie.Need-returns
+returns : tie.Need-returns-then-left-ge3
 returns c =
-    let s = c.before.before.before in
-    (same s.args.«data».now _ s.args.at 3 s.args.left c.deserialize-le.ensures.0 (omega (arith, c.before.if1.true, s.requires.0)), c.deserialize-le.ensures.1)
+    let s = c in
+    (same s.args.«data».now _ s.args.at 3 s.args.left c.deserialize_le.ensures.0 (omega (arith, c.if-left-ge3.true, s.requires.0)), c.deserialize_le.ensures.1)
 
-deserialize-le-requires-2 : tie.Need-deserialize-le-requires-2
+deserialize-le-requires-2 : tie.Need-deserialize_le-requires-then-left-ge2
 deserialize-le-requires-2 c κs = search rules
 
-returns-2 : tie.Need-returns-2
+returns-2 : tie.Need-returns-then-left-ge2
 returns-2 c =
-    let a = c.before.before.before.before.args in
-    (same a.«data».now _ a.at 2 a.left c.deserialize-le2.ensures.0 (omega (arith, c.before.if2.true, c.before.before.if1.false)), omega (arith, c.deserialize-le2.ensures.1))
+    let a = c.args in
+    (same a.«data».now _ a.at 2 a.left c.deserialize_le-then-left-ge2.ensures.0 (omega (arith, c.if-left-ge2.true, c.if-left-ge3.false)), omega (arith, c.deserialize_le-then-left-ge2.ensures.1))
 
-deserialize-le-requires-3 : tie.Need-deserialize-le-requires-3
+deserialize-le-requires-3 : tie.Need-deserialize_le-requires-then-left-ge1
 deserialize-le-requires-3 c κs = search rules
 
-returns-3 : tie.Need-returns-3
+returns-3 : tie.Need-returns-then-left-ge1
 returns-3 c =
-    let a = c.before.before.before.before.before.args in
-    (same a.«data».now _ a.at 1 a.left c.deserialize-le3.ensures.0 (omega (arith, c.before.if3.true, c.before.before.if2.false)), omega (arith, c.deserialize-le3.ensures.1))
+    let a = c.args in
+    (same a.«data».now _ a.at 1 a.left c.deserialize_le-then-left-ge1.ensures.0 (omega (arith, c.if-left-ge1.true, c.if-left-ge2.false)), omega (arith, c.deserialize_le-then-left-ge1.ensures.1))
 
-returns-4 : tie.Need-returns-4
+returns-4 : tie.Need-returns
 returns-4 c =
-    let a = c.before.before.before.before.args in
-    (same a.«data».now 0 a.at 0 a.left (none a.«data».now a.at) (omega (arith, c.if3.false)), omega arith)
+    let a = c.args in
+    (same a.«data».now 0 a.at 0 a.left (none a.«data».now a.at) (omega (arith, c.if-left-ge1.false)), omega arith)
 
-pub load-few-spec : {M : Type 1} → statement M
-load-few-spec =
+pub load_few_spec : {M : Type 1} → statement M
+load_few_spec =
     tie.close
     (tie.spec
     deserialize-le-requires

@@ -29,35 +29,35 @@ split l at k left h e =
     of_digits-take 8 left (drop at l) (below-drop 8 at l h) ∙ ap (λ (x : ℕ). all % 2 ^ x) bits ∙ mod-pow-add all (8 * k) 32 in
     omega (arith, low, high, whole)
 
-load-few-requires : tie.Need-load-few-requires
+load-few-requires : tie.Need-load_few-requires
 load-few-requires c κs = search rules
 
-returns : tie.Need-returns
+returns : tie.Need-returns-then-left-lt4
 returns c = search rules
 
-deserialize-le-requires : tie.Need-deserialize-le-requires
+deserialize-le-requires : tie.Need-deserialize_le-low-requires
 deserialize-le-requires c κs = search rules
 
-add-load-few : tie.Need-overflow-add-load-few
+add-load-few : tie.Need-overflow_add-at
 add-load-few c = search rules
 
-load-few-requires-2 : tie.Need-load-few-requires-2
+load-few-requires-2 : tie.Need-load_few-requires-2
 load-few-requires-2 c κs = search rules
 
-mul-result : tie.Need-overflow-mul-result
+mul-result : tie.Need-overflow_mul-result
 mul-result c = search rules
 
-add-result : tie.Need-overflow-add-result
+add-result : tie.Need-overflow_add-result
 add-result c = search rules
 
-returns-2 : tie.Need-returns-2
+returns-2 : tie.Need-returns
 returns-2 c =
-    let a = c.before.before.before.before.args in
-    rw (c.before.deserialize-le.ensures.0, c.load-few2.ensures.0)
-    (split a.«data».now a.at (a.left - 4) a.left (λ k. (c.before.before.before.shared-slice-known.given k).fits) (omega arith))
+    let a = c.args in
+    rw (c.deserialize_le-low.ensures.0, c.load_few-2.ensures.0)
+    (split a.«data».now a.at (a.left - 4) a.left (λ k. (c.shared_slice_known-1.given k).fits) (omega arith))
 
-pub load-tail-spec : {M : Type 1} → statement M
-load-tail-spec =
+pub load_tail_spec : {M : Type 1} → statement M
+load_tail_spec =
     tie.close
     (tie.spec
     load-few-requires

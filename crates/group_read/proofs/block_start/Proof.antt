@@ -11,7 +11,7 @@ use Rattle.serialize.specs.Digits.{le_val}
 use Rattle.serialize.proofs.Digits.{mod-mod-le}
 use Rattle.bitpacker.specs.Fields.{range_bit, ordinal_bit}
 use Rattle.bitpacker.proofs.Fields.{range-within}
-use Rattle.group.specs.Read.{value_read, range_read, ordinal_read}
+use Rattle.group.specs.Read.{value_read}
 use Rattle.group.proofs.Reading.{field_lt, range_read-suc, ordinal_read-suc}
 use Rattle.group_read.proofs.block_start.Statement.{statement}
 use Rattle.group_read.proofs.block_start.Tie as tie
@@ -42,48 +42,48 @@ module _ (N r o j both : ℕ) (few : r ≤ 56) (e : both ≡ N / 2 ^ range_bit r
   ordinal-small : o ≤ 56 → both / 2 ^ r < 2 ^ 56
   ordinal-small h = rw ordinal-part (field_lt N (ordinal_bit r o j) o h)
 
-sub-range-bit : tie.Need-overflow-sub-range-bit
+sub-range-bit : tie.Need-overflow_sub-i
 sub-range-bit c = search rules
 
-range-bit-requires : tie.Need-range-bit-requires
+range-bit-requires : tie.Need-range_bit-bit-requires
 range-bit-requires c κs = search rules
 
-add-extract-bits : tie.Need-overflow-add-extract-bits
+add-extract-bits : tie.Need-overflow_add-range_nbits
 add-extract-bits c = search rules
 
-extract-bits-requires : tie.Need-extract-bits-requires
+extract-bits-requires : tie.Need-extract_bits-both-requires
 extract-bits-requires c κs =
-    let a = c.before.before.args in
+    let a = c.args in
     let m = a.meta in
     let h = range-within m.range_start_nbits m.first_ordinal_nbits (a.i - 1) m.block_len (omega arith) in
     (omega arith, omega arith)
 
 -- what was read
-read : (c : tie.After-extract-bits) → let a = c.before.before.before.args in
-    c.extract-bits.result
+read : (c : tie.After-extract_bits-both) → let a = c.args in
+    c.extract_bits-both.result
     ≡ le_val a.«data».now / 2 ^ range_bit a.meta.range_start_nbits a.meta.first_ordinal_nbits (a.i - 1) % 2 ^ (a.meta.range_start_nbits + a.meta.first_ordinal_nbits)
-read c = rw (c.extract-bits.ensures, c.before.range-bit.ensures)
+read c = rw (c.extract_bits-both.ensures, c.range_bit-bit.ensures)
 
-cast-range : tie.Need-overflow-cast-range
+cast-range : tie.Need-overflow_cast-range
 cast-range c = search rules
 
-shl-range : tie.Need-overflow-shl-range
+shl-range : tie.Need-overflow_shl-range
 shl-range c = search rules
 
-sub-range : tie.Need-overflow-sub-range
+sub-range : tie.Need-overflow_sub-range
 sub-range c =
-    let r = c.before.before.before.args.meta.range_start_nbits in
+    let r = c.args.meta.range_start_nbits in
     rw (one_shl r (omega arith)) (pow_pos r)
 
-cast-ordinal : tie.Need-overflow-cast-ordinal
+cast-ordinal : tie.Need-overflow_cast-ordinal
 cast-ordinal c = search rules
 
-shr-ordinal : tie.Need-overflow-shr-ordinal
+shr-ordinal : tie.Need-overflow_shr-ordinal
 shr-ordinal c = search rules
 
 value-requires : tie.Need-value-requires
 value-requires c κs =
-    let s = c.before.before.before in
+    let s = c in
     let m = s.args.meta in
     let p = s.requires.0 in (
       p.start_small,
@@ -95,7 +95,7 @@ value-requires c κs =
 
 value-requires-2 : tie.Need-value-requires-2
 value-requires-2 c κs =
-    let s = c.before.before.before.before in
+    let s = c in
     let m = s.args.meta in
     let p = s.requires.0 in (
       p.ordinal-small,
@@ -107,23 +107,23 @@ value-requires-2 c κs =
 
 returns : tie.Need-returns
 returns c =
-    let s = c.before.before.before.before.before in
+    let s = c in
     let m = s.args.meta in
     let N = le_val s.args.«data».now in
     let i = s.args.i in
     let high = s.requires.0.range-high in (
-      c.before.value.ensures
+      c.value.ensures
           ∙ ap (λ (x : ℕ). value_read m.range_start x m.range_start_slope i m.range_start_nbits)
           (range-part N m.range_start_nbits m.first_ordinal_nbits (i - 1) _ high (read c.before.before))
           ∙ sym (range_read-suc m N i (omega arith)),
-      c.value2.ensures
+      c.value-2.ensures
           ∙ ap (λ (x : ℕ). value_read m.first_ordinal x m.first_ordinal_slope i m.first_ordinal_nbits)
           (ordinal-part N m.range_start_nbits m.first_ordinal_nbits (i - 1) _ high (read c.before.before))
           ∙ sym (ordinal_read-suc m N i (omega arith)),
     )
 
-pub block-start-spec : {M : Type 1} → statement M
-block-start-spec =
+pub block_start_spec : {M : Type 1} → statement M
+block_start_spec =
     tie.close
     (tie.spec
     sub-range-bit

@@ -16,28 +16,28 @@ read-block : (m : BlockAddrBlockMetadata) (N i start end first : ℕ)
 unfolding block_read
 read-block m N i start end first s e f = let e' : end ≡ range_read m N (suc i) = e ∙ ap (range_read m N) (add-one i) in cc
 
-range-start-requires : tie.Need-range-start-requires
+range-start-requires : tie.Need-range_start-requires
 range-start-requires c κs = search rules
 
-add-range-start : tie.Need-overflow-add-range-start
+add-range-start : tie.Need-overflow_add-inner_offset
 add-range-start c = search rules
 
-range-start-requires-2 : tie.Need-range-start-requires-2
+range-start-requires-2 : tie.Need-range_start-requires-2
 range-start-requires-2 c κs = search rules
 
-first-ordinal-requires : tie.Need-first-ordinal-requires
+first-ordinal-requires : tie.Need-first_ordinal-requires
 first-ordinal-requires c κs = search rules
 
 returns : tie.Need-returns
 returns c =
-    let a = c.before.before.before.before.args in
-    read-block a.meta (le_val a.«data».now) a.inner-offset _ _ _
-    c.before.before.range-start.ensures
-    c.before.range-start2.ensures
-    c.first-ordinal.ensures
+    let a = c.args in
+    read-block a.meta (le_val a.«data».now) a.inner_offset _ _ _
+    c.range_start.ensures
+    c.range_start-2.ensures
+    c.first_ordinal.ensures
 
-pub deserialize-block-addr-spec : {M : Type 1} → statement M
-deserialize-block-addr-spec =
+pub deserialize_block_addr_spec : {M : Type 1} → statement M
+deserialize_block_addr_spec =
     tie.close
     (tie.spec
     range-start-requires

@@ -27,30 +27,30 @@ module _ (first field slope i n : ℕ) (few : n ≤ 56) where
   above : 1 * 2 ^ (n - 1) % 2 ^ 64 ≤ first + field + slope * i → first + field + slope * i - 1 * 2 ^ (n - 1) % 2 ^ 64 ≡ value_read first field slope i n
   above h = rw (shift n few) (sym (value-above first field slope i n (rw (shift n few) at h)))
 
-add-sum : tie.Need-overflow-add-sum
+add-sum : tie.Need-overflow_add-sum
 add-sum c = omega (arith, limit-high)
 
-mul-sum : tie.Need-overflow-mul-sum
+mul-sum : tie.Need-overflow_mul-sum
 mul-sum c = omega (arith, product_small c.args.slope c.args.i (omega arith) (omega arith))
 
-add-sum-2 : tie.Need-overflow-add-sum-2
+add-sum-2 : tie.Need-overflow_add-sum-2
 add-sum-2 c = omega (arith, limit-high, product_small c.args.slope c.args.i (omega arith) (omega arith))
 
-sub-shift : tie.Need-overflow-sub-shift
+sub-shift : tie.Need-overflow_sub-shift
 sub-shift c = search rules
 
-cast-shift : tie.Need-overflow-cast-shift
+cast-shift : tie.Need-overflow_cast-shift
 cast-shift c = search rules
 
-shl-shift : tie.Need-overflow-shl-shift
+shl-shift : tie.Need-overflow_shl-shift
 shl-shift c = search rules
 
-returns : tie.Need-returns
+returns : tie.Need-returns-then-sum-shift
 unfolding limit
-returns c = let a = c.before.args in below a.first a.field a.slope a.i a.nbits (omega arith) c.if1.true
+returns c = let a = c.args in below a.first a.field a.slope a.i a.nbits (omega arith) c.if-sum-shift.true
 
-returns-2 : tie.Need-returns-2
-returns-2 c = let a = c.before.args in above a.first a.field a.slope a.i a.nbits (omega arith) c.if1.false
+returns-2 : tie.Need-returns
+returns-2 c = let a = c.args in above a.first a.field a.slope a.i a.nbits (omega arith) c.if-sum-shift.false
 
 pub value_spec : {M : Type 1} → statement M
 value_spec =

@@ -16,11 +16,11 @@ wide : (n : ℕ) → 1 ≤ n → ltb 56 n ≡ width_bad n
 unfolding width_bad
 wide n h = rw (le-ltb n 1 h)
 
-returns : tie.Need-returns
-returns c = narrow c.before.args.nbits c.if1.true
+returns : tie.Need-returns-then-nbits-lt1
+returns c = narrow c.args.nbits c.if-nbits-lt1.true
 
-returns-2 : tie.Need-returns-2
-returns-2 c = wide c.before.args.nbits c.if1.false
+returns-2 : tie.Need-returns
+returns-2 c = wide c.args.nbits c.if-nbits-lt1.false
 
-pub width-bad-spec : {M : Type 1} → statement M
-width-bad-spec = tie.close (tie.spec returns returns-2)
+pub width_bad_spec : {M : Type 1} → statement M
+width_bad_spec = tie.close (tie.spec returns returns-2)

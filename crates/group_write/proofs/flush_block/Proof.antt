@@ -273,126 +273,126 @@ module _ {m : BlockAddrBlockMetadata} {area : List ℕ} {stride first count : �
 
 -- ---- the code
 
-abbrev invariant-loop : tie.invariant-loop
+abbrev invariant-loop : tie.invariant-loop-i
 invariant-loop area stride first count out₀ range-slope range-nbits ordinal-slope ordinal-nbits range-start first-ordinal packer₀ i₀ out packer i =
     (1 ≤ i) × (i ≤ count)
     × Pairs range-nbits ordinal-nbits (ranges area stride first count range-slope range-nbits) (ordinals area stride first count ordinal-slope ordinal-nbits) out₀ out packer (i - 1)
 
-abbrev decreases-loop : tie.decreases-loop
+abbrev decreases-loop : tie.decreases-loop-i
 decreases-loop area stride first count out₀ range-slope range-nbits ordinal-slope ordinal-nbits range-start first-ordinal packer₀ i₀ out packer i = count - i
 
 -- the numbers of a turn, and the last one
-range-now : (c : tie.In-loop invariant-loop decreases-loop) → RangeTurn c.before.before.before.before.before.args.meta c.before.before.before.before.before.args.area.now c.before.before.before.before.before.args.stride c.before.before.before.before.before.args.first c.before.before.before.before.before.args.count c.before.loop.i
-range-now c = range-turn c.before.before.before.before.before.requires.0 c.before.before.before.before.before.requires.1 c.before.loop.i c.before.loop.invariant.0 c.loop-test.true
+range-now : (c : tie.In-loop-i invariant-loop decreases-loop) → RangeTurn c.args.meta c.args.area.now c.args.stride c.args.first c.args.count c.loop-i.i
+range-now c = range-turn c.requires.0 c.requires.1 c.loop-i.i c.loop-i.invariant.0 c.loop-i-test.true
 
-ordinal-now : (c : tie.In-loop invariant-loop decreases-loop) → OrdinalTurn c.before.before.before.before.before.args.meta c.before.before.before.before.before.args.area.now c.before.before.before.before.before.args.stride c.before.before.before.before.before.args.first c.before.before.before.before.before.args.count c.before.loop.i
-ordinal-now c = ordinal-turn c.before.before.before.before.before.requires.0 c.before.before.before.before.before.requires.1 c.before.loop.i c.before.loop.invariant.0 c.loop-test.true
+ordinal-now : (c : tie.In-loop-i invariant-loop decreases-loop) → OrdinalTurn c.args.meta c.args.area.now c.args.stride c.args.first c.args.count c.loop-i.i
+ordinal-now c = ordinal-turn c.requires.0 c.requires.1 c.loop-i.i c.loop-i.invariant.0 c.loop-i-test.true
 
-last-now : (c : tie.After-loop invariant-loop decreases-loop) → LastTurn c.before.before.before.before.before.args.meta c.before.before.before.before.before.args.area.now c.before.before.before.before.before.args.stride c.before.before.before.before.before.args.first c.before.before.before.before.before.args.count
-last-now c = last_turn c.before.before.before.before.before.requires.0 c.before.before.before.before.before.requires.1
+last-now : (c : tie.After-loop-i invariant-loop decreases-loop) → LastTurn c.args.meta c.args.area.now c.args.stride c.args.first c.args.count
+last-now c = last_turn c.requires.0 c.requires.1
 
 -- the packer after the first write of a turn, and after the last write
-within : (c : tie.After-write invariant-loop decreases-loop) → Within c.before.before.before.before.before.before.before.before.before.before.before.args.meta c.before.before.before.before.before.before.before.before.before.before.before.args.area.now c.before.before.before.before.before.before.before.before.before.before.before.args.stride c.before.before.before.before.before.before.before.before.before.before.before.args.first c.before.before.before.before.before.before.before.before.before.before.before.args.count c.before.before.before.before.before.before.before.before.before.before.before.args.out.now c.write.new.1.1.1.0 c.write.result c.before.before.before.before.before.before.before.loop.i
+within : (c : tie.After-write-packer invariant-loop decreases-loop) → Within c.args.meta c.args.area.now c.args.stride c.args.first c.args.count c.args.out.now c.write-packer.new.out c.write-packer.result c.loop-i.i
 within c =
-    range-done _ c.before.before.before.before.before.before.before.before.before.before.before.requires _ c.before.before.before.before.before.before.loop-test.true c.before.before.before.before.before.before.before.loop.invariant c.before.before.before.before.stored.ensures c.write.ensures
+    range-done _ c.requires _ c.loop-i-test.true c.loop-i.invariant c.stored-range.ensures c.write-packer.ensures
 
-whole : (c : tie.After-write3 invariant-loop decreases-loop) → Whole c.before.before.before.before.before.before.before.before.before.args.meta c.before.before.before.before.before.before.before.before.before.args.area.now c.before.before.before.before.before.before.before.before.before.args.stride c.before.before.before.before.before.before.before.before.before.args.first c.before.before.before.before.before.before.before.before.before.args.count c.before.before.before.before.before.before.before.before.before.args.out.now c.write3.new.1.1.1.0 c.write3.result
+whole : (c : tie.After-write-packer-2 invariant-loop decreases-loop) → Whole c.args.meta c.args.area.now c.args.stride c.args.first c.args.count c.args.out.now c.write-packer-2.new.out c.write-packer-2.result
 whole c =
-    last_done _ c.before.before.before.before.before.before.before.before.before.requires _ c.before.before.before.before.loop-test.false c.before.before.before.before.before.loop.invariant c.before.before.stored3.ensures c.write3.ensures
+    last_done _ c.requires _ c.loop-i-test.false c.loop-i.invariant c.stored-range-2.ensures c.write-packer-2.ensures
 
-new-requires : tie.Need-new-requires invariant-loop decreases-loop
+new-requires : tie.Need-new-packer-requires invariant-loop decreases-loop
 new-requires c κs = search rules
 
-loop-holds : tie.Need-loop-init invariant-loop decreases-loop
-loop-holds c = (omega arith, c.before.before.before.requires.0.some, pairs-none _ _ _ c.new.ensures)
+loop-holds : tie.Need-loop-i-init invariant-loop decreases-loop
+loop-holds c = (omega arith, c.requires.0.some, pairs-none _ _ _ c.new-packer.ensures)
 
-add_at : tie.Need-overflow-add-at invariant-loop decreases-loop
-add_at c = omega (arith, group-within c.before.before.before.before.before.requires.0)
+add_at : tie.Need-overflow_add-at invariant-loop decreases-loop
+add_at c = omega (arith, group-within c.requires.0)
 
-mul_at : tie.Need-overflow-mul-at invariant-loop decreases-loop
+mul_at : tie.Need-overflow_mul-at invariant-loop decreases-loop
 mul_at c = omega (arith, range-now c)
 
-mul-stored : tie.Need-overflow-mul-stored invariant-loop decreases-loop
+mul-stored : tie.Need-offset_bounds-area-at invariant-loop decreases-loop
 mul-stored c = omega (arith, range-now c)
 
-shared-slice-read-stored : tie.Need-shared-slice-read-stored invariant-loop decreases-loop
+shared-slice-read-stored : tie.Need-bounds-area-at invariant-loop decreases-loop
 shared-slice-read-stored c = (range-now c.before).inside
 
-sub-stored : tie.Need-overflow-sub-stored invariant-loop decreases-loop
+sub-stored : tie.Need-overflow_sub-area invariant-loop decreases-loop
 sub-stored c = (range-now c.before).above
 
-stored-requires : tie.Need-stored-requires invariant-loop decreases-loop
+stored-requires : tie.Need-stored-range-requires invariant-loop decreases-loop
 stored-requires c κs = asked (range-now c.before)
 
-add-stored : tie.Need-overflow-add-stored invariant-loop decreases-loop
+add-stored : tie.Need-overflow_add-at-in-loop-i invariant-loop decreases-loop
 add-stored c = omega (arith, ordinal-now c.before.before)
 
-mul-stored-2 : tie.Need-overflow-mul-stored-2 invariant-loop decreases-loop
+mul-stored-2 : tie.Need-offset_bounds-area-at-in-loop-i invariant-loop decreases-loop
 mul-stored-2 c = omega (arith, ordinal-now c.before.before)
 
-shared-slice-read-stored-2 : tie.Need-shared-slice-read-stored-2 invariant-loop decreases-loop
+shared-slice-read-stored-2 : tie.Need-bounds-area-at-in-loop-i invariant-loop decreases-loop
 shared-slice-read-stored-2 c = (ordinal-now c.before.before.before).inside
 
-sub-stored-2 : tie.Need-overflow-sub-stored-2 invariant-loop decreases-loop
+sub-stored-2 : tie.Need-overflow_sub-area-in-loop-i invariant-loop decreases-loop
 sub-stored-2 c = (ordinal-now c.before.before.before).above
 
-stored-requires-2 : tie.Need-stored-requires-2 invariant-loop decreases-loop
+stored-requires-2 : tie.Need-stored-ordinal-requires invariant-loop decreases-loop
 stored-requires-2 c κs = asked (ordinal-now c.before.before.before)
 
-write-requires : tie.Need-write-requires invariant-loop decreases-loop
-write-requires c κs = range-room _ c.before.before.before.before.before.before.before.before.before.before.requires _ c.before.before.before.before.before.loop-test.true c.before.before.before.before.before.before.loop.invariant c.before.before.before.stored.ensures
+write-requires : tie.Need-write-packer-requires invariant-loop decreases-loop
+write-requires c κs = range-room _ c.requires _ c.loop-i-test.true c.loop-i.invariant c.stored-range.ensures
 
-write-requires-2 : tie.Need-write-requires-2 invariant-loop decreases-loop
-write-requires-2 c κs = ordinal-room _ c.before.before.before.before.before.before.before.before.before.before.before.before.before.before.requires _ c.before.before.before.before.before.before.before.before.before.loop-test.true c.before.before.before.before.before.before.before.before.before.before.loop.invariant.0 (within c.before.before.before) c.before.before.before.before.before.stored2.ensures
+write-requires-2 : tie.Need-write-packer-requires-in-loop-i invariant-loop decreases-loop
+write-requires-2 c κs = ordinal-room _ c.requires _ c.loop-i-test.true c.loop-i.invariant.0 (within c.before.before.before) c.stored-ordinal.ensures
 
-add-i : tie.Need-overflow-add-i invariant-loop decreases-loop
-add-i c = omega (arith, c.before.before.before.before.before.before.before.before.before.before.before.before.before.before.before.before.before.requires.0.few, c.before.before.before.before.before.before.before.before.before.before.before.before.loop-test.true)
+add-i : tie.Need-overflow_add-i invariant-loop decreases-loop
+add-i c = omega (arith, c.requires.0.few, c.loop-i-test.true)
 
-loop-less : tie.Need-loop-smaller invariant-loop decreases-loop
-loop-less c = falls _ _ c.before.before.before.before.before.before.before.before.before.before.before.before.loop-test.true
+loop-less : tie.Need-loop-i-smaller invariant-loop decreases-loop
+loop-less c = falls _ _ c.loop-i-test.true
 
-loop-again : tie.Need-loop-preserved invariant-loop decreases-loop
+loop-again : tie.Need-loop-i-preserved invariant-loop decreases-loop
 loop-again c =
-    ordinal-done _ c.before.before.before.before.before.before.before.before.before.before.before.before.before.before.before.before.before.requires _ c.before.before.before.before.before.before.before.before.before.before.before.before.loop-test.true c.before.before.before.before.before.before.before.before.before.before.before.before.before.loop.invariant.0 (within c.before.before.before.before.before.before) c.before.before.before.before.before.before.before.before.stored2.ensures c.before.before.write2.ensures
+    ordinal-done _ c.requires _ c.loop-i-test.true c.loop-i.invariant.0 (within c.before.before.before.before.before.before) c.stored-ordinal.ensures c.write-packer-in-loop-i.ensures
 
-add-last : tie.Need-overflow-add-last invariant-loop decreases-loop
-add-last c = omega (arith, group-within c.before.before.before.before.before.requires.0)
+add-last : tie.Need-overflow_add-last invariant-loop decreases-loop
+add-last c = omega (arith, group-within c.requires.0)
 
-sub-last : tie.Need-overflow-sub-last invariant-loop decreases-loop
-sub-last c = omega (arith, c.before.before.before.before.before.requires.0.some)
+sub-last : tie.Need-overflow_sub-last invariant-loop decreases-loop
+sub-last c = omega (arith, c.requires.0.some)
 
-mul-last : tie.Need-overflow-mul-last invariant-loop decreases-loop
+mul-last : tie.Need-overflow_mul-last invariant-loop decreases-loop
 mul-last c = omega (arith, last-now c)
 
-add-stored-2 : tie.Need-overflow-add-stored-2 invariant-loop decreases-loop
+add-stored-2 : tie.Need-overflow_add-last-2 invariant-loop decreases-loop
 add-stored-2 c = omega (arith, last-now c)
 
-mul-stored-3 : tie.Need-overflow-mul-stored-3 invariant-loop decreases-loop
+mul-stored-3 : tie.Need-offset_bounds-area-last invariant-loop decreases-loop
 mul-stored-3 c = omega (arith, last-now c)
 
-shared-slice-read-stored-3 : tie.Need-shared-slice-read-stored-3 invariant-loop decreases-loop
+shared-slice-read-stored-3 : tie.Need-bounds-area-last invariant-loop decreases-loop
 shared-slice-read-stored-3 c = (last-now c.before).inside
 
-sub-stored-3 : tie.Need-overflow-sub-stored-3 invariant-loop decreases-loop
+sub-stored-3 : tie.Need-overflow_sub-area-2 invariant-loop decreases-loop
 sub-stored-3 c = (last-now c.before).above
 
-stored-requires-3 : tie.Need-stored-requires-3 invariant-loop decreases-loop
+stored-requires-3 : tie.Need-stored-range-requires-2 invariant-loop decreases-loop
 stored-requires-3 c κs = asked (last-now c.before)
 
-write-requires-3 : tie.Need-write-requires-3 invariant-loop decreases-loop
-write-requires-3 c κs = last-room _ c.before.before.before.before.before.before.before.before.requires _ c.before.before.before.loop-test.false c.before.before.before.before.loop.invariant c.before.stored3.ensures
+write-requires-3 : tie.Need-write-packer-requires-2 invariant-loop decreases-loop
+write-requires-3 c κs = last-room _ c.requires _ c.loop-i-test.false c.loop-i.invariant c.stored-range-2.ensures
 
 flush-requires : tie.Need-flush-requires invariant-loop decreases-loop
-flush-requires c κs = flush-room _ c.before.before.before.before.before.before.before.before.before.before.before.before.requires (whole c.before.before.before)
+flush-requires c κs = flush-room _ c.requires (whole c.before.before.before)
 
-same_length : tie.Need-same-length invariant-loop decreases-loop
-same_length c = flush-length _ c.before.before.before.before.before.before.before.before.before.before.before.before.before.before.before.requires (whole c.before.before.before.before.before.before) c.before.before.flush.ensures
+same_length : tie.Need-shape_of-out invariant-loop decreases-loop
+same_length c = flush-length _ c.requires (whole c.before.before.before.before.before.before) c.flush.ensures
 
 returns : tie.Need-returns invariant-loop decreases-loop
-returns c = flush-done _ c.before.before.before.before.before.before.before.before.before.before.before.before.before.before.before.requires (whole c.before.before.before.before.before.before) c.before.before.flush.ensures
+returns c = flush-done _ c.requires (whole c.before.before.before.before.before.before) c.flush.ensures
 
-pub flush-block-spec : {M : Type 1} → statement M
-flush-block-spec =
+pub flush_block_spec : {M : Type 1} → statement M
+flush_block_spec =
     tie.close
     (tie.spec
     invariant-loop

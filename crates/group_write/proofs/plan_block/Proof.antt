@@ -109,51 +109,51 @@ module _ {area : List ℕ} {stride first count : ℕ} (group : GroupArea area st
   planned offset s w s' w' e e' =
       rw (e.0, e.1, e'.0, e'.1, ends-are, ordinals-are, length-blocks_at area stride (first + 1) (count - 1))
 
-mul_at : tie.Need-overflow-mul-at
+mul_at : tie.Need-overflow_mul-at
 mul_at c = search rules
 
-mul-range-start : tie.Need-overflow-mul-range-start
+mul-range-start : tie.Need-offset_bounds-area-at
 mul-range-start c = search rules
 
-shared-slice-read-range-start : tie.Need-shared-slice-read-range-start
-shared-slice-read-range-start c = omega (arith, first-inside c.before.before.requires)
+shared-slice-read-range-start : tie.Need-bounds-area-at
+shared-slice-read-range-start c = omega (arith, first-inside c.requires)
 
-add-first-ordinal : tie.Need-overflow-add-first-ordinal
+add-first-ordinal : tie.Need-overflow_add-first_ordinal
 add-first-ordinal c = search rules
 
-mul-first-ordinal : tie.Need-overflow-mul-first-ordinal
+mul-first-ordinal : tie.Need-offset_bounds-area-at-2
 mul-first-ordinal c = search rules
 
-shared-slice-read-first-ordinal : tie.Need-shared-slice-read-first-ordinal
-shared-slice-read-first-ordinal c = omega (arith, first-inside c.before.before.before.requires)
+shared-slice-read-first-ordinal : tie.Need-bounds-area-at-2
+shared-slice-read-first-ordinal c = omega (arith, first-inside c.requires)
 
-sub-block-len : tie.Need-overflow-sub-block-len
+sub-block-len : tie.Need-overflow_sub-block_len
 sub-block-len c = search rules
 
-add-find-best-slope : tie.Need-overflow-add-find-best-slope
+add-find-best-slope : tie.Need-overflow_add-at
 add-find-best-slope c = search rules
 
-find-best-slope-requires : tie.Need-find-best-slope-requires
-find-best-slope-requires c κs = ends-ok c.before.before.before.requires _ (omega arith)
+find-best-slope-requires : tie.Need-find_best_slope-range-requires
+find-best-slope-requires c κs = ends-ok c.requires _ (omega arith)
 
-add-find-best-slope-2 : tie.Need-overflow-add-find-best-slope-2
-add-find-best-slope-2 c = omega (arith, first-inside c.before.before.before.before.requires)
+add-find-best-slope-2 : tie.Need-overflow_add-at-2
+add-find-best-slope-2 c = omega (arith, first-inside c.requires)
 
-add-find-best-slope-3 : tie.Need-overflow-add-find-best-slope-3
-add-find-best-slope-3 c = omega (arith, first-inside c.before.before.before.before.requires)
+add-find-best-slope-3 : tie.Need-overflow_add-at-3
+add-find-best-slope-3 c = omega (arith, first-inside c.requires)
 
-find-best-slope-requires-2 : tie.Need-find-best-slope-requires-2
-find-best-slope-requires-2 c κs = ordinals-ok c.before.before.before.before.requires
+find-best-slope-requires-2 : tie.Need-find_best_slope-ordinal-requires
+find-best-slope-requires-2 c κs = ordinals-ok c.requires
 
-cast-t17 : tie.Need-overflow-cast-t17
+cast-t17 : tie.Need-overflow_cast-result
 cast-t17 c = search rules
 
 returns : tie.Need-returns
 returns c =
-    planned c.before.before.before.before.before.requires _ _ _ _ _ c.before.find-best-slope.ensures c.find-best-slope2.ensures
+    planned c.requires _ _ _ _ _ c.find_best_slope-range.ensures c.find_best_slope-ordinal.ensures
 
-pub plan-block-spec : {M : Type 1} → statement M
-plan-block-spec =
+pub plan_block_spec : {M : Type 1} → statement M
+plan_block_spec =
     tie.close
     (tie.spec
     mul_at

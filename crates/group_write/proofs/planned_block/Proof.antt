@@ -1,7 +1,7 @@
 -- `group_write::planned_block` meets its contract: the numbers that were kept hold each slope and its width, and the rest is the first block's.
 use borrow.Author.Rules.{rules}
 use Prim.Native.Nat.{ℕ, ◌+◌, ◌-◌, ◌*◌, ◌/◌, ◌%◌, ◌^◌, ◌≤◌, ◌<◌}
-use mathlib.Core.Path.{◌≡◌, ap, ◌∙◌}
+use mathlib.Core.Path.{◌≡◌, ap}
 use mathlib.Core.List.{List, [], ◌∷◌}
 use native.Mathlib.Nat.{mul-add}
 use native.Mathlib.Omega.{arith}
@@ -10,7 +10,7 @@ use Rattle.slope.specs.Slope.{best_slope}
 use Rattle.slope.proofs.Widths.{best_slope-lt}
 use Rattle.group.specs.Blocks.{block_at, blocks_at}
 use Rattle.group.specs.Write.{range_values, ordinal_values, meta_of, plan_of}
-use Rattle.group.specs.Facts.{GroupArea, Fitting}
+use Rattle.group.specs.Facts.{GroupArea}
 use Rattle.group.specs.declared.BlockAddrBlockMetadata.{BlockAddrBlockMetadata}
 use Rattle.group.proofs.Blocks.{length-blocks_at, length-group, group-legal, group-inside}
 use Rattle.group.proofs.Written.{fits}
@@ -60,53 +60,53 @@ module _ {area : List ℕ} {stride first count : ℕ} (group : GroupArea area st
     planned offset =
         rw (parts.0, parts.1, parts.2, parts.3, length-blocks_at area stride (first + 1) (count - 1))
 
-mul_at : tie.Need-mul-at
+mul_at : tie.Need-overflow_mul-at
 mul_at c = search rules
 
-mul-t9 : tie.Need-mul-t9
+mul-t9 : tie.Need-offset_bounds-area-at
 mul-t9 c = search rules
 
-shared-slice-read-t11 : tie.Need-shared-slice-read-t11
-shared-slice-read-t11 c = omega (arith, first-inside c.before.pre.0)
+shared-slice-read-t11 : tie.Need-bounds-area-at
+shared-slice-read-t11 c = omega (arith, first-inside c.requires.0)
 
-add-t12 : tie.Need-add-t12
+add-t12 : tie.Need-overflow_add-result
 add-t12 c = search rules
 
-mul-t13 : tie.Need-mul-t13
+mul-t13 : tie.Need-offset_bounds-area-at-2
 mul-t13 c = search rules
 
-shared-slice-read-t15 : tie.Need-shared-slice-read-t15
-shared-slice-read-t15 c = omega (arith, first-inside c.before.before.pre.0)
+shared-slice-read-t15 : tie.Need-bounds-area-at-2
+shared-slice-read-t15 c = omega (arith, first-inside c.requires.0)
 
-cast-t17 : tie.Need-cast-t17
+cast-t17 : tie.Need-overflow_cast-result
 cast-t17 c =
-    let start = c.before.before in
-    omega (arith, small start.pre.0, parts start.pre.0 _ _ start.pre.1)
+    let start = c in
+    omega (arith, small start.requires.0, parts start.requires.0 _ _ start.requires.1)
 
-cast-t19 : tie.Need-cast-t19
+cast-t19 : tie.Need-overflow_cast-result-2
 cast-t19 c =
-    let start = c.before.before in
-    omega (arith, small start.pre.0, parts start.pre.0 _ _ start.pre.1)
+    let start = c in
+    omega (arith, small start.requires.0, parts start.requires.0 _ _ start.requires.1)
 
-cast-t21 : tie.Need-cast-t21
+cast-t21 : tie.Need-overflow_cast-result-3
 cast-t21 c = search rules
 
-cast-t23 : tie.Need-cast-t23
+cast-t23 : tie.Need-overflow_cast-result-4
 cast-t23 c = search rules
 
-sub-t24 : tie.Need-sub-t24
+sub-t24 : tie.Need-overflow_sub-result
 sub-t24 c = search rules
 
-cast-t25 : tie.Need-cast-t25
+cast-t25 : tie.Need-overflow_cast-result-5
 cast-t25 c = search rules
 
 returns : tie.Need-returns
 returns c =
-    let start = c.before.before in
-    planned start.pre.0 _ _ start.pre.1 _
+    let start = c in
+    planned start.requires.0 _ _ start.requires.1 _
 
-pub planned-block-spec : {M : Type 1} → statement M
-planned-block-spec =
+pub planned_block_spec : {M : Type 1} → statement M
+planned_block_spec =
     tie.close
     (tie.spec
     mul_at

@@ -4,11 +4,11 @@ use native.Mathlib.Omega.{arith}
 use Rattle.keys.proofs.common_prefix_len.Statement.{statement}
 use Rattle.keys.proofs.common_prefix_len.Tie as tie
 
-common-prefix-len-from-requires : tie.Need-common-prefix-len-from-requires
+common-prefix-len-from-requires : tie.Need-common_prefix_len_from-requires
 common-prefix-len-from-requires c κs = search rules
 
 returns : tie.Need-returns
-returns c = c.common-prefix-len-from.ensures (omega arith)
+returns c = c.common_prefix_len_from.ensures (omega arith)
 
-pub common-prefix-len-spec : {M : Type 1} → statement M
-common-prefix-len-spec = tie.close (tie.spec common-prefix-len-from-requires returns)
+pub common_prefix_len_spec : {M : Type 1} → statement M
+common_prefix_len_spec = tie.close (tie.spec common-prefix-len-from-requires returns)

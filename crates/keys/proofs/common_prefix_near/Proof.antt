@@ -2,8 +2,8 @@
 -- don't fill it, they are the last.
 use borrow.Author.Rules.{rules}
 use mathlib.Core.Path.{◌≡◌}
-use mathlib.Core.Bool.{Bool, true, false, ◌||◌}
-use Prim.Native.Nat.{ℕ, ◌+◌, ◌≤◌, ◌<◌}
+use mathlib.Core.Bool.{true, ◌||◌}
+use Prim.Native.Nat.{ℕ, ◌+◌, ◌<◌}
 use native.Mathlib.Omega.{arith}
 use lib.Dec.{eqb, ltb}
 use borrow.Author.Tests.{ltb-true, eqb-true}
@@ -19,49 +19,49 @@ ends near end short e f g =
     (λ t. f (ltb-true near 8 t))
     (λ t. g (eqb-true end short (rw t at e)))
 
-shorter-requires : tie.Need-shorter-requires
+shorter-requires : tie.Need-shorter-short-requires
 shorter-requires c κs = search rules
 
-common-bytes-requires : tie.Need-common-bytes-requires
+common-bytes-requires : tie.Need-common_bytes-requires
 common-bytes-requires c κs = search rules
 
-returns : tie.Need-returns
+returns : tie.Need-returns-then-short-lt8
 returns c =
-    let a = c.before.before.before.before.before.args in
+    let a = c.args in
     λ h. (
       omega (arith, common_prefix_len-left a.left.now a.right.now, common_prefix_len-right a.left.now a.right.now),
       λ e. omega (arith, common_prefix_len-left a.left.now a.right.now, common_prefix_len-right a.left.now a.right.now),
     )
 
-lesser-requires : tie.Need-lesser-requires
+lesser-requires : tie.Need-lesser-at-requires
 lesser-requires c κs = search rules
 
-common-of-word-requires : tie.Need-common-of-word-requires
+common-of-word-requires : tie.Need-common_of_word-near-requires
 common-of-word-requires c κs = search rules
 
-add-t9 : tie.Need-overflow-add-t9
+add-t9 : tie.Need-overflow_add-result
 add-t9 c = search rules
 
-add-t10 : tie.Need-overflow-add-t10
+add-t10 : tie.Need-overflow_add-result-2
 add-t10 c = search rules
 
-returns-2 : tie.Need-returns-2
+returns-2 : tie.Need-returns
 returns-2 c =
-    let l = c.before in
-    let a = l.before.before.before.before.before.args in
+    let l = c in
+    let a = l.args in
     let left = common_prefix_len-left a.left.now a.right.now in
     let right = common_prefix_len-right a.left.now a.right.now in
     λ h.
-    let rest = common_prefix_len-behind l.lesser.result a.left.now a.right.now (omega arith) in (
+    let rest = common_prefix_len-behind l.lesser-at.result a.left.now a.right.now (omega arith) in (
       omega (arith, rest),
       λ e.
-          ends c.common-of-word.result (l.lesser.result + 8) _ e
+          ends c.common_of_word-near.result (l.lesser-at.result + 8) _ e
           (λ near. omega (arith, rest, near))
           (λ last. omega (arith, rest, last, left, right)),
     )
 
-pub common-prefix-near-spec : {M : Type 1} → statement M
-common-prefix-near-spec =
+pub common_prefix_near_spec : {M : Type 1} → statement M
+common_prefix_near_spec =
     tie.close
     (tie.spec
     shorter-requires

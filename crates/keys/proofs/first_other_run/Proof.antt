@@ -8,54 +8,54 @@ use Rattle.keys.proofs.Words.{same-run}
 use Rattle.keys.proofs.first_other_run.Statement.{statement}
 use Rattle.keys.proofs.first_other_run.Tie as tie
 
-abbrev invariant-loop : tie.invariant-loop
+abbrev invariant-loop : tie.invariant-loop-at
 invariant-loop left right from last at₀ at = from ≤ common_prefix_len left right → at ≤ common_prefix_len left right
 
-abbrev decreases-loop : tie.decreases-loop
+abbrev decreases-loop : tie.decreases-loop-at
 decreases-loop left right from last at₀ at = last - at
 
-loop-holds : tie.Need-loop-init invariant-loop decreases-loop
+loop-holds : tie.Need-loop-at-init invariant-loop decreases-loop
 loop-holds c = λ h. h
 
 differs-requires : tie.Need-differs-requires invariant-loop decreases-loop
 differs-requires c κs = search rules
 
-returns : tie.Need-returns invariant-loop decreases-loop
-returns c = c.before.before.before.loop.invariant
+returns : tie.Need-returns-then-differs invariant-loop decreases-loop
+returns c = c.loop-at.invariant
 
-add_at : tie.Need-overflow-add-at invariant-loop decreases-loop
+add_at : tie.Need-overflow_add-at invariant-loop decreases-loop
 add_at c = search rules
 
-loop-less : tie.Need-loop-smaller invariant-loop decreases-loop
+loop-less : tie.Need-loop-at-smaller invariant-loop decreases-loop
 loop-less c = search rules
 
-loop-again : tie.Need-loop-preserved invariant-loop decreases-loop
+loop-again : tie.Need-loop-at-preserved invariant-loop decreases-loop
 loop-again c =
-    let l = c.before.before.before in
-    let a = l.before.before.before.args in
-    λ h. same-run a.left.now a.right.now l.loop.at 64 (l.loop.invariant h) (sym c.before.differs.ensures ∙ c.if1.false)
+    let l = c in
+    let a = l.args in
+    λ h. same-run a.left.now a.right.now l.loop-at.at 64 (l.loop-at.invariant h) (sym c.differs.ensures ∙ c.if-differs.false)
 
 differs-requires-2 : tie.Need-differs-requires-2 invariant-loop decreases-loop
 differs-requires-2 c κs = search rules
 
-returns-2 : tie.Need-returns-2 invariant-loop decreases-loop
+returns-2 : tie.Need-returns-then-differs-2 invariant-loop decreases-loop
 returns-2 c =
-    let l = c.before.before.before in
-    λ h. let i = l.loop.invariant h in omega arith
+    let l = c in
+    λ h. let i = l.loop-at.invariant h in omega arith
 
-add-result : tie.Need-overflow-add-result invariant-loop decreases-loop
+add-result : tie.Need-overflow_add-result invariant-loop decreases-loop
 add-result c = search rules
 
-returns-3 : tie.Need-returns-3 invariant-loop decreases-loop
+returns-3 : tie.Need-returns invariant-loop decreases-loop
 returns-3 c =
-    let l = c.before.before.before in
-    let a = l.before.before.before.args in
+    let l = c in
+    let a = l.args in
     λ h.
-    let i = l.loop.invariant h in
-    omega (arith, same-run a.left.now a.right.now a.last 64 (omega arith) (sym c.before.differs2.ensures ∙ c.if2.false))
+    let i = l.loop-at.invariant h in
+    omega (arith, same-run a.left.now a.right.now a.last 64 (omega arith) (sym c.differs-2.ensures ∙ c.if-differs-2.false))
 
-pub first-other-run-spec : {M : Type 1} → statement M
-first-other-run-spec =
+pub first_other_run_spec : {M : Type 1} → statement M
+first_other_run_spec =
     tie.close
     (tie.spec
     invariant-loop

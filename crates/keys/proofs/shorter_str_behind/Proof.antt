@@ -49,69 +49,69 @@ module _ (K right : List ℕ) (at len : ℕ) (fits : at + len ≤ length K) wher
         rw (s, x, take-take p len (drop at K) (omega arith))
         (simp (length-append, length-take, length-drop) (omega arith), rw w (sym (sets-part-one K at p (get_or K (at + p) 0 + 1) (omega arith))))
 
-returns : tie.Need-returns
+returns : tie.Need-returns-then-common_len-len
 returns c =
-    let s = c.before.before in
+    let s = c in
     let a = s.args in
-    λ right e. is-prefix a.keys.now right a.at a.len s.requires.0 _ e c.if1.true
+    λ right e. is-prefix a.keys.now right a.at a.len s.requires.0 _ e c.if-common_len-len.true
 
-add-end : tie.Need-overflow-add-end
+add-end : tie.Need-overflow_add-end
 add-end c = search rules
 
-add-first-below-ff : tie.Need-overflow-add-first-below-ff
+add-first-below-ff : tie.Need-overflow_add-at
 add-first-below-ff c = search rules
 
-add-first-below-ff-2 : tie.Need-overflow-add-first-below-ff-2
+add-first-below-ff-2 : tie.Need-overflow_add-at-2
 add-first-below-ff-2 c = search rules
 
-first-below-ff-requires : tie.Need-first-below-ff-requires
+first-below-ff-requires : tie.Need-first_below_ff-pos-requires
 first-below-ff-requires c κs = search rules
 
-same_length : tie.Need-same-length
+same_length : tie.Need-shape_of-keys-then-pos-end
 same_length c = search rules
 
-returns-2 : tie.Need-returns-2
+returns-2 : tie.Need-returns-then-pos-end
 returns-2 c =
-    let s = c.before.before.before.before.before in
+    let s = c in
     let a = s.args in
     λ right e.
     all-ff a.keys.now right a.at a.len s.requires.0 _ e
-    (λ i h g. c.before.first-below-ff.ensures.1.0 i (omega arith) (omega arith))
+    (λ i h g. c.first_below_ff-pos.ensures.1.0 i (omega arith) (omega arith))
 
-slice-read-byte : tie.Need-slice-read-byte
+slice-read-byte : tie.Need-bounds-keys-pos
 slice-read-byte c = search rules
 
 -- a byte that isn't FF can grow by one
-add-keys : tie.Need-overflow-add-keys
+add-keys : tie.Need-overflow_add-keys
 add-keys c =
-    let d = c.before.before in
-    let h : get_or d.before.before.before.before.args.keys.now d.first-below-ff.result 0 ≡ 255 → ⊥ = d.first-below-ff.ensures.1.1 (omega arith) in
-    omega (arith, c.slice-known2.given d.first-below-ff.result)
+    let d = c in
+    let h : get_or d.args.keys.now d.first_below_ff-pos.result 0 ≡ 255 → ⊥ = d.first_below_ff-pos.ensures.1.1 (omega arith) in
+    omega (arith, c.slice_known-2-1.given d.first_below_ff-pos.result)
 
-slice-write-keys : tie.Need-slice-write-keys
+slice-write-keys : tie.Need-bounds-keys-pos-2
 slice-write-keys c = search rules
 
-add-result : tie.Need-overflow-add-result
+add-result : tie.Need-overflow_add-result
 add-result c = search rules
 
-sub-result : tie.Need-overflow-sub-result
+sub-result : tie.Need-overflow_sub-result
 sub-result c = search rules
 
-same-length-2 : tie.Need-same-length-2
+same-length-2 : tie.Need-shape_of-keys
 same-length-2 c = search rules
 
-returns-3 : tie.Need-returns-3
+returns-3 : tie.Need-returns
 returns-3 c =
-    let d = c.before.before in
-    let s = d.before.before.before.before in
+    let d = c in
+    let s = d in
     let a = s.args in
     λ right e.
-    raised a.keys.now right a.at a.len s.requires.0 a.common-len e
-    d.first-below-ff.result (d.first-below-ff.result - a.at) _ (omega arith) (omega arith) (omega arith) (omega arith)
-    (λ i h g. d.first-below-ff.ensures.1.0 i h (omega arith)) (d.first-below-ff.ensures.1.1 (omega arith))
+    raised a.keys.now right a.at a.len s.requires.0 a.common_len e
+    d.first_below_ff-pos.result (d.first_below_ff-pos.result - a.at) _ (omega arith) (omega arith) (omega arith) (omega arith)
+    (λ i h g. d.first_below_ff-pos.ensures.1.0 i h (omega arith)) (d.first_below_ff-pos.ensures.1.1 (omega arith))
 
-pub shorter-str-behind-spec : {M : Type 1} → statement M
-shorter-str-behind-spec =
+pub shorter_str_behind_spec : {M : Type 1} → statement M
+shorter_str_behind_spec =
     tie.close
     (tie.spec
     returns

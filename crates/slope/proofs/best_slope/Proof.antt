@@ -8,42 +8,42 @@ use Rattle.slope.proofs.Points.{first-value, kept-start, kept-stop}
 use Rattle.slope.proofs.best_slope.Statement.{statement}
 use Rattle.slope.proofs.best_slope.Tie as tie
 
-returns : tie.Need-returns
+returns : tie.Need-returns-then-count-eq0
 unfolding best_slope column
-returns c = rw c.if1.true
+returns c = rw c.if-count-eq0.true
 
 -- the value at `at`
-start-value : (c : tie.Else1) → ValueOk c.before.before.args.area.now c.before.before.args.base c.before.before.args.at
-start-value c = first-value _ _ _ _ _ c.before.before.requires (omega arith)
+start-value : (c : tie.Else-count-eq0) → ValueOk c.args.area.now c.args.base c.args.at
+start-value c = first-value _ _ _ _ _ c.requires (omega arith)
 
-mul-new : tie.Need-overflow-mul-new
+mul-new : tie.Need-offset_bounds-area-at
 mul-new c = omega (arith, start-value c)
 
-shared-slice-read-new : tie.Need-shared-slice-read-new
+shared-slice-read-new : tie.Need-bounds-area-at
 shared-slice-read-new c = (start-value c.before).inside
 
-sub-new : tie.Need-overflow-sub-new
+sub-new : tie.Need-overflow_sub-area
 sub-new c = (start-value c.before).above
 
-new-requires : tie.Need-new-requires
+new-requires : tie.Need-new-first-requires
 new-requires c κs = search rules
 
-uncut-extremes-requires : tie.Need-uncut-extremes-requires
+uncut-extremes-requires : tie.Need-uncut_extremes-uncut-requires
 uncut-extremes-requires c κs = (
-  c.before.before.before.before.requires,
-  kept-start _ _ _ _ _ c.new.result (omega arith) (start-value c.before.before) c.new.ensures,
+  c.requires,
+  kept-start _ _ _ _ _ c.new-first.result (omega arith) (start-value c.before.before) c.new-first.ensures,
 )
 
-cut-extremes-requires : tie.Need-cut-extremes-requires
+cut-extremes-requires : tie.Need-cut_extremes-all-requires
 cut-extremes-requires c κs = search rules
 
 between-requires : tie.Need-between-requires
 between-requires c κs = search rules
 
-returns-2 : tie.Need-returns-2
-returns-2 c = c.between.ensures ∙ kept-stop _ _ _ _ _ _ _ _ c.before.cut-extremes.ensures.1 c.before.cut-extremes.ensures.0
+returns-2 : tie.Need-returns
+returns-2 c = c.between.ensures ∙ kept-stop _ _ _ _ _ _ _ _ c.cut_extremes-all.ensures.1 c.cut_extremes-all.ensures.0
 
-pub best-slope-spec : {M : Type 1} → statement M
-best-slope-spec =
+pub best_slope_spec : {M : Type 1} → statement M
+best_slope_spec =
     tie.close
     (tie.spec returns mul-new shared-slice-read-new sub-new new-requires uncut-extremes-requires cut-extremes-requires between-requires returns-2)

@@ -1,79 +1,85 @@
 -- `slope::cut_extremes` meets its contract: each point is compared by its slope.
 use borrow.Author.Rules.{rules}
 use Prim.Native.Nat.{◌+◌, ◌-◌, ◌*◌}
-use mathlib.Core.Logic.{⊎_elim}
 use native.Mathlib.Omega.{arith}
 use Rattle.slope.specs.Column.{ValueOk}
 use Rattle.slope.specs.Extremes.{ExtremesAt}
 use Rattle.slope.proofs.Points.{kept-both, kept_low, kept_high, kept-stays}
 use Rattle.slope.proofs.cut_extremes.Statement.{statement}
+use Rattle.slope.proofs.cut_extremes.Lts.{then-later-low, else-later-low, then-later-high, else-later-high}
 use Rattle.slope.proofs.cut_extremes.Tie as tie
 
-abbrev invariant-loop : tie.invariant-loop
+abbrev invariant-loop : tie.invariant-loop-j
 invariant-loop area at stride base count low₀ high₀ j₀ low high j = ExtremesAt area at stride base count low high j
 
-abbrev decreases-loop : tie.decreases-loop
+abbrev decreases-loop : tie.decreases-loop-j
 decreases-loop area at stride base count low₀ high₀ j₀ low high j = count - j
 
-loop-holds : tie.Need-loop-init invariant-loop decreases-loop
-loop-holds c = c.before.before.before.requires.1
+loop-holds : tie.Need-loop-j-init invariant-loop decreases-loop
+loop-holds c = c.requires.1
 
 -- the value at place j
-value : (c : tie.In-loop invariant-loop decreases-loop)
-    → let args = c.before.before.before.before.before.args in
-    ValueOk args.area.now args.base (args.at + args.stride * c.before.loop.j)
-value c = c.before.before.before.before.before.requires.0.values c.before.loop.j c.loop-test.true
+value : (c : tie.In-loop-j invariant-loop decreases-loop)
+    → let args = c.args in
+    ValueOk args.area.now args.base (args.at + args.stride * c.loop-j.j)
+value c = c.requires.0.values c.loop-j.j c.loop-j-test.true
 
-mul-p : tie.Need-overflow-mul-p invariant-loop decreases-loop
+mul-p : tie.Need-overflow_mul-p invariant-loop decreases-loop
 mul-p c = omega (arith, value c)
 
-add-p : tie.Need-overflow-add-p invariant-loop decreases-loop
+add-p : tie.Need-overflow_add-p invariant-loop decreases-loop
 add-p c = omega (arith, value c)
 
-mul-v : tie.Need-overflow-mul-v invariant-loop decreases-loop
+mul-v : tie.Need-offset_bounds-area-p invariant-loop decreases-loop
 mul-v c = omega (arith, value c)
 
-shared-slice-read-v : tie.Need-shared-slice-read-v invariant-loop decreases-loop
+shared-slice-read-v : tie.Need-bounds-area-p invariant-loop decreases-loop
 shared-slice-read-v c = (value c.before).inside
 
-sub-v : tie.Need-overflow-sub-v invariant-loop decreases-loop
+sub-v : tie.Need-overflow_sub-v invariant-loop decreases-loop
 sub-v c = (value c.before).above
 
-add-new : tie.Need-overflow-add-new invariant-loop decreases-loop
+add-new : tie.Need-overflow_add-j invariant-loop decreases-loop
 add-new c = search rules
 
-new-requires : tie.Need-new-requires invariant-loop decreases-loop
+new-requires : tie.Need-new-later-requires invariant-loop decreases-loop
 new-requires c κs = search rules
 
-add-j : tie.Need-overflow-add-j invariant-loop decreases-loop
+add-j : tie.Need-overflow_add-j-in-loop-j invariant-loop decreases-loop
 add-j c = search rules
 
-loop-less : tie.Need-loop-smaller invariant-loop decreases-loop
+loop-less : tie.Need-loop-j-smaller invariant-loop decreases-loop
 loop-less c = search rules
 
-loop-again : tie.Need-loop-preserved invariant-loop decreases-loop
+loop-again : tie.Need-loop-j-preserved invariant-loop decreases-loop
 loop-again c =
     let in-loop = c.before.before.before.before.before.before.before.before in
-    let loop = in-loop.before.loop in
-    let new = c.before.before.before.before.before.before.new in
-    let at = in-loop.loop-test.true in
+    let loop = in-loop.loop-j in
+    let new = c.new-later in
+    let at = in-loop.loop-j-test.true in
     let ok = value in-loop in
-    ⊎_elim
-    (λ w. ⊎_elim
-    (λ x. rw (w.1, x.1) (kept-both _ _ _ _ _ _ _ new.result _ at loop.invariant ok new.ensures w.0.taken x.0.taken))
-    (λ x. rw (w.1, x.1) (kept_low _ _ _ _ _ _ _ new.result _ at loop.invariant ok new.ensures w.0.taken x.0.left))
-    c.if2.branch)
-    (λ w. ⊎_elim
-    (λ x. rw (w.1, x.1) (kept_high _ _ _ _ _ _ _ new.result _ at loop.invariant ok new.ensures w.0.left x.0.taken))
-    (λ x. rw (w.1, x.1) (kept-stays _ _ _ _ _ _ _ new.result _ at loop.invariant ok new.ensures w.0.left x.0.left))
-    c.if2.branch)
-    c.before.before.before.if1.branch
+    elim c.if-later-low.branch [
+      | then-later-low w ↦
+          elim c.if-later-high.branch [
+            | then-later-high x ↦
+                rw (w.low-is, x.high-is) (kept-both _ _ _ _ _ _ _ new.result _ at loop.invariant ok new.ensures w.if-later-low.true x.if-later-high.true)
+            | else-later-high x ↦
+                rw (w.low-is, x.high-is) (kept_low _ _ _ _ _ _ _ new.result _ at loop.invariant ok new.ensures w.if-later-low.true x.if-later-high.false)
+          ]
+      | else-later-low w ↦
+          elim c.if-later-high.branch [
+            | then-later-high x ↦
+                rw (w.low-is, x.high-is) (kept_high _ _ _ _ _ _ _ new.result _ at loop.invariant ok new.ensures w.if-later-low.false x.if-later-high.true)
+            | else-later-high x ↦
+                rw (w.low-is, x.high-is) (kept-stays _ _ _ _ _ _ _ new.result _ at loop.invariant ok new.ensures w.if-later-low.false x.if-later-high.false)
+          ]
+    ]
 
 returns : tie.Need-returns invariant-loop decreases-loop
 returns c = search rules
 
-pub cut-extremes-spec : {M : Type 1} → statement M
-cut-extremes-spec =
+pub cut_extremes_spec : {M : Type 1} → statement M
+cut_extremes_spec =
     tie.close
     (tie.spec
     invariant-loop

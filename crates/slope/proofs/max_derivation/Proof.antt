@@ -31,65 +31,65 @@ stop area at stride base count slope m j h =
     let e : count - j ≡ 0 = omega arith in
     rw (e, max-zero)
 
-abbrev invariant-loop : tie.invariant-loop
+abbrev invariant-loop : tie.invariant-loop-j
 invariant-loop area at stride base count slope max₀ j₀ m j =
     (j ≤ count) × (left area at stride base count slope m j ≡ max_derivation slope 1 (column area at stride base count))
 
-abbrev decreases-loop : tie.decreases-loop
+abbrev decreases-loop : tie.decreases-loop-j
 decreases-loop area at stride base count slope max₀ j₀ m j = count - j
 
-loop-holds : tie.Need-loop-init invariant-loop decreases-loop
+loop-holds : tie.Need-loop-j-init invariant-loop decreases-loop
 loop-holds c = (omega arith, start _ _ _ _ _ _)
 
 -- the value at place j
-value : (c : tie.In-loop invariant-loop decreases-loop)
-    → ValueOk c.before.before.before.args.area.now c.before.before.before.args.base
-    (c.before.before.before.args.at + c.before.before.before.args.stride * c.before.loop.j)
-value c = c.before.before.before.requires.values c.before.loop.j c.loop-test.true
+value : (c : tie.In-loop-j invariant-loop decreases-loop)
+    → ValueOk c.args.area.now c.args.base
+    (c.args.at + c.args.stride * c.loop-j.j)
+value c = c.requires.values c.loop-j.j c.loop-j-test.true
 
-mul-p : tie.Need-overflow-mul-p invariant-loop decreases-loop
+mul-p : tie.Need-overflow_mul-p invariant-loop decreases-loop
 mul-p c = omega (arith, value c)
 
-add-p : tie.Need-overflow-add-p invariant-loop decreases-loop
+add-p : tie.Need-overflow_add-p invariant-loop decreases-loop
 add-p c = omega (arith, value c)
 
-add-predicted : tie.Need-overflow-add-predicted invariant-loop decreases-loop
+add-predicted : tie.Need-overflow_add-predicted invariant-loop decreases-loop
 add-predicted c = search rules
 
-mul-predicted : tie.Need-overflow-mul-predicted invariant-loop decreases-loop
+mul-predicted : tie.Need-overflow_mul-predicted invariant-loop decreases-loop
 mul-predicted c =
-    omega (arith, mul-le-mul {n₁ = c.before.before.before.args.slope} {m₁ = c.before.loop.j + 1} {n₂ = 2 ^ 32} {m₂ = 2 ^ 31} (omega arith) (omega arith))
+    omega (arith, mul-le-mul {n₁ = c.args.slope} {m₁ = c.loop-j.j + 1} {n₂ = 2 ^ 32} {m₂ = 2 ^ 31} (omega arith) (omega arith))
 
-mul-abs-diff : tie.Need-overflow-mul-abs-diff invariant-loop decreases-loop
+mul-abs-diff : tie.Need-offset_bounds-area-p invariant-loop decreases-loop
 mul-abs-diff c = omega (arith, value c)
 
-shared-slice-read-abs-diff : tie.Need-shared-slice-read-abs-diff invariant-loop decreases-loop
+shared-slice-read-abs-diff : tie.Need-bounds-area-p invariant-loop decreases-loop
 shared-slice-read-abs-diff c = (value c.before).inside
 
-sub-abs-diff : tie.Need-overflow-sub-abs-diff invariant-loop decreases-loop
+sub-abs-diff : tie.Need-overflow_sub-area invariant-loop decreases-loop
 sub-abs-diff c = (value c.before).above
 
-abs-diff-requires : tie.Need-abs-diff-requires invariant-loop decreases-loop
+abs-diff-requires : tie.Need-abs_diff-requires invariant-loop decreases-loop
 abs-diff-requires c κs = search rules
 
-larger-requires : tie.Need-larger-requires invariant-loop decreases-loop
+larger-requires : tie.Need-larger-max-requires invariant-loop decreases-loop
 larger-requires c κs = search rules
 
-add-j : tie.Need-overflow-add-j invariant-loop decreases-loop
+add-j : tie.Need-overflow_add-j invariant-loop decreases-loop
 add-j c = search rules
 
-loop-less : tie.Need-loop-smaller invariant-loop decreases-loop
+loop-less : tie.Need-loop-j-smaller invariant-loop decreases-loop
 loop-less c = search rules
 
-loop-again : tie.Need-loop-preserved invariant-loop decreases-loop
+loop-again : tie.Need-loop-j-preserved invariant-loop decreases-loop
 unfolding derivation
-loop-again c = (omega arith, rw (c.larger.ensures, c.before.abs_diff.ensures) (step _ _ _ _ _ _ _ _ c.before.before.before.loop-test.true ∙ c.before.before.before.before.loop.invariant.1))
+loop-again c = (omega arith, rw (c.larger-max.ensures, c.abs_diff.ensures) (step _ _ _ _ _ _ _ _ c.loop-j-test.true ∙ c.loop-j.invariant.1))
 
 returns : tie.Need-returns invariant-loop decreases-loop
-returns c = sym (stop _ _ _ _ _ _ _ _ c.loop-test.false) ∙ c.before.loop.invariant.1
+returns c = sym (stop _ _ _ _ _ _ _ _ c.loop-j-test.false) ∙ c.loop-j.invariant.1
 
-pub max-derivation-spec : {M : Type 1} → statement M
-max-derivation-spec =
+pub max_derivation_spec : {M : Type 1} → statement M
+max_derivation_spec =
     tie.close
     (tie.spec
     invariant-loop

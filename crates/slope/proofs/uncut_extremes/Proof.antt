@@ -2,7 +2,6 @@
 use borrow.Author.Rules.{rules}
 use Prim.Native.Nat.{◌+◌, ◌-◌, ◌*◌, ◌/◌, ◌%◌, ◌^◌, ◌<◌}
 use mathlib.Core.Path.{◌≡◌, refl, sym}
-use mathlib.Core.Logic.{⊎_elim}
 use native.Mathlib.Omega.{arith}
 use Rattle.slope.specs.Column.{ValueOk}
 use Rattle.slope.specs.Extremes.{ExtremesAt}
@@ -11,108 +10,118 @@ use lib.ListN.{get_or}
 use Rattle.slope.proofs.Step.{room, level, at_least, above, above-below, below, fits}
 use Rattle.slope.proofs.Points.{kept-both, kept_low, kept_high, kept-stays, slope-fits}
 use Rattle.slope.proofs.uncut_extremes.Statement.{statement}
+use Rattle.slope.proofs.uncut_extremes.Lts.{
+  then-v-lo,
+  else-v-lo+then-v-lo-2+then-low-high,
+  else-v-lo+then-v-lo-2+else-low-high,
+  else-v-lo+else-v-lo-2+then-v-high+else-i-v,
+  else-v-lo+else-v-lo-2+else-v-high,
+}
 use Rattle.slope.proofs.uncut_extremes.Tie as tie
 
-abbrev invariant-loop : tie.invariant-loop
+abbrev invariant-loop : tie.invariant-loop-j
 invariant-loop area at stride base count low₀ high₀ j₀ low high j = ExtremesAt area at stride base count low high j
 
-abbrev decreases-loop : tie.decreases-loop
+abbrev decreases-loop : tie.decreases-loop-j
 decreases-loop area at stride base count low₀ high₀ j₀ low high j = count - j
 
-loop-holds : tie.Need-loop-init invariant-loop decreases-loop
-loop-holds c = c.before.before.before.requires.1
+loop-holds : tie.Need-loop-j-init invariant-loop decreases-loop
+loop-holds c = c.requires.1
 
 -- the value at place j
-value : (c : tie.In-loop invariant-loop decreases-loop)
-    → let args = c.before.before.before.before.before.args in
-    ValueOk args.area.now args.base (args.at + args.stride * c.before.loop.j)
-value c = c.before.before.before.before.before.requires.0.values c.before.loop.j c.loop-test.true
+value : (c : tie.In-loop-j invariant-loop decreases-loop)
+    → let args = c.args in
+    ValueOk args.area.now args.base (args.at + args.stride * c.loop-j.j)
+value c = c.requires.0.values c.loop-j.j c.loop-j-test.true
 
-mul-p : tie.Need-overflow-mul-p invariant-loop decreases-loop
+mul-p : tie.Need-overflow_mul-p invariant-loop decreases-loop
 mul-p c = omega (arith, value c)
 
-add-p : tie.Need-overflow-add-p invariant-loop decreases-loop
+add-p : tie.Need-overflow_add-p invariant-loop decreases-loop
 add-p c = omega (arith, value c)
 
-mul-v : tie.Need-overflow-mul-v invariant-loop decreases-loop
+mul-v : tie.Need-offset_bounds-area-p invariant-loop decreases-loop
 mul-v c = omega (arith, value c)
 
-shared-slice-read-v : tie.Need-shared-slice-read-v invariant-loop decreases-loop
+shared-slice-read-v : tie.Need-bounds-area-p invariant-loop decreases-loop
 shared-slice-read-v c = (value c.before).inside
 
-sub-v : tie.Need-overflow-sub-v invariant-loop decreases-loop
+sub-v : tie.Need-overflow_sub-v invariant-loop decreases-loop
 sub-v c = (value c.before).above
 
-add-i : tie.Need-overflow-add-i invariant-loop decreases-loop
+add-i : tie.Need-overflow_add-i invariant-loop decreases-loop
 add-i c = search rules
 
-mul-lo : tie.Need-overflow-mul-lo invariant-loop decreases-loop
+mul-lo : tie.Need-overflow_mul-lo invariant-loop decreases-loop
 mul-lo c =
-    let loop = c.before.before.before.loop in
+    let loop = c.loop-j in
     omega (arith, room loop.low.slope (loop.j + 1) (slope-fits _ loop.low loop.invariant.lows) (omega arith))
 
-new-requires : tie.Need-new-requires invariant-loop decreases-loop
+new-requires : tie.Need-new-low-requires invariant-loop decreases-loop
 new-requires c κs = search rules
 
-mul-if4 : tie.Need-overflow-mul-if4 invariant-loop decreases-loop
+mul-if4 : tie.Need-overflow_mul-high invariant-loop decreases-loop
 mul-if4 c =
-    let loop = c.before.before.before.before.before.before.loop in
+    let loop = c.loop-j in
     omega (arith, room loop.high.slope (loop.j + 1) (slope-fits _ loop.high loop.invariant.highs) (omega arith))
 
-returns : tie.Need-returns invariant-loop decreases-loop
+returns : tie.Need-returns-then-i-v invariant-loop decreases-loop
 returns c = search rules
 
-near-requires : tie.Need-near-requires invariant-loop decreases-loop
+near-requires : tie.Need-near-high-requires invariant-loop decreases-loop
 near-requires c κs = search rules
 
-add-j : tie.Need-overflow-add-j invariant-loop decreases-loop
+add-j : tie.Need-overflow_add-j invariant-loop decreases-loop
 add-j c = search rules
 
-loop-less : tie.Need-loop-smaller invariant-loop decreases-loop
+loop-less : tie.Need-loop-j-smaller invariant-loop decreases-loop
 loop-less c = search rules
 
-loop-again : tie.Need-loop-preserved invariant-loop decreases-loop
+loop-again : tie.Need-loop-j-preserved invariant-loop decreases-loop
 loop-again c =
     let in-loop = c.before.before.before in
-    let args = in-loop.before.before.before.before.before.args in
-    let loop = in-loop.before.loop in
+    let args = in-loop.args in
+    let loop = in-loop.loop-j in
     let kept = loop.invariant in
     let i = loop.j + 1 in
     let v = get_or args.area.now (args.at + args.stride * loop.j) 0 - args.base in
     let few = slope-fits _ loop.low kept.lows in
     let fewer = slope-fits _ loop.high kept.highs in
-    let at = in-loop.loop-test.true in
+    let at = in-loop.loop-j-test.true in
     let ok = value in-loop in
     let tied : code.Point = record { i = i; v = v; slope = loop.low.slope } in
-    ⊎_elim
-    (λ w.
-    let less : w.1.result.slope < loop.low.slope = rw w.1.ensures.2 (below loop.low.slope i v (omega arith) few (omega (arith, w.0.taken))) in
-    rw (w.2, w.3) (kept_low _ _ _ _ _ _ _ w.1.result _ at kept ok w.1.ensures (omega (arith, less)) (omega (arith, less, kept.ordered))))
-    (⊎_elim
-    (λ w.
-    let e : loop.low.slope ≡ loop.high.slope = omega (arith, w.4.taken) in
-    let new = level loop.low.slope i v (omega arith) few (omega (arith, w.0.left)) (omega (arith, w.0.left, w.1.taken)) in
-    rw (w.5, w.6, ← e) (kept-both _ _ _ _ _ _ _ tied _ at kept ok (refl, refl, sym new) (omega arith) (omega (arith, e))))
-    (⊎_elim
-    (λ w.
-    let new = level loop.low.slope i v (omega arith) few (omega (arith, w.0.left)) (omega (arith, w.0.left, w.1.taken)) in
-    rw (w.5, w.6) (kept_low _ _ _ _ _ _ _ tied _ at kept ok (refl, refl, sym new) (omega arith) (omega (arith, kept.ordered, w.4.left))))
-    (⊎_elim
-    (λ w.
-    let fit = fits i v (omega arith) (omega (arith, w.4.left)) in
-    rw (w.6, w.7) (kept_high _ _ _ _ _ _ _ w.5.result _ at kept ok w.5.ensures
-    (rw w.5.ensures.2 (above loop.low.slope i v (omega arith) few fit (omega (arith, w.0.left, w.1.left))))
-    (rw w.5.ensures.2 (at_least loop.high.slope i v (omega arith) fit (omega (arith, w.3.taken))))))
-    (λ w. rw (w.4, w.5) (kept-stays _ _ _ _ _ _ _ (record { i = i; v = v; slope = v / i % 2 ^ 32 }) _ at kept ok (refl, refl, refl)
-    (above-below loop.low.slope i v (omega arith) few loop.high.slope fewer (omega (arith, w.3.left)) (omega (arith, w.0.left, w.1.left)))
-    (below loop.high.slope i v (omega arith) fewer (omega (arith, w.3.left))))))))
-    c.if1.branch
+    elim c.if-v-lo.branch [
+      | then-v-lo w ↦
+          let less : w.new-low.result.slope < loop.low.slope =
+          rw w.new-low.ensures.2 (below loop.low.slope i v (omega arith) few (omega (arith, w.if-v-lo.true))) in
+          rw (w.low-is, w.high-is)
+          (kept_low _ _ _ _ _ _ _ w.new-low.result _ at kept ok w.new-low.ensures (omega (arith, less)) (omega (arith, less, kept.ordered)))
+      | else-v-lo+then-v-lo-2+then-low-high w ↦
+          let e : loop.low.slope ≡ loop.high.slope = omega (arith, w.if-low-high.true) in
+          let new = level loop.low.slope i v (omega arith) few (omega (arith, w.if-v-lo.false)) (omega (arith, w.if-v-lo.false, w.if-v-lo-2.true)) in
+          rw (w.low-is, w.high-is, ← e) (kept-both _ _ _ _ _ _ _ tied _ at kept ok (refl, refl, sym new) (omega arith) (omega (arith, e)))
+      | else-v-lo+then-v-lo-2+else-low-high w ↦
+          let new = level loop.low.slope i v (omega arith) few (omega (arith, w.if-v-lo.false)) (omega (arith, w.if-v-lo.false, w.if-v-lo-2.true)) in
+          rw (w.low-is, w.high-is)
+          (kept_low _ _ _ _ _ _ _ tied _ at kept ok (refl, refl, sym new) (omega arith) (omega (arith, kept.ordered, w.if-low-high.false)))
+      | else-v-lo+else-v-lo-2+then-v-high+else-i-v w ↦
+          let fit = fits i v (omega arith) (omega (arith, w.if-i-v.false)) in
+          rw (w.low-is, w.high-is) (kept_high _ _ _ _ _ _ _ w.near-high.result _ at kept ok w.near-high.ensures
+          (rw w.near-high.ensures.2 (above loop.low.slope i v (omega arith) few fit (omega (arith, w.if-v-lo.false, w.if-v-lo-2.false))))
+          (rw w.near-high.ensures.2 (at_least loop.high.slope i v (omega arith) fit (omega (arith, w.if-v-high.true)))))
+      | else-v-lo+else-v-lo-2+else-v-high w ↦
+          rw (w.low-is, w.high-is)
+          (kept-stays _ _ _ _ _ _ _ (record { i = i; v = v; slope = v / i % 2 ^ 32 }) _ at kept ok (refl, refl, refl)
+          (above-below loop.low.slope i v (omega arith) few loop.high.slope fewer (omega (arith, w.if-v-high.false))
+          (omega (arith, w.if-v-lo.false, w.if-v-lo-2.false)))
+          (below loop.high.slope i v (omega arith) fewer (omega (arith, w.if-v-high.false))))
+    ]
 
-returns-2 : tie.Need-returns-2 invariant-loop decreases-loop
+returns-2 : tie.Need-returns invariant-loop decreases-loop
 returns-2 c = search rules
 
-pub uncut-extremes-spec : {M : Type 1} → statement M
-uncut-extremes-spec =
+pub uncut_extremes_spec : {M : Type 1} → statement M
+uncut_extremes_spec =
     tie.close
     (tie.spec
     invariant-loop

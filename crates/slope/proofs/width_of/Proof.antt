@@ -6,19 +6,19 @@ use Rattle.bitpacker.proofs.NumBits.{num_bits_of-max}
 use Rattle.slope.proofs.width_of.Statement.{statement}
 use Rattle.slope.proofs.width_of.Tie as tie
 
-max-derivation-requires : tie.Need-max-derivation-requires
+max-derivation-requires : tie.Need-max_derivation-requires
 max-derivation-requires c κs = search rules
 
-compute-num-bits-requires : tie.Need-compute-num-bits-requires
+compute-num-bits-requires : tie.Need-compute_num_bits-requires
 compute-num-bits-requires c κs = search rules
 
-add-result : tie.Need-overflow-add-result
-add-result c = omega (arith, num_bits_of-max c.before.max-derivation.result)
+add-result : tie.Need-overflow_add-result
+add-result c = omega (arith, num_bits_of-max c.max_derivation.result)
 
 returns : tie.Need-returns
 unfolding width_of
-returns c = rw (c.compute-num-bits.ensures, c.before.max-derivation.ensures)
+returns c = rw (c.compute_num_bits.ensures, c.max_derivation.ensures)
 
-pub width-of-spec : {M : Type 1} → statement M
-width-of-spec =
+pub width_of_spec : {M : Type 1} → statement M
+width_of_spec =
     tie.close (tie.spec max-derivation-requires compute-num-bits-requires add-result returns)

@@ -55,44 +55,44 @@ module _ (p : BitPacker) (v n : ℕ) (w : Waiting p) (small : v < 2 ^ n) where
       let e : words_of p n ≡ 1 = omega arith in
       ap (le_bytes 8) (or_word p.buffer v p.filled w.low w.few) ∙ low-digits_of 8 8 (joined_to p v) ∙ sym (rw e refl)
 
-add_total : tie.Need-overflow-add-total
+add_total : tie.Need-overflow_add-total
 add_total c = search rules
 
-shl-word : tie.Need-overflow-shl-word
+shl-word : tie.Need-overflow_shl-word
 shl-word c = search rules
 
-returns : tie.Need-returns
+returns : tie.Need-returns-then-total-lt64
 returns c =
-    let start = c.before.before.before in
+    let start = c in
     let a = start.args in
     let p = start.requires in (
-      kept-packer a.self a.value a.num-bits p.0 p.2 (omega arith),
-      kept-bytes a.self a.value a.num-bits p.0 p.2 a.out.now (omega arith),
+      kept-packer a.self a.value a.num_bits p.0 p.2 (omega arith),
+      kept-bytes a.self a.value a.num_bits p.0 p.2 a.out.now (omega arith),
     )
 
-serialize-u64-requires : tie.Need-serialize-u64-requires
+serialize-u64-requires : tie.Need-serialize_u64-requires
 serialize-u64-requires c κs = search rules
 
-sub-t9 : tie.Need-overflow-sub-t9
+sub-t9 : tie.Need-overflow_sub-result
 sub-t9 c = search rules
 
-shr-t11 : tie.Need-overflow-shr-t11
+shr-t11 : tie.Need-overflow_shr-result
 shr-t11 c = search rules
 
-add-t17 : tie.Need-overflow-add-t17
+add-t17 : tie.Need-overflow_add-result
 add-t17 c = search rules
 
-same_length : tie.Need-same-length
+same_length : tie.Need-shape_of-out
 same_length c = search rules
 
-returns-2 : tie.Need-returns-2
+returns-2 : tie.Need-returns
 returns-2 c =
-    let start = c.before.before.before.before.before.before.before in
+    let start = c in
     let a = start.args in
     let p = start.requires in (
-      left-packer a.self a.value a.num-bits p.0 p.2 (omega arith) p.1,
-      c.before.before.serialize-u64.ensures
-          ∙ ap (sets a.out.now a.self.written) (left-bytes a.self a.value a.num-bits p.0 p.2 (omega arith) p.1),
+      left-packer a.self a.value a.num_bits p.0 p.2 (omega arith) p.1,
+      c.serialize_u64.ensures
+          ∙ ap (sets a.out.now a.self.written) (left-bytes a.self a.value a.num_bits p.0 p.2 (omega arith) p.1),
     )
 
 pub write_spec : {M : Type 1} → statement M

@@ -6,20 +6,20 @@ use Rattle.group.proofs.Places.{bits-end}
 use Rattle.group.proofs.bits.group_bits.Statement.{statement}
 use Rattle.group.proofs.bits.group_bits.Tie as tie
 
-add-result : tie.Need-overflow-add-result
+add-result : tie.Need-overflow_add-result
 add-result c = search rules
 
-cast-result : tie.Need-overflow-cast-result
+cast-result : tie.Need-overflow_cast-result-3
 cast-result c = search rules
 
-mul-result : tie.Need-overflow-mul-result
-mul-result c = let a = c.args in omega (arith, bits-end a.range-nbits a.ordinal-nbits a.n max_group_len (omega arith) (omega arith) (omega arith))
+mul-result : tie.Need-overflow_mul-result
+mul-result c = let a = c.args in omega (arith, bits-end a.range_nbits a.ordinal_nbits a.n max_group_len (omega arith) (omega arith) (omega arith))
 
-add-result-2 : tie.Need-overflow-add-result-2
-add-result-2 c = let a = c.args in omega (arith, bits-end a.range-nbits a.ordinal-nbits a.n max_group_len (omega arith) (omega arith) (omega arith))
+add-result-2 : tie.Need-overflow_add-result-2
+add-result-2 c = let a = c.args in omega (arith, bits-end a.range_nbits a.ordinal_nbits a.n max_group_len (omega arith) (omega arith) (omega arith))
 
 returns : tie.Need-returns
 returns c = search rules
 
-pub group-bits-spec : {M : Type 1} → statement M
-group-bits-spec = tie.close (tie.spec add-result cast-result mul-result add-result-2 returns)
+pub group_bits_spec : {M : Type 1} → statement M
+group_bits_spec = tie.close (tie.spec add-result cast-result mul-result add-result-2 returns)

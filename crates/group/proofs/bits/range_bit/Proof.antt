@@ -6,17 +6,17 @@ use Rattle.group.proofs.Places.{bits-end}
 use Rattle.group.proofs.bits.range_bit.Statement.{statement}
 use Rattle.group.proofs.bits.range_bit.Tie as tie
 
-add-result : tie.Need-overflow-add-result
+add-result : tie.Need-overflow_add-result
 add-result c = search rules
 
-cast-result : tie.Need-overflow-cast-result
+cast-result : tie.Need-overflow_cast-result-3
 cast-result c = search rules
 
-mul-result : tie.Need-overflow-mul-result
-mul-result c = let a = c.args in omega (arith, bits-end a.range-nbits a.ordinal-nbits a.i max_group_len (omega arith) (omega arith) (omega arith))
+mul-result : tie.Need-overflow_mul-result
+mul-result c = let a = c.args in omega (arith, bits-end a.range_nbits a.ordinal_nbits a.i max_group_len (omega arith) (omega arith) (omega arith))
 
 returns : tie.Need-returns
 returns c = search rules
 
-pub range-bit-spec : {M : Type 1} → statement M
-range-bit-spec = tie.close (tie.spec add-result cast-result mul-result returns)
+pub range_bit_spec : {M : Type 1} → statement M
+range_bit_spec = tie.close (tie.spec add-result cast-result mul-result returns)

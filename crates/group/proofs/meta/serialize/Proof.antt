@@ -28,92 +28,81 @@ next {d} {p} {e} {f} {at} k w v q = record {
   long = simp (length-append, length-digits_of) (ap (λ n. n + w) k.long);
 }
 
-serialize-u64-requires : tie.Need-serialize-u64-requires
+serialize-u64-requires : tie.Need-serialize_u64-requires
 serialize-u64-requires c κs = search rules
 
-add-serialize-u64 : tie.Need-overflow-add-serialize-u64
+add-serialize-u64 : tie.Need-overflow_add-at
 add-serialize-u64 c = search rules
 
-serialize-u64-requires-2 : tie.Need-serialize-u64-requires-2
+serialize-u64-requires-2 : tie.Need-serialize_u64-requires-2
 serialize-u64-requires-2 c κs = search rules
 
-add-serialize-u64-2 : tie.Need-overflow-add-serialize-u64-2
+add-serialize-u64-2 : tie.Need-overflow_add-at-2
 add-serialize-u64-2 c = search rules
 
-serialize-u64-requires-3 : tie.Need-serialize-u64-requires-3
+serialize-u64-requires-3 : tie.Need-serialize_u64-requires-3
 serialize-u64-requires-3 c κs = search rules
 
-add-serialize-u32 : tie.Need-overflow-add-serialize-u32
+add-serialize-u32 : tie.Need-overflow_add-at-3
 add-serialize-u32 c = search rules
 
-serialize-u32-requires : tie.Need-serialize-u32-requires
+serialize-u32-requires : tie.Need-serialize_u32-requires
 serialize-u32-requires c κs = search rules
 
-add-serialize-u32-2 : tie.Need-overflow-add-serialize-u32-2
+add-serialize-u32-2 : tie.Need-overflow_add-at-4
 add-serialize-u32-2 c = search rules
 
-serialize-u32-requires-2 : tie.Need-serialize-u32-requires-2
+serialize-u32-requires-2 : tie.Need-serialize_u32-requires-2
 serialize-u32-requires-2 c κs = search rules
 
-add-serialize-le : tie.Need-overflow-add-serialize-le
+add-serialize-le : tie.Need-overflow_add-at-5
 add-serialize-le c = search rules
 
-cast-serialize-le : tie.Need-overflow-cast-serialize-le
+cast-serialize-le : tie.Need-overflow_cast-meta
 cast-serialize-le c = search rules
 
-serialize-le-requires : tie.Need-serialize-le-requires
+serialize-le-requires : tie.Need-serialize_le-requires
 serialize-le-requires c κs = search rules
 
-abbrev start : tie.After-serialize-le → tie.Start
-start c = c.before.before.before.before.before.before.before.before.before.before.before.before.before.before.before.before.before.before.before.before.before.before.before.before
-
 -- after six stores the length is still that of the start, and the record still fits
-six : (c : tie.After-serialize-le)
-    → (length c.serialize-le.new.0 ≡ length (start c).args.out.now) × ((start c).args.at + 36 ≤ length (start c).args.out.now) × ((start c).args.at + 36 < 2 ^ 64)
+six : (c : tie.After-serialize_le)
+    → (length c.serialize_le.new.out ≡ length c.args.out.now) × (c.args.at + 36 ≤ length c.args.out.now) × (c.args.at + 36 < 2 ^ 64)
 six c = (omega arith, omega arith, omega arith)
 
-add-serialize-le-2 : tie.Need-overflow-add-serialize-le-2
+add-serialize-le-2 : tie.Need-overflow_add-at-6
 add-serialize-le-2 c = search rules
 
-cast-serialize-le-2 : tie.Need-overflow-cast-serialize-le-2
+cast-serialize-le-2 : tie.Need-overflow_cast-meta-2
 cast-serialize-le-2 c = search rules
 
-serialize-le-requires-2 : tie.Need-serialize-le-requires-2
+serialize-le-requires-2 : tie.Need-serialize_le-requires-2
 serialize-le-requires-2 c κs = omega (arith, six c.before.before.before.before)
 
-add-serialize-u16 : tie.Need-overflow-add-serialize-u16
+add-serialize-u16 : tie.Need-overflow_add-at-7
 add-serialize-u16 c = omega (arith, six c.before.before.before.before.before.before.before.before)
 
-serialize-u16-requires : tie.Need-serialize-u16-requires
+serialize-u16-requires : tie.Need-serialize_u16-requires
 serialize-u16-requires c κs = omega (arith, six c.before.before.before.before.before.before.before.before)
 
-same_length : tie.Need-same-length
+same_length : tie.Need-shape_of-out
 same_length c = omega (arith, six c.before.before.before.before.before.before.before.before.before.before.before)
 
 returns : tie.Need-returns
 unfolding meta_bytes
 returns c =
-    let c₈ = c.before.before in
-    let c₇ = c₈.before.before.before.before in
-    let c₆ = c₇.before.before.before.before.before in
-    let c₅ = c₆.before.before.before.before.before in
-    let c₄ = c₅.before.before.before.before in
-    let c₃ = c₄.before.before.before.before in
-    let c₂ = c₃.before.before.before.before in
-    let c₁ = c₂.before.before.before.before in
-    let a = (start c₆).args in
+    let a = c.args in
     let m = a.meta in
-    let e₁ = first a.at 8 m.offset c₁.serialize-u64.ensures in
-    let e₂ = next e₁ 8 m.range_start c₂.serialize-u642.ensures in
-    let e₃ = next e₂ 8 m.first_ordinal c₃.serialize-u643.ensures in
-    let e₄ = next e₃ 4 m.range_start_slope c₄.serialize-u32.ensures in
-    let e₅ = next e₄ 4 m.first_ordinal_slope c₅.serialize-u322.ensures in
-    let e₆ = next e₅ 1 m.first_ordinal_nbits c₆.serialize-le.ensures in
-    let e₇ = next e₆ 1 m.range_start_nbits c₇.serialize-le2.ensures in
-    (next e₇ 2 m.block_len c₈.serialize-u16.ensures).same
+    let e₁ = first a.at 8 m.offset c.serialize_u64.ensures in
+    let e₂ = next e₁ 8 m.range_start c.serialize_u64-2.ensures in
+    let e₃ = next e₂ 8 m.first_ordinal c.serialize_u64-3.ensures in
+    let e₄ = next e₃ 4 m.range_start_slope c.serialize_u32.ensures in
+    let e₅ = next e₄ 4 m.first_ordinal_slope c.serialize_u32-2.ensures in
+    let e₆ = next e₅ 1 m.first_ordinal_nbits c.serialize_le.ensures in
+    let e₇ = next e₆ 1 m.range_start_nbits c.serialize_le-2.ensures in
+    (next e₇ 2 m.block_len c.serialize_u16.ensures).same
 
-pub serialize-spec : {M : Type 1} → statement M
-serialize-spec =
+pub serialize_spec : {M : Type 1} → statement M
+serialize_spec =
     tie.close
     (tie.spec
     serialize-u64-requires

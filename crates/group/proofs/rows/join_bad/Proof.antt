@@ -8,5 +8,5 @@ returns : tie.Need-returns
 unfolding is_join_bad
 returns c = refl
 
-pub join-bad-spec : {M : Type 1} → statement M
-join-bad-spec = tie.close (tie.spec returns)
+pub join_bad_spec : {M : Type 1} → statement M
+join_bad_spec = tie.close (tie.spec returns)

@@ -8,5 +8,5 @@ returns : tie.Need-returns
 unfolding is_ordinal_bad
 returns c = refl
 
-pub ordinal-bad-spec : {M : Type 1} → statement M
-ordinal-bad-spec = tie.close (tie.spec returns)
+pub ordinal_bad_spec : {M : Type 1} → statement M
+ordinal_bad_spec = tie.close (tie.spec returns)
