@@ -66,6 +66,7 @@ group-left L n g = rw (add-one g, mul-suc L g) (omega arith)
 module _ (area : List ℕ) (stride : ℕ) where
   pub blocks_at-cons : (i m : ℕ) → 0 < m → blocks_at area stride i m ≡ block_at area stride i ∷ blocks_at area stride (i + 1) (m - 1)
   unfolding blocks_at
+  blocks_at-cons i zero h = elim h [ ]
   blocks_at-cons i (suc m) h = rw (add-one i, sub-one (suc m))
 
   pub take-blocks_at : (c i m : ℕ) → take c (blocks_at area stride i m) ≡ blocks_at area stride i (min c m)

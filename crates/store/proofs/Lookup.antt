@@ -1,10 +1,10 @@
 -- Laws of lookups: which group a block is in, that ordinals rise over all blocks, and the last block at or below an ordinal.
-use mathlib.Core.Path.{◌≡◌, refl, ap, ◌∙◌}
-use mathlib.Core.Bool.{Bool, true, false, ◌||◌, true≢false}
+use mathlib.Core.Path.{◌≡◌, ap, ◌∙◌}
+use mathlib.Core.Bool.{Bool, false, ◌||◌}
 use mathlib.Core.List.{List}
 use mathlib.Core.Logic.{⊎_elim}
 use Prim.Native.Nat.{ℕ, zero, suc, ◌+◌, ◌-◌, ◌*◌, ◌/◌, ◌%◌, ◌≤◌, ◌<◌}
-use native.Mathlib.Nat.{add-zero, add_assoc, mul_comm, mul-suc, suc-mul, mod-lt, mod-eq_of_lt, le_refl, mul-le-mul, div-eq_of_lt, div-add-mod, mul-div-le, mul-add-div, mul-add-mod_self_left, eq-or-lt_of_le, lt_of_not-le, le_of_suc-le-suc}
+use native.Mathlib.Nat.{add-zero, add_assoc, mul-suc, mod-lt, mod-eq_of_lt, div-eq_of_lt, div-add-mod, mul-div-le, mul-add-div, mul-add-mod_self_left, eq-or-lt_of_le, lt_of_not-le, le_of_suc-le-suc}
 use native.Mathlib.Numerals.{add-one}
 use native.Mathlib.Omega.{arith}
 use lib.Dec.{leb}
@@ -19,11 +19,9 @@ use Rattle.group.specs.declared.BlockAddrBlockMetadata.{BlockAddrBlockMetadata}
 use Rattle.group.specs.Legal.{limit, Legal}
 use Rattle.group.specs.Read.{group_bad, ordinal_read, block_read}
 use Rattle.group.specs.Facts.{Readable}
-use Rattle.group.proofs.Legal.{numbers-good}
 use Rattle.group.proofs.Reading.{GroupOk, group-ok, readable}
 use Rattle.store.specs.Store.{group_count}
 use Rattle.store.specs.Read.{group_meta, len_of_group, store_block, meta_bad, block_or, StoreOk, Last}
-use Rattle.store.specs.declared.Got.TheVariants.{Block}
 use Rattle.store.proofs.Groups.{group-count-lt}
 
 -- ---- groups

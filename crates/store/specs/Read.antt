@@ -39,7 +39,8 @@ block_or L recs addr n i =
 -- what a lookup of block i finds: it, or that its group is broken or its numbers break row 3 (row 20)
 unfoldable pub store_get : ℕ → List ℕ → List ℕ → ℕ → ℕ → Got
 store_get L recs addr n i =
-    cond (meta_bad L recs addr n (i / L)) Broken (cond (are_numbers_bad (store_block L recs addr i)) Broken (Block (store_block L recs addr i)))
+    cond (meta_bad L recs addr n (i / L)) Broken
+    (cond (are_numbers_bad (store_block L recs addr i)) Broken (Block (store_block L recs addr i)))
 
 -- document 01's number for it
 abbrev pub got_no : Got → ℕ

@@ -16,6 +16,7 @@ length-blocks_from block i (suc count) = ap suc (length-blocks_from block (suc i
 
 pub blocks_from-at : (block : ℕ → BlockAddr) (i count j : ℕ) → j < count → block_of (blocks_from block i count) j ≡ block (i + j)
 unfolding blocks_from
+blocks_from-at block i zero j h = elim h [ ]
 blocks_from-at block i (suc count) zero h = rw add-zero
 blocks_from-at block i (suc count) (suc j) h = blocks_from-at block (suc i) count j (omega arith) ∙ ap block (omega arith)
 

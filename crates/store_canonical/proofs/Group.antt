@@ -1,5 +1,5 @@
 -- A group whose blocks stand in an area: the area is a group's, and what is planned from it is the record of the blocks read, which a record equals that agrees with it in what the writer chooses.
-use Prim.Native.Nat.{ℕ, suc, ◌+◌, ◌-◌, ◌*◌, ◌≤◌, ◌<◌}
+use Prim.Native.Nat.{ℕ, ◌+◌, ◌-◌, ◌*◌, ◌≤◌, ◌<◌}
 use mathlib.Core.Path.{◌≡◌, refl, sym, ap, ap₂, ◌∙◌}
 use mathlib.Core.List.{List, ◌∷◌}
 use native.Mathlib.Nat.{zero-add}

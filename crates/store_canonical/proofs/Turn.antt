@@ -1,12 +1,12 @@
 -- One group more: what is left of the records and of the bits is the writer's exactly when the next group is and what is left after it.
-use Prim.Native.Nat.{ℕ, zero, suc, ◌+◌, ◌-◌, ◌*◌, ◌^◌, ◌≤◌, ◌<◌, min}
-use mathlib.Core.Path.{◌≡◌, refl, sym, ap, ap₂, ◌∙◌}
-use mathlib.Core.Bool.{true, false, ◌&&◌}
+use Prim.Native.Nat.{ℕ, suc, ◌+◌, ◌-◌, ◌*◌, ◌^◌, ◌≤◌, ◌<◌}
+use mathlib.Core.Path.{◌≡◌, sym, ap, ap₂, ◌∙◌}
+use mathlib.Core.Bool.{true, false}
 use mathlib.Core.List.{List, [], ◌∷◌, ◌++◌}
-use native.Mathlib.Nat.{add-zero, mul-zero, mul-suc, zero-add, sub-zero}
+use native.Mathlib.Nat.{mul-zero, mul-suc, zero-add, sub-zero}
 use native.Mathlib.Numerals.{add-one}
 use native.Mathlib.Omega.{arith}
-use lib.ListN.{length, get_or, take, drop, length-take, length-drop, take-append-drop, drop_of_length-le}
+use lib.ListN.{length, take, drop, length-take, length-drop, take-append-drop, drop_of_length-le}
 use lib.Seq.{ext_get_or, get_or-take, get_or-drop, take_at, drop_at, drop-drop, take_all}
 use Rattle.layout.specs.Layout.{max_group_len}
 use Rattle.serialize.specs.Digits.{le_val, DigitsBelow}
@@ -31,7 +31,7 @@ use Rattle.store.specs.Facts.{GroupLenOk}
 use Rattle.store.proofs.Groups.{group-first-lt, legal-part}
 use Rattle.store.proofs.Lookup.{block-of-group, part-readable}
 use Rattle.store_canonical.specs.Same.{same_bytes}
-use Rattle.store_canonical.specs.Canonical.{blocks_from, store_blocks, is_store_canonical, group_first, group_rest, GroupCanonical}
+use Rattle.store_canonical.specs.Canonical.{store_blocks, is_store_canonical, group_first, group_rest, GroupCanonical}
 use Rattle.store_canonical.proofs.Same.{both, same_true, same-equal}
 use Rattle.store_canonical.proofs.Blocks.{length-blocks_from, blocks_from-at, blocks_from-all}
 

@@ -1,6 +1,6 @@
 -- A store that is, byte for byte, what the writer makes of the blocks read in it (document 02, wish 3). L is the group's length;
 -- `choose` gives a slope for values.
-use Rattle.std.specs.Prelude.{ℕ, zero, suc, ◌+◌, ◌-◌, ◌*◌, ◌/◌, ◌%◌, ◌^◌, ◌≡◌, Bool, not, ◌&&◌, List, [], ◌∷◌, eqb, length, take}
+use Rattle.std.specs.Prelude.{ℕ, zero, suc, ◌-◌, ◌*◌, ◌/◌, ◌%◌, ◌^◌, ◌≡◌, Bool, ◌&&◌, List, [], ◌∷◌, length, take}
 use Rattle.serialize.specs.Digits.{le_val}
 use Rattle.bitpacker.specs.Bits.{bytes_of}
 use Rattle.bitpacker.specs.Fields.{group_bits}
@@ -39,7 +39,8 @@ group_rest m bytes = blocks_from (block_read m (le_val bytes)) 1 m.block_len
 -- its record is the writer's, with its bits at `offset`, and so are its bits
 pub record GroupCanonical (choose : List ℕ → ℕ) (offset : ℕ) (m : BlockAddrBlockMetadata) (bytes : List ℕ) : Type 0 where
   pub meta : m ≡ meta_of choose offset (group_first m bytes) (group_rest m bytes)
-  pub bits : take (length (addr_bytes m (group_first m bytes) (group_rest m bytes))) bytes ≡ addr_bytes m (group_first m bytes) (group_rest m bytes)
+  pub bits : take (length (addr_bytes m (group_first m bytes) (group_rest m bytes))) bytes
+      ≡ addr_bytes m (group_first m bytes) (group_rest m bytes)
 
 -- the bits that fill its last byte
 abbrev pub padding_of : BlockAddrBlockMetadata → List ℕ → ℕ

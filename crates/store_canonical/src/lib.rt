@@ -1,4 +1,6 @@
 // Whether a store that keeps its rows is, byte for byte, the one that the writer makes of the blocks read in it.
+#![tactic(auto)]
+
 ghost use Rattle.std.specs.Prelude.{◌≡◌, true, false, not, ◌+◌, ◌*◌, ◌≤◌, min, eqb, length};
 ghost use Rattle.layout.specs.Layout.{meta_len};
 ghost use Rattle.serialize.specs.Digits.{le_val};

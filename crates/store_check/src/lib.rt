@@ -1,4 +1,6 @@
 // Rows 15 and 16 over a whole store.
+#![tactic(auto)]
+
 ghost use Rattle.std.specs.Prelude.{◌≡◌, false, not, ◌||◌, ◌&&◌, cond, ◌+◌, ◌≤◌, eqb, ltb, leb, length};
 ghost use Rattle.serialize.specs.Digits.{le_val};
 ghost use Rattle.group.specs.Legal.{limit};

@@ -1,4 +1,6 @@
 // Reading a store: by id and by ordinal.
+#![tactic(auto)]
+
 ghost use Rattle.std.specs.Prelude.{◌≡◌, ◌||◌, ◌+◌, ◌*◌, ◌≤◌, ◌<◌, leb, length};
 ghost use Rattle.layout.specs.Layout.{max_blocks, max_group_len, meta_len};
 ghost use Rattle.group.specs.Legal.{limit};

@@ -6,7 +6,6 @@ pub mod Ends
 pub mod Filled
 pub mod First
 pub mod Kept
-pub mod Lent
 pub mod Scan
 pub mod Second
 pub mod Sized

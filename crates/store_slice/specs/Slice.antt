@@ -22,7 +22,8 @@ pair_bad bad (b ∷ c ∷ bs) = bad b c || pair_bad bad (c ∷ bs)
 -- the rows in their order, each over all records before the next: 3, 4, 5, then 7: over 65,536 records
 unfoldable pub block_list_no : List BlockAddr → ℕ
 block_list_no bs =
-    cond (any_bad are_numbers_bad bs) 3 (cond (pair_bad is_join_bad bs) 4 (cond (pair_bad is_ordinal_bad bs) 5 (cond (ltb max_blocks (length bs)) 7 0)))
+    cond (any_bad are_numbers_bad bs) 3
+    (cond (pair_bad is_join_bad bs) 4 (cond (pair_bad is_ordinal_bad bs) 5 (cond (ltb max_blocks (length bs)) 7 0)))
 
 -- then 9: the output is shorter than the store, whose groups have L blocks
 unfoldable pub slice_no_by : ℕ → List BlockAddr → ℕ → ℕ

@@ -1,4 +1,6 @@
 // The address store of one lent slice of block records: `BlockAddrStoreWriter` over a list.
+#![tactic(auto)]
+
 ghost use Rattle.std.specs.Prelude.{◌≡◌};
 ghost use Rattle.store_slice.specs.Slice.{slice_stored, slice_out};
 
@@ -10,7 +12,7 @@ use layout::STORE_BLOCK_LEN;
 use writer::BlockAddrStoreWriter;
 
 // A row's number, 0 where the store was written, and its length.
-#[derive(Drop)]
+#[derive(Clone, Copy)]
 pub struct Stored {
     pub no: u32,
     pub len: usize,

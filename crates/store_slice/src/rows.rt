@@ -7,7 +7,7 @@ use layout::MAX_BLOCKS;
 use layout::refusals::{JOIN_BAD, NUMBERS_BAD, ORDINAL_BAD, ROOM_BAD};
 
 // Whether records seen so far break rows 3, 4 and 5, and the last of them, if there is some.
-#[derive(Drop)]
+#[derive(Clone, Copy)]
 pub struct Seen {
     pub some: bool,
     pub last: BlockAddr,

@@ -17,7 +17,7 @@ use layout::refusals::OUT_SHORT;
 // The numbers of a record in the window.
 pub const STRIDE: usize = 3;
 
-#[derive(Drop)]
+#[derive(Clone, Copy)]
 pub struct BlockAddrStoreWriter {
     // whether it is at its end, and the record that comes next
     pub done: bool,

@@ -1,4 +1,6 @@
 // The store of records that are given as three numbers each.
+#![tactic(auto)]
+
 ghost use Rattle.std.specs.Prelude.{◌≡◌, ◌≤◌, length, false};
 ghost use Rattle.store_slice.specs.Slice.{slice_stored_by, slice_out_by};
 ghost use Rattle.store_slice.specs.Numbers.{block_of_numbers, blocks_of_numbers};

@@ -1,4 +1,6 @@
 // Writing a store over a lent area: planned group by group, then written.
+#![tactic(auto)]
+
 ghost use Rattle.std.specs.Prelude.{◌≡◌, ◌+◌, ◌*◌, ◌≤◌, length};
 ghost use Rattle.std.proofs.lemmas.List.Edits.{sets};
 ghost use Rattle.slope.specs.Slope.{best_slope};

@@ -1,7 +1,7 @@
 -- `store_canonical::padding` meets its contract: the field behind the group's last bit, as wide as the last byte has room.
 use borrow.Author.Rules.{rules}
 use Prim.Native.Nat.{ℕ, ◌+◌, ◌-◌, ◌*◌, ◌/◌, ◌%◌, ◌^◌, ◌≤◌}
-use mathlib.Core.Path.{◌≡◌, ap, ◌∙◌}
+use mathlib.Core.Path.{◌≡◌, ◌∙◌}
 use native.Mathlib.Nat.{mul_comm}
 use native.Mathlib.Omega.{arith}
 use Rattle.bitpacker.specs.Fields.{group_bits}
@@ -18,35 +18,35 @@ few_bits s =
 field_is : (N bits b : ℕ) → bits ≡ b → N / 2 ^ bits % 2 ^ ((bits + 7) / 8 * 8 - bits) ≡ N / 2 ^ b % 2 ^ (8 * ((b + 7) / 8) - b)
 field_is N bits b e = rw (e, mul_comm ((b + 7) / 8) 8)
 
-cast-group-bits : tie.Need-overflow-cast-group-bits
+cast-group-bits : tie.Need-overflow_cast-meta
 cast-group-bits c = search rules
 
-group-bits-requires : tie.Need-group-bits-requires
+group-bits-requires : tie.Need-group_bits-bits-requires
 group-bits-requires c κs = search rules
 
-add-extract-bits : tie.Need-overflow-add-extract-bits
-add-extract-bits c = omega (arith, few_bits c.before.before.before, c.group-bits.ensures)
+add-extract-bits : tie.Need-overflow_add-bits
+add-extract-bits c = omega (arith, few_bits c.before.before.before, c.group_bits-bits.ensures)
 
-mul-extract-bits : tie.Need-overflow-mul-extract-bits
-mul-extract-bits c = omega (arith, few_bits c.before.before.before, c.group-bits.ensures)
+mul-extract-bits : tie.Need-overflow_mul-bits
+mul-extract-bits c = omega (arith, few_bits c.before.before.before, c.group_bits-bits.ensures)
 
-sub-extract-bits : tie.Need-overflow-sub-extract-bits
+sub-extract-bits : tie.Need-overflow_sub-bits
 sub-extract-bits c = search rules
 
-cast-extract-bits : tie.Need-overflow-cast-extract-bits
+cast-extract-bits : tie.Need-overflow_cast-bits
 cast-extract-bits c = search rules
 
-extract-bits-requires : tie.Need-extract-bits-requires
+extract-bits-requires : tie.Need-extract_bits-requires
 extract-bits-requires c κs = search rules
 
 returns : tie.Need-returns
 returns c =
-    let m = c.before.before.before.before.args.meta in
-    c.extract-bits.ensures
-    ∙ field_is _ c.before.group-bits.result (group_bits m.range_start_nbits m.first_ordinal_nbits m.block_len) c.before.group-bits.ensures
+    let m = c.args.meta in
+    c.extract_bits.ensures
+    ∙ field_is _ c.group_bits-bits.result (group_bits m.range_start_nbits m.first_ordinal_nbits m.block_len) c.group_bits-bits.ensures
 
-pub padding-spec : {M : Type 1} → statement M
-padding-spec =
+pub padding_spec : {M : Type 1} → statement M
+padding_spec =
     tie.close
     (tie.spec
     cast-group-bits

@@ -14,31 +14,31 @@ last-test : (start ordinal g end before : ℕ) → start < limit → ordinal < l
     → leb ordinal before ≡ ((leb limit start || leb limit ordinal) || (ltb 0 g && (not (eqb start end) || leb ordinal before)))
 last-test start ordinal g end before s o l e = simp (lt-leb limit start s, lt-leb limit ordinal o, lt-ltb 0 g l, eq-eqb start end e)
 
-returns : tie.Need-returns
+returns : tie.Need-returns-then-meta-ge-LIMIT
 unfolding limit
-returns c = simp (le-leb _ _ c.if1.true)
+returns c = simp (le-leb _ _ c.if-meta-ge-LIMIT.true)
 
-returns-2 : tie.Need-returns-2
+returns-2 : tie.Need-returns-then-meta-ge-LIMIT-2
 unfolding limit
-returns-2 c = simp (lt-leb _ _ c.before.before.if1.false, le-leb _ _ c.if2.true)
+returns-2 c = simp (lt-leb _ _ c.if-meta-ge-LIMIT.false, le-leb _ _ c.if-meta-ge-LIMIT-2.true)
 
-returns-3 : tie.Need-returns-3
+returns-3 : tie.Need-returns-then-g-eq0
 unfolding limit
-returns-3 c = simp (lt-leb _ _ c.before.before.before.if1.false, lt-leb _ _ c.before.if2.false, c.if3.true)
+returns-3 c = simp (lt-leb _ _ c.if-meta-ge-LIMIT.false, lt-leb _ _ c.if-meta-ge-LIMIT-2.false, c.if-g-eq0.true)
 
-returns-4 : tie.Need-returns-4
+returns-4 : tie.Need-returns-then-meta-before
 unfolding limit
 returns-4 c =
-    let e = c.before.before.before in
-    let later : 0 < e.before.before.before.before.before.args.g = omega arith in
-    simp (lt-leb _ _ e.before.before.before.if1.false, lt-leb _ _ e.before.if2.false, lt-ltb _ _ later, ne_eqb _ _ c.if4.true)
+    let e = c in
+    let later : 0 < e.args.g = omega arith in
+    simp (lt-leb _ _ e.if-meta-ge-LIMIT.false, lt-leb _ _ e.if-meta-ge-LIMIT-2.false, lt-ltb _ _ later, ne_eqb _ _ c.if-meta-before.true)
 
-returns-5 : tie.Need-returns-5
+returns-5 : tie.Need-returns
 unfolding limit
 returns-5 c =
-    let e = c.before.before.before.before.before in
-    let a = e.before.before.before.before.before.args in
-    last-test _ _ a.g _ _ e.before.before.before.if1.false e.before.if2.false (omega arith) c.before.before.if4.false
+    let e = c in
+    let a = e.args in
+    last-test _ _ a.g _ _ e.if-meta-ge-LIMIT.false e.if-meta-ge-LIMIT-2.false (omega arith) c.if-meta-before.false
 
-pub first-bad-spec : {M : Type 1} → statement M
-first-bad-spec = tie.close (tie.spec returns returns-2 returns-3 returns-4 returns-5)
+pub first_bad_spec : {M : Type 1} → statement M
+first_bad_spec = tie.close (tie.spec returns returns-2 returns-3 returns-4 returns-5)

@@ -26,67 +26,67 @@ module _ (L : ℕ) (recs addr : List ℕ) (n g : ℕ) (m : BlockAddrBlockMetadat
   unfolding groups_bad
   passed good b = let own = rw (e, c) at (sym is ∙ b) in rw (add-one g, good, own)
 
-abbrev invariant-loop : tie.invariant-loop
+abbrev invariant-loop : tie.invariant-loop-g
 invariant-loop metas addrs n group-len groups g₀ g = (g ≤ groups) × (groups_bad group-len metas addrs n g ≡ false)
 
-abbrev decreases-loop : tie.decreases-loop
+abbrev decreases-loop : tie.decreases-loop-g
 decreases-loop metas addrs n group-len groups g₀ g = groups - g
 
-loop-holds : tie.Need-loop-init invariant-loop decreases-loop
+loop-holds : tie.Need-loop-g-init invariant-loop decreases-loop
 unfolding groups_bad
 loop-holds c = (omega arith, refl)
 
 -- the group's record is there
-there : (c : tie.In-loop invariant-loop decreases-loop) → 36 * c.before.loop.g + 36 ≤ length c.before.before.before.before.args.metas.now
-there c = let s = c.before.before.before.before in omega (arith, s.requires.1.long, s.requires.2)
+there : (c : tie.In-loop-g invariant-loop decreases-loop) → 36 * c.loop-g.g + 36 ≤ length c.args.metas.now
+there c = let s = c in omega (arith, s.requires.1.long, s.requires.2)
 
-mul-deserialize : tie.Need-overflow-mul-deserialize invariant-loop decreases-loop
+mul-deserialize : tie.Need-overflow_mul-g invariant-loop decreases-loop
 mul-deserialize c = omega (arith, there c)
 
-deserialize-requires : tie.Need-deserialize-requires invariant-loop decreases-loop
+deserialize-requires : tie.Need-deserialize-meta-requires invariant-loop decreases-loop
 deserialize-requires c κs = there c
 
-blocks-in-requires : tie.Need-blocks-in-requires invariant-loop decreases-loop
+blocks-in-requires : tie.Need-blocks_in-count-requires invariant-loop decreases-loop
 blocks-in-requires c κs =
-    let l = c.before.before in
-    let s = l.before.before.before in
-    omega (arith, group-first-lt s.requires.0.some s.args.n l.loop.g (omega arith))
+    let l = c in
+    let s = l in
+    omega (arith, group-first-lt s.requires.0.some s.args.n l.loop-g.g (omega arith))
 
-group-bad-requires : tie.Need-group-bad-requires invariant-loop decreases-loop
-group-bad-requires c κs = omega (arith, c.blocks-in.ensures, c.before.before.before.before.before.before.requires.0.few)
+group-bad-requires : tie.Need-group_bad-requires invariant-loop decreases-loop
+group-bad-requires c κs = omega (arith, c.blocks_in-count.ensures, c.requires.0.few)
 
-returns : tie.Need-returns invariant-loop decreases-loop
+returns : tie.Need-returns-then-group_bad invariant-loop decreases-loop
 returns c =
-    let d = c.before.before.before in
-    let l = d.before.before in
-    let a = l.before.before.before.args in
-    hit a.group-len a.metas.now a.addrs.now a.n l.loop.g _ _ _ d.deserialize.ensures c.before.before.blocks-in.ensures c.before.group-bad.ensures
-    a.groups (omega arith) c.if1.true
+    let d = c in
+    let l = d in
+    let a = l.args in
+    hit a.group_len a.metas.now a.addrs.now a.n l.loop-g.g _ _ _ d.deserialize-meta.ensures c.blocks_in-count.ensures c.group_bad.ensures
+    a.groups (omega arith) c.if-group_bad.true
 
-add-g : tie.Need-overflow-add-g invariant-loop decreases-loop
+add-g : tie.Need-overflow_add-g invariant-loop decreases-loop
 add-g c = search rules
 
-loop-less : tie.Need-loop-smaller invariant-loop decreases-loop
+loop-less : tie.Need-loop-g-smaller invariant-loop decreases-loop
 loop-less c = search rules
 
-loop-again : tie.Need-loop-preserved invariant-loop decreases-loop
+loop-again : tie.Need-loop-g-preserved invariant-loop decreases-loop
 loop-again c =
-    let d = c.before.before.before in
-    let l = d.before.before in
-    let a = l.before.before.before.args in (
+    let d = c in
+    let l = d in
+    let a = l.args in (
       omega arith,
-      passed a.group-len a.metas.now a.addrs.now a.n l.loop.g _ _ _ d.deserialize.ensures c.before.before.blocks-in.ensures c.before.group-bad.ensures
-          l.loop.invariant.1 c.if1.false,
+      passed a.group_len a.metas.now a.addrs.now a.n l.loop-g.g _ _ _ d.deserialize-meta.ensures c.blocks_in-count.ensures c.group_bad.ensures
+          l.loop-g.invariant.1 c.if-group_bad.false,
     )
 
-returns-2 : tie.Need-returns-2 invariant-loop decreases-loop
+returns-2 : tie.Need-returns invariant-loop decreases-loop
 returns-2 c =
-    let l = c.before in
-    let e : l.loop.g ≡ l.before.before.before.args.groups = omega arith in
-    sym (rw e at l.loop.invariant.1)
+    let l = c in
+    let e : l.loop-g.g ≡ l.args.groups = omega arith in
+    sym (rw e at l.loop-g.invariant.1)
 
-pub groups-bad-spec : {M : Type 1} → statement M
-groups-bad-spec =
+pub groups_bad_spec : {M : Type 1} → statement M
+groups_bad_spec =
     tie.close
     (tie.spec
     invariant-loop

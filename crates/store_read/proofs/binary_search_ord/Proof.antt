@@ -37,136 +37,136 @@ found : (L : ℕ) (recs addr : List ℕ) (n ord g j : ℕ) (m : BlockAddrBlockMe
 found L recs addr n ord g j m N some ok begins em e_n blocks f next =
     last_found L recs addr n ord g j some ok begins (omega arith) (rw (em, e_n) at f.1) (λ h. rw (em, e_n) at (f.2 (omega arith))) next
 
-group-count-requires : tie.Need-group-count-requires
+group-count-requires : tie.Need-group_count-requires
 group-count-requires c κs = search rules
 
-bisect-groups-requires : tie.Need-bisect-groups-requires
+bisect-groups-requires : tie.Need-bisect_groups-g-requires
 bisect-groups-requires c κs =
-    let s = c.before.before.before in
-    omega (arith, c.group-count.ensures, groups-some s.args.group-len s.args.n s.requires.0.some s.requires.1.some, group-count-le s.requires.0.some s.args.n)
+    let s = c in
+    omega (arith, c.group_count.ensures, groups-some s.args.group_len s.args.n s.requires.0.some s.requires.1.some, group-count-le s.requires.0.some s.args.n)
 
-mul-deserialize : tie.Need-overflow-mul-deserialize
+mul-deserialize : tie.Need-overflow_mul-g
 mul-deserialize c = search rules
 
-deserialize-requires : tie.Need-deserialize-requires
+deserialize-requires : tie.Need-deserialize-meta-requires
 deserialize-requires c κs = search rules
 
 -- the group is there, and so is its first block
-there : (c : tie.After-bisect-groups) → c.bisect-groups.result < group_count c.before.before.before.before.args.group-len c.before.before.before.before.args.n
-there c = omega (arith, c.bisect-groups.ensures.0, c.before.group-count.ensures)
+there : (c : tie.After-bisect_groups-g) → c.bisect_groups-g.result < group_count c.args.group_len c.args.n
+there c = omega (arith, c.bisect_groups-g.ensures.0, c.group_count.ensures)
 
-begins : (c : tie.After-bisect-groups) → c.before.before.before.before.args.group-len * c.bisect-groups.result < c.before.before.before.before.args.n
-begins c = let s = c.before.before.before.before in group-first-lt s.requires.0.some s.args.n c.bisect-groups.result (there c)
+begins : (c : tie.After-bisect_groups-g) → c.args.group_len * c.bisect_groups-g.result < c.args.n
+begins c = let s = c in group-first-lt s.requires.0.some s.args.n c.bisect_groups-g.result (there c)
 
-blocks-in-requires : tie.Need-blocks-in-requires
+blocks-in-requires : tie.Need-blocks_in-requires
 blocks-in-requires c κs = omega (arith, begins c.before)
 
 -- a group has 256 blocks at most
-few : (c : tie.After-blocks-in) → c.blocks-in.result ≤ max_group_len
-few c = omega (arith, c.blocks-in.ensures, c.before.before.before.before.before.before.requires.0.few)
+few : (c : tie.After-blocks_in) → c.blocks_in.result ≤ max_group_len
+few c = omega (arith, c.blocks_in.ensures, c.requires.0.few)
 
-meta-bad-requires : tie.Need-meta-bad-requires
+meta-bad-requires : tie.Need-meta_bad-requires
 meta-bad-requires c κs = few c
 
 -- the test of the group is the definition's
-tested : (c : tie.After-meta-bad) → c.meta-bad.result
-    ≡ meta_bad c.before.before.before.before.before.before.before.args.group-len c.before.before.before.before.before.before.before.args.metas.now
-    c.before.before.before.before.before.before.before.args.addrs.now c.before.before.before.before.before.before.before.args.n
-    c.before.before.before.bisect-groups.result
+tested : (c : tie.After-meta_bad) → c.meta_bad.result
+    ≡ meta_bad c.args.group_len c.args.metas.now
+    c.args.addrs.now c.args.n
+    c.bisect_groups-g.result
 tested c =
-    let a = c.before.before.before.before.before.before.before.args in
-    bad-is a.metas.now a.addrs.now c.before.before.before.bisect-groups.result _ c.before.before.deserialize.ensures
-    a.group-len a.n _ _ c.before.blocks-in.ensures c.meta-bad.ensures
+    let a = c.args in
+    bad-is a.metas.now a.addrs.now c.bisect_groups-g.result _ c.deserialize-meta.ensures
+    a.group_len a.n _ _ c.blocks_in.ensures c.meta_bad.ensures
 
-returns : tie.Need-returns
+returns : tie.Need-returns-then-meta_bad
 unfolding OrdFoundIn OrdFoundAs
 returns c =
     let b = c.before.before.before.before in
-    (tt, λ ok. true≢false (sym c.if1.true ∙ tested c.before ∙ ok.groups b.bisect-groups.result (there b)))
+    (tt, λ ok. true≢false (sym c.if-meta_bad.true ∙ tested c.before ∙ ok.groups b.bisect_groups-g.result (there b)))
 
-returns-2 : tie.Need-returns-2
+returns-2 : tie.Need-returns-then-meta-ord
 unfolding OrdFoundIn OrdFoundAs
 returns-2 c =
-    let b = c.before.before.before.before.before.before in
-    let s = b.before.before.before.before in
-    let e = c.before.before.before.before.before.deserialize.ensures in (
+    let b = c in
+    let s = b in
+    let e = c.deserialize-meta.ensures in (
       tt,
-      λ ok. below-first s.args.group-len s.args.metas.now s.args.addrs.now s.args.ord b.bisect-groups.result s.requires.0.some
-          b.bisect-groups.ensures.1
-          (rw e at c.if2.true),
+      λ ok. below-first s.args.group_len s.args.metas.now s.args.addrs.now s.args.ord b.bisect_groups-g.result s.requires.0.some
+          b.bisect_groups-g.ensures.1
+          (rw e at c.if-meta-ord.true),
     )
 
 -- the group keeps its rule, and the bytes from its offset on can be read
-kept : (c : tie.Else1) → GroupOk c.before.before.before.deserialize.result c.before.before.blocks-in.result (length c.before.before.before.before.before.before.before.before.args.addrs.now)
-kept c = group-kept _ _ c.before.before.before.before.before.before.before.before.args.addrs.now (sym c.before.meta-bad.ensures ∙ c.if1.false)
+kept : (c : tie.Else-meta_bad) → GroupOk c.deserialize-meta.result c.blocks_in.result (length c.args.addrs.now)
+kept c = group-kept _ _ c.args.addrs.now (sym c.meta_bad.ensures ∙ c.if-meta_bad.false)
 
-part-kept : (c : tie.Else1)
-    → Readable c.before.before.before.deserialize.result
-    (length (take (length c.before.before.before.before.before.before.before.before.args.addrs.now - c.before.before.before.deserialize.result.offset) (drop c.before.before.before.deserialize.result.offset c.before.before.before.before.before.before.before.before.args.addrs.now)))
-part-kept c = part-readable _ _ c.before.before.before.before.before.before.before.before.args.addrs.now (sym c.before.meta-bad.ensures ∙ c.if1.false) (few c.before.before)
+part-kept : (c : tie.Else-meta_bad)
+    → Readable c.deserialize-meta.result
+    (length (take (length c.args.addrs.now - c.deserialize-meta.result.offset) (drop c.deserialize-meta.result.offset c.args.addrs.now)))
+part-kept c = part-readable _ _ c.args.addrs.now (sym c.meta_bad.ensures ∙ c.if-meta_bad.false) (few c.before.before)
 
-sub-bisect-for-ord : tie.Need-overflow-sub-bisect-for-ord
+sub-bisect-for-ord : tie.Need-slice_bounds-bisect_for_ord-count
 sub-bisect-for-ord c = omega (arith, (kept c.before.before).inside)
 
-part-bisect-for-ord-start : tie.Need-slice-bounds-bisect-for-ord-start
+part-bisect-for-ord-start : tie.Need-slice_bounds-bisect_for_ord-start
 part-bisect-for-ord-start c = omega (arith, (kept c.before.before).inside)
 
-part-bisect-for-ord-end : tie.Need-slice-bounds-bisect-for-ord-end
+part-bisect-for-ord-end : tie.Need-slice_bounds-bisect_for_ord-end
 part-bisect-for-ord-end c = search rules
 
-bisect-for-ord-requires : tie.Need-bisect-for-ord-requires
+bisect-for-ord-requires : tie.Need-bisect_for_ord-inner-requires
 bisect-for-ord-requires c κs =
-    (part-kept c.before.before.before, c.before.if2.false)
+    (part-kept c.before.before.before, c.if-meta-ord.false)
 
-sub-deserialize-block-addr : tie.Need-overflow-sub-deserialize-block-addr
+sub-deserialize-block-addr : tie.Need-slice_bounds-deserialize_block_addr-count
 sub-deserialize-block-addr c = omega (arith, (kept c.before.before.before.before).inside)
 
-part-deserialize-block-addr-start : tie.Need-slice-bounds-deserialize-block-addr-start
+part-deserialize-block-addr-start : tie.Need-slice_bounds-deserialize_block_addr-start
 part-deserialize-block-addr-start c = omega (arith, (kept c.before.before.before.before).inside)
 
-part-deserialize-block-addr-end : tie.Need-slice-bounds-deserialize-block-addr-end
+part-deserialize-block-addr-end : tie.Need-slice_bounds-deserialize_block_addr-end
 part-deserialize-block-addr-end c = search rules
 
-deserialize-block-addr-requires : tie.Need-deserialize-block-addr-requires
+deserialize-block-addr-requires : tie.Need-deserialize_block_addr-block-requires
 deserialize-block-addr-requires c κs =
-    (part-kept c.before.before.before.before.before, c.before.bisect-for-ord.ensures.0)
+    (part-kept c.before.before.before.before.before, c.bisect_for_ord-inner.ensures.0)
 
-numbers-bad-requires : tie.Need-numbers-bad-requires
+numbers-bad-requires : tie.Need-numbers_bad-requires
 numbers-bad-requires c κs = search rules
 
 -- the block found is in its group, and in the store
-inner : (c : tie.After-bisect-for-ord) → c.bisect-for-ord.result < len_of_group c.before.before.before.before.before.before.before.before.before.before.before.before.args.group-len c.before.before.before.before.before.before.before.before.before.before.before.before.args.n c.before.before.before.before.before.before.before.before.bisect-groups.result
-inner c = let e = c.before.before.before.before in omega (arith, c.bisect-for-ord.ensures.0, (kept e).blocks, e.before.before.blocks-in.ensures)
+inner : (c : tie.After-bisect_for_ord-inner) → c.bisect_for_ord-inner.result < len_of_group c.args.group_len c.args.n c.bisect_groups-g.result
+inner c = let e = c.before.before.before.before in omega (arith, c.bisect_for_ord-inner.ensures.0, (kept e).blocks, e.blocks_in.ensures)
 
-inside : (c : tie.After-bisect-for-ord) → c.before.before.before.before.before.before.before.before.before.before.before.before.args.group-len * c.before.before.before.before.before.before.before.before.bisect-groups.result + c.bisect-for-ord.result < c.before.before.before.before.before.before.before.before.before.before.before.before.args.n
+inside : (c : tie.After-bisect_for_ord-inner) → c.args.group_len * c.bisect_groups-g.result + c.bisect_for_ord-inner.result < c.args.n
 inside c = omega (arith, inner c, begins c.before.before.before.before.before.before.before.before)
 
 -- the block read is the definition's
-read : (c : tie.After-deserialize-block-addr) → c.deserialize-block-addr.result
-    ≡ store_block c.before.before.before.before.before.before.before.before.before.before.before.before.before.before.args.group-len c.before.before.before.before.before.before.before.before.before.before.before.before.before.before.args.metas.now c.before.before.before.before.before.before.before.before.before.before.before.before.before.before.args.addrs.now
-    (c.before.before.before.before.before.before.before.before.before.before.before.before.before.before.args.group-len * c.before.before.before.before.before.before.before.before.before.before.bisect-groups.result + c.before.before.bisect-for-ord.result)
+read : (c : tie.After-deserialize_block_addr-block) → c.deserialize_block_addr-block.result
+    ≡ store_block c.args.group_len c.args.metas.now c.args.addrs.now
+    (c.args.group_len * c.bisect_groups-g.result + c.bisect_for_ord-inner.result)
 read c =
     let f = c.before.before in
-    let g = f.before.before.before.before.before.before.before.before.bisect-groups.result in
+    let g = f.bisect_groups-g.result in
     let s = f.before.before.before.before.before.before.before.before.before.before.before.before in
-    block-is s.args.metas.now s.args.addrs.now g _ f.before.before.before.before.before.before.before.deserialize.ensures _ _ c.deserialize-block-addr.ensures
-    ∙ sym (block-of-group s.args.group-len s.args.metas.now s.args.addrs.now s.requires.0.some g f.bisect-for-ord.result (omega (arith, inner f)))
+    block-is s.args.metas.now s.args.addrs.now g _ f.deserialize-meta.ensures _ _ c.deserialize_block_addr-block.ensures
+    ∙ sym (block-of-group s.args.group_len s.args.metas.now s.args.addrs.now s.requires.0.some g f.bisect_for_ord-inner.result (omega (arith, inner f)))
 
-returns-3 : tie.Need-returns-3
+returns-3 : tie.Need-returns-then-numbers_bad
 unfolding OrdFoundIn OrdFoundAs
 returns-3 c =
     let d = c.before.before in (
       tt,
-      λ ok. true≢false (sym c.if3.true ∙ c.before.numbers-bad.ensures ∙ ap are_numbers_bad (read d) ∙ numbers-good _ (ok.legal.numbers _ (inside d.before.before))),
+      λ ok. true≢false (sym c.if-numbers_bad.true ∙ c.numbers_bad.ensures ∙ ap are_numbers_bad (read d) ∙ numbers-good _ (ok.legal.numbers _ (inside d.before.before))),
     )
 
-mul-t11 : tie.Need-overflow-mul-t11
-mul-t11 c = omega (arith, begins c.before.before.before.before.before.before.before.before.before.before.before.before, c.before.before.before.before.before.before.before.before.before.before.before.before.before.before.before.before.requires)
+mul-t11 : tie.Need-overflow_mul-result
+mul-t11 c = omega (arith, begins c.before.before.before.before.before.before.before.before.before.before.before.before, c.requires)
 
-add-t13 : tie.Need-overflow-add-t13
-add-t13 c = omega (arith, inside c.before.before.before.before, c.before.before.before.before.before.before.before.before.before.before.before.before.before.before.before.before.requires)
+add-t13 : tie.Need-overflow_add-result
+add-t13 c = omega (arith, inside c.before.before.before.before, c.requires)
 
-returns-4 : tie.Need-returns-4
+returns-4 : tie.Need-returns
 unfolding OrdFoundIn OrdFoundAs
 returns-4 c =
     let d = c.before.before in
@@ -175,19 +175,19 @@ returns-4 c =
     let b = f.before.before.before.before.before.before.before.before in
     let s = f.before.before.before.before.before.before.before.before.before.before.before.before in
     let a = s.args in
-    let g = b.bisect-groups.result in
-    let m = f.before.before.before.before.before.before.before.deserialize.ensures in (
-      (inside f, numbers-ok _ (sym c.before.numbers-bad.ensures ∙ c.if3.false)),
+    let g = b.bisect_groups-g.result in
+    let m = f.deserialize-meta.ensures in (
+      (inside f, numbers-ok _ (sym c.numbers_bad.ensures ∙ c.if-numbers_bad.false)),
       λ ok. (
-        found a.group-len a.metas.now a.addrs.now a.n a.ord g f.bisect-for-ord.result _ _ s.requires.0.some ok (begins b)
-            m (ap le_val (part-is a.metas.now a.addrs.now g _ m)) ((kept e).blocks ∙ e.before.before.blocks-in.ensures) f.bisect-for-ord.ensures
-            (λ h. b.bisect-groups.ensures.2 (omega (arith, b.before.group-count.ensures))),
+        found a.group_len a.metas.now a.addrs.now a.n a.ord g f.bisect_for_ord-inner.result _ _ s.requires.0.some ok (begins b)
+            m (ap le_val (part-is a.metas.now a.addrs.now g _ m)) ((kept e).blocks ∙ e.blocks_in.ensures) f.bisect_for_ord-inner.ensures
+            (λ h. b.bisect_groups-g.ensures.2 (omega (arith, b.group_count.ensures))),
         read d,
       ),
     )
 
-pub binary-search-ord-spec : {M : Type 1} → statement M
-binary-search-ord-spec =
+pub binary_search_ord_spec : {M : Type 1} → statement M
+binary_search_ord_spec =
     tie.close
     (tie.spec
     group-count-requires

@@ -26,90 +26,90 @@ module _ (L : ℕ) (recs addr : List ℕ) (n i : ℕ) where
   found b kept block = simp (kept, block)
 
 -- the block's group is there
-there : (c : tie.Start) → c.args.block-id / c.args.group-len < group_count c.args.group-len c.args.n
-there c = block-there c.args.group-len c.args.n c.requires.0.some c.args.block-id c.requires.2
+there : (c : tie.Start) → c.args.block_id / c.args.group_len < group_count c.args.group_len c.args.n
+there c = block-there c.args.group_len c.args.n c.requires.0.some c.args.block_id c.requires.2
 
-div-g : tie.Need-nonzero-div-g
+div-g : tie.Need-nonzero_div-g
 div-g c = search rules
 
-mul-deserialize : tie.Need-overflow-mul-deserialize
+mul-deserialize : tie.Need-overflow_mul-g
 mul-deserialize c = omega (arith, there c.before.before)
 
-deserialize-requires : tie.Need-deserialize-requires
+deserialize-requires : tie.Need-deserialize-meta-requires
 deserialize-requires c κs = omega (arith, there c.before.before)
 
-blocks-in-requires : tie.Need-blocks-in-requires
+blocks-in-requires : tie.Need-blocks_in-requires
 blocks-in-requires c κs =
-    let s = c.before.before.before in
-    omega (arith, block-begins s.args.group-len s.args.n s.requires.0.some s.args.block-id s.requires.2)
+    let s = c in
+    omega (arith, block-begins s.args.group_len s.args.n s.requires.0.some s.args.block_id s.requires.2)
 
 -- a group has 256 blocks at most
-few : (c : tie.After-blocks-in) → c.blocks-in.result ≤ max_group_len
-few c = omega (arith, c.blocks-in.ensures, c.before.before.before.before.requires.0.few)
+few : (c : tie.After-blocks_in) → c.blocks_in.result ≤ max_group_len
+few c = omega (arith, c.blocks_in.ensures, c.requires.0.few)
 
-meta-bad-requires : tie.Need-meta-bad-requires
+meta-bad-requires : tie.Need-meta_bad-requires
 meta-bad-requires c κs = few c
 
 -- the test of the group is the definition's
-tested : (c : tie.After-meta-bad) → c.meta-bad.result
-    ≡ meta_bad c.before.before.before.before.before.args.group-len c.before.before.before.before.before.args.metas.now
-    c.before.before.before.before.before.args.addrs.now c.before.before.before.before.before.args.n
-    (c.before.before.before.before.before.args.block-id / c.before.before.before.before.before.args.group-len)
+tested : (c : tie.After-meta_bad) → c.meta_bad.result
+    ≡ meta_bad c.args.group_len c.args.metas.now
+    c.args.addrs.now c.args.n
+    (c.args.block_id / c.args.group_len)
 tested c =
-    let a = c.before.before.before.before.before.args in
-    bad-is a.metas.now a.addrs.now (a.block-id / a.group-len) _ c.before.before.deserialize.ensures
-    a.group-len a.n _ _ c.before.blocks-in.ensures c.meta-bad.ensures
+    let a = c.args in
+    bad-is a.metas.now a.addrs.now (a.block_id / a.group_len) _ c.deserialize-meta.ensures
+    a.group_len a.n _ _ c.blocks_in.ensures c.meta_bad.ensures
 
-returns : tie.Need-returns
+returns : tie.Need-returns-then-meta_bad
 returns c =
-    let a = c.before.before.before.before.before.before.args in
-    bad-group a.group-len a.metas.now a.addrs.now a.n a.block-id (sym (tested c.before) ∙ c.if1.true)
+    let a = c.args in
+    bad-group a.group_len a.metas.now a.addrs.now a.n a.block_id (sym (tested c.before) ∙ c.if-meta_bad.true)
 
 -- the group keeps its rule, and the bytes from its offset on can be read
-kept : (c : tie.Else1) → GroupOk c.before.before.before.deserialize.result c.before.before.blocks-in.result (length c.before.before.before.before.before.before.args.addrs.now)
-kept c = group-kept _ _ c.before.before.before.before.before.before.args.addrs.now (sym c.before.meta-bad.ensures ∙ c.if1.false)
+kept : (c : tie.Else-meta_bad) → GroupOk c.deserialize-meta.result c.blocks_in.result (length c.args.addrs.now)
+kept c = group-kept _ _ c.args.addrs.now (sym c.meta_bad.ensures ∙ c.if-meta_bad.false)
 
-part-kept : (c : tie.Else1)
-    → Readable c.before.before.before.deserialize.result
-    (length (take (length c.before.before.before.before.before.before.args.addrs.now - c.before.before.before.deserialize.result.offset) (drop c.before.before.before.deserialize.result.offset c.before.before.before.before.before.before.args.addrs.now)))
-part-kept c = part-readable _ _ c.before.before.before.before.before.before.args.addrs.now (sym c.before.meta-bad.ensures ∙ c.if1.false) (few c.before.before)
+part-kept : (c : tie.Else-meta_bad)
+    → Readable c.deserialize-meta.result
+    (length (take (length c.args.addrs.now - c.deserialize-meta.result.offset) (drop c.deserialize-meta.result.offset c.args.addrs.now)))
+part-kept c = part-readable _ _ c.args.addrs.now (sym c.meta_bad.ensures ∙ c.if-meta_bad.false) (few c.before.before)
 
-sub-deserialize-block-addr : tie.Need-overflow-sub-deserialize-block-addr
+sub-deserialize-block-addr : tie.Need-slice_bounds-deserialize_block_addr-count
 sub-deserialize-block-addr c = omega (arith, (kept c).inside)
 
-part-deserialize-block-addr-start : tie.Need-slice-bounds-deserialize-block-addr-start
+part-deserialize-block-addr-start : tie.Need-slice_bounds-deserialize_block_addr-start
 part-deserialize-block-addr-start c = omega (arith, (kept c).inside)
 
-part-deserialize-block-addr-end : tie.Need-slice-bounds-deserialize-block-addr-end
+part-deserialize-block-addr-end : tie.Need-slice_bounds-deserialize_block_addr-end
 part-deserialize-block-addr-end c = search rules
 
-rem-deserialize-block-addr : tie.Need-nonzero-rem-deserialize-block-addr
+rem-deserialize-block-addr : tie.Need-nonzero_rem-block_id
 rem-deserialize-block-addr c = search rules
 
-deserialize-block-addr-requires : tie.Need-deserialize-block-addr-requires
+deserialize-block-addr-requires : tie.Need-deserialize_block_addr-requires
 deserialize-block-addr-requires c κs =
     let s = c.before.before.before.before.before.before.before in
     let e = c.before in (
       part-kept e,
-      omega (arith, (kept e).blocks, e.before.before.blocks-in.ensures, inner-there s.args.group-len s.args.n s.requires.0.some s.args.block-id s.requires.2),
+      omega (arith, (kept e).blocks, e.blocks_in.ensures, inner-there s.args.group_len s.args.n s.requires.0.some s.args.block_id s.requires.2),
     )
 
 -- the block read is the definition's
-read : (c : tie.After-deserialize-block-addr) → c.deserialize-block-addr.result
-    ≡ store_block c.before.before.before.before.before.before.before.before.args.group-len
-    c.before.before.before.before.before.before.before.before.args.metas.now
-    c.before.before.before.before.before.before.before.before.args.addrs.now
-    c.before.before.before.before.before.before.before.before.args.block-id
+read : (c : tie.After-deserialize_block_addr) → c.deserialize_block_addr.result
+    ≡ store_block c.args.group_len
+    c.args.metas.now
+    c.args.addrs.now
+    c.args.block_id
 unfolding store_block
 read c =
-    let a = c.before.before.before.before.before.before.before.before.args in
-    block-is a.metas.now a.addrs.now (a.block-id / a.group-len) _ c.before.before.before.before.before.deserialize.ensures _ _ c.deserialize-block-addr.ensures
+    let a = c.args in
+    block-is a.metas.now a.addrs.now (a.block_id / a.group_len) _ c.deserialize-meta.ensures _ _ c.deserialize_block_addr.ensures
 
-returns-2 : tie.Need-returns-2
+returns-2 : tie.Need-returns
 returns-2 c =
     let e = c.before.before in
-    let a = e.before.before.before.before.before.before.args in
-    found a.group-len a.metas.now a.addrs.now a.n a.block-id _ (sym (tested e.before) ∙ e.if1.false) (read c)
+    let a = e.args in
+    found a.group_len a.metas.now a.addrs.now a.n a.block_id _ (sym (tested e.before) ∙ e.if-meta_bad.false) (read c)
 
 pub block_spec : {M : Type 1} → statement M
 block_spec =

@@ -6,8 +6,7 @@ use mathlib.Core.List.{List}
 use Prim.Native.Nat.{ℕ, ◌/◌}
 use Rattle.group.specs.declared.BlockAddr.{BlockAddr}
 use Rattle.group.specs.Rows.{are_numbers_bad}
-use Rattle.store.specs.Read.{store_block, meta_bad, block_or, store_get}
-use Rattle.store.specs.declared.Got.{Got}
+use Rattle.store.specs.Read.{meta_bad, block_or, store_get}
 use Rattle.store.specs.declared.Got.TheVariants.{Block, Broken}
 use Rattle.store_read.proofs.get.Statement.{statement}
 use Rattle.store_read.proofs.get.Tie as tie
@@ -23,21 +22,21 @@ module _ (L : ℕ) (recs addr : List ℕ) (n i : ℕ) (b : BlockAddr) (is : b �
   found e true m = let z : ◌≡◌ {A = Bool} true false = rw (rw m at is) at e in absurd (true≢false z)
   found e false m = simp (m, sym (rw m at is), e)
 
-block-requires : tie.Need-block-requires
+block-requires : tie.Need-block-block-requires
 block-requires c κs = search rules
 
-numbers-bad-requires : tie.Need-numbers-bad-requires
+numbers-bad-requires : tie.Need-numbers_bad-requires
 numbers-bad-requires c κs = search rules
 
-returns : tie.Need-returns
+returns : tie.Need-returns-then-numbers_bad
 returns c =
-    let a = c.before.before.before.before.before.args in
-    broken a.group-len a.metas.now a.addrs.now a.n a.block-id _ c.before.before.block.ensures (sym c.before.numbers-bad.ensures ∙ c.if1.true) _ refl
+    let a = c.args in
+    broken a.group_len a.metas.now a.addrs.now a.n a.block_id _ c.block-block.ensures (sym c.numbers_bad.ensures ∙ c.if-numbers_bad.true) _ refl
 
-returns-2 : tie.Need-returns-2
+returns-2 : tie.Need-returns
 returns-2 c =
-    let a = c.before.before.before.before.before.args in
-    found a.group-len a.metas.now a.addrs.now a.n a.block-id _ c.before.before.block.ensures (sym c.before.numbers-bad.ensures ∙ c.if1.false) _ refl
+    let a = c.args in
+    found a.group_len a.metas.now a.addrs.now a.n a.block_id _ c.block-block.ensures (sym c.numbers_bad.ensures ∙ c.if-numbers_bad.false) _ refl
 
 pub get_spec : {M : Type 1} → statement M
 get_spec = tie.close (tie.spec block-requires numbers-bad-requires returns returns-2)

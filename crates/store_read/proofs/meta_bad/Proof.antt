@@ -6,19 +6,19 @@ use Rattle.group.specs.Legal.{limit}
 use Rattle.store_read.proofs.meta_bad.Statement.{statement}
 use Rattle.store_read.proofs.meta_bad.Tie as tie
 
-group-bad-requires : tie.Need-group-bad-requires
+group-bad-requires : tie.Need-group_bad-requires
 group-bad-requires c κs = search rules
 
-returns : tie.Need-returns
-returns c = simp (sym c.before.group-bad.ensures ∙ c.if1.true)
+returns : tie.Need-returns-then-group_bad
+returns c = simp (sym c.group_bad.ensures ∙ c.if-group_bad.true)
 
-returns-2 : tie.Need-returns-2
+returns-2 : tie.Need-returns-then-meta-ge-LIMIT
 unfolding limit
-returns-2 c = simp (sym c.before.before.before.group-bad.ensures ∙ c.before.before.if1.false, le-leb _ _ c.if2.true)
+returns-2 c = simp (sym c.group_bad.ensures ∙ c.if-group_bad.false, le-leb _ _ c.if-meta-ge-LIMIT.true)
 
-returns-3 : tie.Need-returns-3
+returns-3 : tie.Need-returns
 unfolding limit
-returns-3 c = simp (sym c.before.before.before.before.group-bad.ensures ∙ c.before.before.before.if1.false, lt-leb _ _ c.before.if2.false)
+returns-3 c = simp (sym c.group_bad.ensures ∙ c.if-group_bad.false, lt-leb _ _ c.if-meta-ge-LIMIT.false)
 
-pub meta-bad-spec : {M : Type 1} → statement M
-meta-bad-spec = tie.close (tie.spec group-bad-requires returns returns-2 returns-3)
+pub meta_bad_spec : {M : Type 1} → statement M
+meta_bad_spec = tie.close (tie.spec group-bad-requires returns returns-2 returns-3)

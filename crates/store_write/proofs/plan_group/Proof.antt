@@ -5,7 +5,7 @@ use mathlib.Core.Path.{◌≡◌, sym, ◌∙◌}
 use mathlib.Core.List.{List, [], ◌∷◌}
 use native.Mathlib.Numerals.{add-one}
 use native.Mathlib.Omega.{arith}
-use lib.ListN.{length, set, length-set}
+use lib.ListN.{set, length-set}
 use lib.Seq.{sets}
 use Rattle.slope.specs.Slope.{best_slope}
 use Rattle.slope.proofs.Widths.{best_slope-lt}
@@ -26,55 +26,55 @@ plan-of : (m : BlockAddrBlockMetadata) (x y : ℕ) → x ≡ 256 * m.range_start
 unfolding plan_of
 plan-of m x y e e' = rw (e, e')
 
-plan-block-requires : tie.Need-plan-block-requires
+plan-block-requires : tie.Need-plan_block-meta-requires
 plan-block-requires c κs = search rules
 
-mul_at : tie.Need-mul-at
+mul_at : tie.Need-overflow_mul-at
 mul_at c = search rules
 
 packed-requires : tie.Need-packed-requires
 packed-requires c κs = search rules
 
-mul-kept : tie.Need-mul-kept
+mul-kept : tie.Need-offset_bounds-kept-at
 mul-kept c = search rules
 
-slice-write-kept : tie.Need-slice-write-kept
+slice-write-kept : tie.Need-bounds-kept-at
 slice-write-kept c = search rules
 
 packed-requires-2 : tie.Need-packed-requires-2
 packed-requires-2 c κs = search rules
 
-add_kept : tie.Need-add-kept
+add_kept : tie.Need-overflow_add-kept
 add_kept c = search rules
 
-mul-kept-2 : tie.Need-mul-kept-2
+mul-kept-2 : tie.Need-offset_bounds-kept-at-2
 mul-kept-2 c = search rules
 
-slice-write-kept-2 : tie.Need-slice-write-kept-2
+slice-write-kept-2 : tie.Need-bounds-kept-at-2
 slice-write-kept-2 c =
-    let start = c.before.before.before.before.before in
-    omega (arith, start.pre.1, length-set start.args.kept.now (2 * start.args.g) c.before.packed.result)
+    let start = c in
+    omega (arith, start.requires.1, length-set start.args.kept.now (2 * start.args.g) c.packed.result)
 
-addr-len-requires : tie.Need-addr-len-requires
+addr-len-requires : tie.Need-addr_len-requires
 addr-len-requires c κs =
-    let group = c.before.before.before.before.before.pre.0 in
-    let fit = planned-fits best_slope group 0 c.before.before.plan-block.ensures best_slope-lt in
+    let group = c.requires.0 in
+    let fit = planned-fits best_slope group 0 c.plan_block-meta.ensures best_slope-lt in
     (fit.ranges.high, fit.ordinals.high, omega (arith, fit.blocks, length-group group, group.few))
 
-same_length : tie.Need-same-length
+same_length : tie.Need-shape_of-kept
 same_length c = search rules
 
 returns : tie.Need-returns
 returns c =
-    let start = c.before.before.before.before.before.before in
-    let planned = c.before.before.before.plan-block in
-    let group = start.pre.0 in (
-      c.addr-len.ensures ∙ planned-length best_slope group 0 planned.ensures best_slope-lt,
-      put _ _ _ _ _ (plan-of planned.result _ _ c.before.before.packed.ensures c.before.packed2.ensures ∙ kept-plan best_slope _ _ _ _ group.some planned.ensures),
+    let start = c in
+    let planned = c.plan_block-meta in
+    let group = start.requires.0 in (
+      c.addr_len.ensures ∙ planned-length best_slope group 0 planned.ensures best_slope-lt,
+      put _ _ _ _ _ (plan-of planned.result _ _ c.packed.ensures c.packed-2.ensures ∙ kept-plan best_slope _ _ _ _ group.some planned.ensures),
     )
 
-pub plan-group-spec : {M : Type 1} → statement M
-plan-group-spec =
+pub plan_group_spec : {M : Type 1} → statement M
+plan_group_spec =
     tie.close
     (tie.spec
     plan-block-requires

@@ -10,80 +10,80 @@ use Rattle.store.proofs.Planning.{Planning, planning-all, planning-none, plannin
 use Rattle.store_write.proofs.plan_store.Statement.{statement}
 use Rattle.store_write.proofs.plan_store.Tie as tie
 
-abbrev invariant-loop : tie.invariant-loop
+abbrev invariant-loop : tie.invariant-loop-first
 invariant-loop area stride n group-len kept₀ len₀ g₀ first₀ kept len g first = Planning area stride n group-len kept₀ kept len g first
 
-abbrev decreases-loop : tie.decreases-loop
+abbrev decreases-loop : tie.decreases-loop-first
 decreases-loop area stride n group-len kept₀ len₀ g₀ first₀ kept len g first = n - first
 
-loop-holds : tie.Need-loop-init invariant-loop decreases-loop
+loop-holds : tie.Need-loop-first-init invariant-loop decreases-loop
 loop-holds c = planning-all _ _ _ _ _
 
-blocks-from-requires : tie.Need-blocks-from-requires invariant-loop decreases-loop
+blocks-from-requires : tie.Need-blocks_from-count-requires invariant-loop decreases-loop
 blocks-from-requires c κs = search rules
 
-plan-group-requires : tie.Need-plan-group-requires invariant-loop decreases-loop
+plan-group-requires : tie.Need-plan_group-len-requires invariant-loop decreases-loop
 plan-group-requires c κs =
-    let start = c.before.before.before.before.before.before in
-    let is = c.before.blocks_from.ensures in (
+    let start = c in
+    let is = c.blocks_from-count.ensures in (
       group-area start.requires.0 start.requires.1 _ _ is (omega arith),
-      plan-room c.before.before.before.loop.invariant start.requires.1 _ is (omega arith) start.requires.2,
+      plan-room c.loop-first.invariant start.requires.1 _ is (omega arith) start.requires.2,
     )
 
 -- the turn's end: what the group adds
-add-len : tie.Need-overflow-add-len invariant-loop decreases-loop
+add-len : tie.Need-overflow_add-len invariant-loop decreases-loop
 add-len c =
-    let start = c.before.before.before.before.before.before.before.before.before in
-    let planning = c.before.before.before.before.before.before.loop.invariant in
+    let start = c in
+    let planning = c.loop-first.invariant in
     omega (
       arith,
       planning.lengths,
-      plan-bits planning start.requires.1 _ c.before.before.before.before.blocks_from.ensures (omega arith),
-      c.before.before.plan-group.ensures.0,
+      plan-bits planning start.requires.1 _ c.blocks_from-count.ensures (omega arith),
+      c.plan_group-len.ensures.0,
       store-addrs-le best_slope best_slope-lt start.requires.0 start.requires.1,
     )
 
-add-g : tie.Need-overflow-add-g invariant-loop decreases-loop
+add-g : tie.Need-overflow_add-g invariant-loop decreases-loop
 add-g c =
-    let start = c.before.before.before.before.before.before.before.before.before in
-    omega (arith, c.before.before.before.before.before.before.loop.invariant.groups, group-count-le start.requires.1.some start.args.n)
+    let start = c in
+    omega (arith, c.loop-first.invariant.groups, group-count-le start.requires.1.some start.args.n)
 
-add-first : tie.Need-overflow-add-first invariant-loop decreases-loop
+add-first : tie.Need-overflow_add-first invariant-loop decreases-loop
 add-first c = omega arith
 
-loop-less : tie.Need-loop-smaller invariant-loop decreases-loop
+loop-less : tie.Need-loop-first-smaller invariant-loop decreases-loop
 loop-less c = omega arith
 
-loop-again : tie.Need-loop-preserved invariant-loop decreases-loop
+loop-again : tie.Need-loop-first-preserved invariant-loop decreases-loop
 loop-again c =
-    let start = c.before.before.before.before.before.before.before.before.before in
-    let put = c.before.before.plan-group.ensures in
-    planning-turn c.before.before.before.before.before.before.loop.invariant start.requires.1 _ c.before.before.before.before.blocks_from.ensures (omega arith) _ _ put.0 put.1
+    let start = c in
+    let put = c.plan_group-len.ensures in
+    planning-turn c.loop-first.invariant start.requires.1 _ c.blocks_from-count.ensures (omega arith) _ _ put.0 put.1
 
-mul-result : tie.Need-overflow-mul-result invariant-loop decreases-loop
+mul-result : tie.Need-overflow_mul-result invariant-loop decreases-loop
 mul-result c =
-    let start = c.before.before.before.before in
-    omega (arith, c.before.loop.invariant.groups, group-count-le start.requires.1.some start.args.n)
+    let start = c in
+    omega (arith, c.loop-first.invariant.groups, group-count-le start.requires.1.some start.args.n)
 
-add-result : tie.Need-overflow-add-result invariant-loop decreases-loop
+add-result : tie.Need-overflow_add-result invariant-loop decreases-loop
 add-result c =
-    let start = c.before.before.before.before in
-    omega (arith, c.before.loop.invariant.groups, group-count-le start.requires.1.some start.args.n)
+    let start = c in
+    omega (arith, c.loop-first.invariant.groups, group-count-le start.requires.1.some start.args.n)
 
-add-result-2 : tie.Need-overflow-add-result-2 invariant-loop decreases-loop
+add-result-2 : tie.Need-overflow_add-result-2 invariant-loop decreases-loop
 add-result-2 c =
-    let start = c.before.before.before.before in
-    let planning = c.before.loop.invariant in
+    let start = c in
+    let planning = c.loop-first.invariant in
     omega (arith, planning.groups, planning.lengths, group-count-le start.requires.1.some start.args.n, store-addrs-le best_slope best_slope-lt start.requires.0 start.requires.1)
 
-same_length : tie.Need-same-length invariant-loop decreases-loop
-same_length c = omega (arith, c.before.loop.invariant.long)
+same_length : tie.Need-shape_of-kept invariant-loop decreases-loop
+same_length c = omega (arith, c.loop-first.invariant.long)
 
 returns : tie.Need-returns invariant-loop decreases-loop
-returns c = planning-none c.before.loop.invariant c.before.before.before.before.requires.1 (omega arith)
+returns c = planning-none c.loop-first.invariant c.requires.1 (omega arith)
 
-pub plan-store-spec : {M : Type 1} → statement M
-plan-store-spec =
+pub plan_store_spec : {M : Type 1} → statement M
+plan_store_spec =
     tie.close
     (tie.spec
     invariant-loop

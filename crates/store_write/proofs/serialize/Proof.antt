@@ -1,7 +1,7 @@
 -- `store_write::serialize` meets its contract. The loop's invariant: the records and the bits of the groups left, written behind those before, give the whole store, and the plans of the groups left are those that were kept.
 use borrow.Author.Rules.{rules}
-use Prim.Native.Nat.{ℕ, ◌+◌, ◌-◌, ◌*◌, ◌≤◌, ◌<◌, min}
-use mathlib.Core.Path.{◌≡◌, sym, ap}
+use Prim.Native.Nat.{ℕ, ◌+◌, ◌-◌, ◌*◌, ◌<◌, min}
+use mathlib.Core.Path.{◌≡◌}
 use mathlib.Core.List.{List, ◌++◌}
 use native.Mathlib.Nat.{sub-zero}
 use native.Mathlib.Omega.{arith}
@@ -44,116 +44,116 @@ module _ (area kept : List ℕ) (stride g : ℕ) {n L first : ℕ} (group : Grou
 next-record : (g : ℕ) → 8 + 36 * g + 36 ≡ 8 + 36 * (g + 1)
 next-record g = omega arith
 
-abbrev invariant-loop : tie.invariant-loop
+abbrev invariant-loop : tie.invariant-loop-first
 invariant-loop area stride n group-len kept out₀ metas addrs g₀ offset₀ first₀ out g offset first =
     Left area stride n group-len out₀ addrs out (8 + 36 * g) offset first × StandsAt kept (2 * g) (plans_from area stride n group-len first)
 
-abbrev decreases-loop : tie.decreases-loop
+abbrev decreases-loop : tie.decreases-loop-first
 decreases-loop area stride n group-len kept out₀ metas addrs g₀ offset₀ first₀ out g offset first =
     n - first
 
-group-count-requires : tie.Need-group-count-requires invariant-loop decreases-loop
+group-count-requires : tie.Need-group_count-metas-requires invariant-loop decreases-loop
 group-count-requires c κs = search rules
 
-mul-metas : tie.Need-overflow-mul-metas invariant-loop decreases-loop
+mul-metas : tie.Need-overflow_mul-metas invariant-loop decreases-loop
 mul-metas c =
-    let start = c.before.before.before.before in
+    let start = c in
     omega (arith, group-count-le start.requires.1.some start.args.n)
 
-serialize-u64-requires : tie.Need-serialize-u64-requires invariant-loop decreases-loop
+serialize-u64-requires : tie.Need-serialize_u64-requires invariant-loop decreases-loop
 serialize-u64-requires c κs =
-    let start = c.before.before.before.before.before in
+    let start = c in
     omega (arith, start.requires.3, length-store-area best_slope start.requires.1.some start.args.area.now start.args.stride 0 start.args.n)
 
-add-addrs : tie.Need-overflow-add-addrs invariant-loop decreases-loop
+add-addrs : tie.Need-overflow_add-addrs invariant-loop decreases-loop
 add-addrs c =
-    let start = c.before.before.before.before.before.before.before.before in
+    let start = c in
     omega (arith, group-count-le start.requires.1.some start.args.n)
 
-loop-holds : tie.Need-loop-init invariant-loop decreases-loop
+loop-holds : tie.Need-loop-first-init invariant-loop decreases-loop
 loop-holds c =
-    let start = c.before.before.before.before.before.before.before.before in
+    let start = c in
     (left-all _ _ _ _ _ _ (omega arith), plans-all _ _ _ _ _ start.requires.2)
 
-blocks-from-requires : tie.Need-blocks-from-requires invariant-loop decreases-loop
-blocks-from-requires c κs = omega (arith, c.before.loop.invariant.0.within)
+blocks-from-requires : tie.Need-blocks_from-count-requires invariant-loop decreases-loop
+blocks-from-requires c κs = omega (arith, c.loop-first.invariant.0.within)
 
 -- what bounds every sum of a turn
-mul-write-group : tie.Need-overflow-mul-write-group invariant-loop decreases-loop
+mul-write-group : tie.Need-overflow_mul-g invariant-loop decreases-loop
 mul-write-group c =
-    let start = c.before.before.before.before.before.before.before.before.before.before.before in
-    let left = c.before.before.loop.invariant.0 in
+    let start = c in
+    let left = c.loop-first.invariant.0 in
     omega (arith, left.records-end, left.base-is, group-count-le start.requires.1.some start.args.n)
 
-add-write-group : tie.Need-overflow-add-write-group invariant-loop decreases-loop
+add-write-group : tie.Need-overflow_add-g invariant-loop decreases-loop
 add-write-group c =
-    let start = c.before.before.before.before.before.before.before.before.before.before.before in
-    let left = c.before.before.loop.invariant.0 in
+    let start = c in
+    let left = c.loop-first.invariant.0 in
     omega (arith, left.records-end, left.base-is, group-count-le start.requires.1.some start.args.n)
 
-add-write-group-2 : tie.Need-overflow-add-write-group-2 invariant-loop decreases-loop
+add-write-group-2 : tie.Need-overflow_add-addrs-in-loop-first invariant-loop decreases-loop
 add-write-group-2 c =
-    let start = c.before.before.before.before.before.before.before.before.before.before.before in
-    let left = c.before.before.loop.invariant.0 in
+    let start = c in
+    let left = c.loop-first.invariant.0 in
     omega (arith, left.base-is, left.bits-end, group-count-le start.requires.1.some start.args.n, store-addrs-le best_slope best_slope-lt start.requires.0 start.requires.1)
 
-write-group-requires : tie.Need-write-group-requires invariant-loop decreases-loop
+write-group-requires : tie.Need-write_group-len-requires invariant-loop decreases-loop
 write-group-requires c κs =
-    let start = c.before.before.before.before.before.before.before.before.before.before.before.before in
-    let inv = c.before.before.before.loop.invariant in
-    let is = c.before.blocks_from.ensures in (
+    let start = c in
+    let inv = c.loop-first.invariant in
+    let is = c.blocks_from-count.ensures in (
       group-area start.requires.0 start.requires.1 _ _ is (omega arith),
-      plan-next _ start.args.kept.now _ c.before.before.before.loop.g start.requires.1 _ is (omega arith) inv.1,
+      plan-next _ start.args.kept.now _ c.loop-first.g start.requires.1 _ is (omega arith) inv.1,
       record-room inv.0 start.requires.1 _ is (omega arith),
       bits-room inv.0 start.requires.1 _ is (omega arith) (omega (arith, start.requires.3)),
     )
 
-add-offset : tie.Need-overflow-add-offset invariant-loop decreases-loop
+add-offset : tie.Need-overflow_add-offset invariant-loop decreases-loop
 add-offset c =
-    let start = c.before.before.before.before.before.before.before.before.before.before.before.before.before.before.before in
-    let left = c.before.before.before.before.before.before.loop.invariant.0 in
-    let is = c.before.before.before.before.blocks_from.ensures in
-    omega (arith, c.before.before.write-group.ensures.0, bits-turn left start.requires.1 _ is (omega arith), left.bits-end, store-addrs-le best_slope best_slope-lt start.requires.0 start.requires.1)
+    let start = c in
+    let left = c.loop-first.invariant.0 in
+    let is = c.blocks_from-count.ensures in
+    omega (arith, c.write_group-len.ensures.0, bits-turn left start.requires.1 _ is (omega arith), left.bits-end, store-addrs-le best_slope best_slope-lt start.requires.0 start.requires.1)
 
-add-g : tie.Need-overflow-add-g invariant-loop decreases-loop
+add-g : tie.Need-overflow_add-g-in-loop-first invariant-loop decreases-loop
 add-g c =
-    let start = c.before.before.before.before.before.before.before.before.before.before.before.before.before.before.before in
-    let left = c.before.before.before.before.before.before.loop.invariant.0 in
+    let start = c in
+    let left = c.loop-first.invariant.0 in
     omega (arith, left.records-end, left.base-is, group-count-le start.requires.1.some start.args.n)
 
-add-first : tie.Need-overflow-add-first invariant-loop decreases-loop
+add-first : tie.Need-overflow_add-first invariant-loop decreases-loop
 add-first c = omega arith
 
-loop-less : tie.Need-loop-smaller invariant-loop decreases-loop
+loop-less : tie.Need-loop-first-smaller invariant-loop decreases-loop
 loop-less c = omega arith
 
-loop-again : tie.Need-loop-preserved invariant-loop decreases-loop
+loop-again : tie.Need-loop-first-preserved invariant-loop decreases-loop
 loop-again c =
-    let start = c.before.before.before.before.before.before.before.before.before.before.before.before.before.before.before in
-    let loop = c.before.before.before.before.before.before.loop in
-    let is = c.before.before.before.before.blocks_from.ensures in
-    let group = c.before.before.write-group.ensures in (
+    let start = c in
+    let loop = c.loop-first in
+    let is = c.blocks_from-count.ensures in
+    let group = c.write_group-len.ensures in (
       (rw (next-record loop.g) at (left-turn loop.invariant.0 start.requires.1 _ is (omega arith) _ _ group.0 group.1)),
       plans-rest _ start.args.kept.now _ loop.g start.requires.1 _ is (omega arith) loop.invariant.1,
     )
 
-add-result : tie.Need-overflow-add-result invariant-loop decreases-loop
+add-result : tie.Need-overflow_add-result invariant-loop decreases-loop
 add-result c =
-    let start = c.before.before.before.before.before.before.before.before.before.before in
-    let left = c.before.loop.invariant.0 in
+    let start = c in
+    let left = c.loop-first.invariant.0 in
     omega (arith, left.base-is, left.bits-end, group-count-le start.requires.1.some start.args.n, store-addrs-le best_slope best_slope-lt start.requires.0 start.requires.1)
 
-same_length : tie.Need-same-length invariant-loop decreases-loop
-same_length c = omega (arith, c.before.loop.invariant.0.long)
+same_length : tie.Need-shape_of-out invariant-loop decreases-loop
+same_length c = omega (arith, c.loop-first.invariant.0.long)
 
 returns : tie.Need-returns invariant-loop decreases-loop
 returns c =
-    let start = c.before.before.before.before.before.before.before.before.before.before in
-    let none = left-none c.before.loop.invariant.0 start.requires.1 (omega arith) in
-    (none.0, whole start.requires.0 start.requires.1 _ _ _ _ c.before.before.before.before.before.before.group-count.ensures c.before.before.before.before.serialize-u64.ensures none.1)
+    let start = c in
+    let none = left-none c.loop-first.invariant.0 start.requires.1 (omega arith) in
+    (none.0, whole start.requires.0 start.requires.1 _ _ _ _ c.group_count-metas.ensures c.serialize_u64.ensures none.1)
 
-pub serialize-spec : {M : Type 1} → statement M
-serialize-spec =
+pub serialize_spec : {M : Type 1} → statement M
+serialize_spec =
     tie.close
     (tie.spec
     invariant-loop

@@ -11,9 +11,8 @@ use lib.Seq.{sets, length-sets}
 use Rattle.serialize.proofs.Stores.{sets-in-part}
 use Rattle.slope.specs.Slope.{best_slope}
 use Rattle.slope.proofs.Widths.{best_slope-lt}
-use Rattle.group.specs.Blocks.{block_at, blocks_at}
+use Rattle.group.specs.Blocks.{blocks_at}
 use Rattle.group.specs.Meta.{meta_bytes}
-use Rattle.group.specs.Write.{meta_of, plan_of}
 use Rattle.group.specs.Facts.{GroupArea}
 use Rattle.group.proofs.Blocks.{length-blocks_at}
 use Rattle.store.specs.Store.{group_record, group_addrs}
@@ -45,86 +44,86 @@ rest-room out l w i at k e h = part_room l at k (omega (arith, ap length e, leng
 put-part : (l l' v w : List ℕ) (at : ℕ) → l' ≡ sets (take (length l - at) (drop at l)) 0 v → v ≡ w → put_mid at (length l - at) l l' ≡ sets l at w
 put-part l l' v w at e is = ap (put_mid at (length l - at) l) e ∙ sets-in-part l v at 0 ∙ rw (add-zero at, is)
 
-mul-plan : tie.Need-overflow-mul-plan
+mul-plan : tie.Need-overflow_mul-plan
 mul-plan c = omega (arith, (both c.before.before.before).0)
 
-mul-range : tie.Need-overflow-mul-range
+mul-range : tie.Need-offset_bounds-kept-plan
 mul-range c = omega (arith, (both c.before.before.before).0)
 
-shared-slice-read-range : tie.Need-shared-slice-read-range
+shared-slice-read-range : tie.Need-bounds-kept-plan
 shared-slice-read-range c = omega (arith, (both c.before.before.before.before).0)
 
-add-ordinal : tie.Need-overflow-add-ordinal
+add-ordinal : tie.Need-overflow_add-ordinal
 add-ordinal c = omega (arith, (both c.before.before.before.before).0)
 
-mul-ordinal : tie.Need-overflow-mul-ordinal
+mul-ordinal : tie.Need-offset_bounds-kept-plan-2
 mul-ordinal c = omega (arith, (both c.before.before.before.before).0)
 
-shared-slice-read-ordinal : tie.Need-shared-slice-read-ordinal
+shared-slice-read-ordinal : tie.Need-bounds-kept-plan-2
 shared-slice-read-ordinal c = omega (arith, (both c.before.before.before.before.before).0)
 
-planned-block-requires : tie.Need-planned-block-requires
+planned-block-requires : tie.Need-planned_block-meta-requires
 planned-block-requires c κs =
     let start = c.before.before.before.before.before in
     (start.requires.0, (both start).1 ∙ sym (kept-plan best_slope _ _ _ _ start.requires.0.some refl))
 
-sub-serialize : tie.Need-overflow-sub-serialize
+sub-serialize : tie.Need-slice_bounds-serialize-count
 sub-serialize c = search rules
 
-part-serialize-start : tie.Need-slice-bounds-serialize-start
+part-serialize-start : tie.Need-slice_bounds-serialize-start
 part-serialize-start c = search rules
 
-part-serialize-end : tie.Need-slice-bounds-serialize-end
+part-serialize-end : tie.Need-slice_bounds-serialize-end
 part-serialize-end c = search rules
 
 serialize-requires : tie.Need-serialize-requires
 serialize-requires c κs =
-    let start = c.before.before.before.before.before.before.before in
-    part_room start.args.out.now start.args.meta-at 36 (omega (arith, start.requires.2, start.requires.3))
+    let start = c in
+    part_room start.args.out.now start.args.meta_at 36 (omega (arith, start.requires.2, start.requires.3))
 
-sub-flush-block : tie.Need-overflow-sub-flush-block
+sub-flush-block : tie.Need-slice_bounds-flush_block-count
 sub-flush-block c = search rules
 
-part-flush-block-start : tie.Need-slice-bounds-flush-block-start
+part-flush-block-start : tie.Need-slice_bounds-flush_block-start
 part-flush-block-start c = search rules
 
-part-flush-block-end : tie.Need-slice-bounds-flush-block-end
+part-flush-block-end : tie.Need-slice_bounds-flush_block-end
 part-flush-block-end c = search rules
 
-flush-block-requires : tie.Need-flush-block-requires
+flush-block-requires : tie.Need-flush_block-requires
 flush-block-requires c κs =
-    let start = c.before.before.before.before.before.before.before.before.before.before.before in
-    let plan = c.before.before.before.before.before.planned-block in
+    let start = c in
+    let plan = c.planned_block-meta in
     let offset = start.args.offset in
     let bytes = meta_bytes plan.result in
-    let mid = put-part start.args.out.now c.before.before.before.serialize.new.1.0 bytes bytes start.args.meta-at c.before.before.before.serialize.ensures refl in (
+    let mid = put-part start.args.out.now c.serialize.new.out bytes bytes start.args.meta_at c.serialize.ensures refl in (
       start.requires.0,
       planned-fits best_slope start.requires.0 offset plan.ensures best_slope-lt,
       rw (planned-bits best_slope start.requires.0 offset plan.ensures)
-          (rest-room start.args.out.now _ bytes start.args.meta-at _ _ mid start.requires.3),
+          (rest-room start.args.out.now _ bytes start.args.meta_at _ _ mid start.requires.3),
     )
 
-same_length : tie.Need-same-length
+same_length : tie.Need-shape_of-out
 same_length c = search rules
 
 returns : tie.Need-returns
 returns c =
-    let start = c.before.before.before.before.before.before.before.before.before.before.before.before.before.before in
-    let plan = c.before.before.before.before.before.before.before.before.planned-block in
+    let start = c in
+    let plan = c.planned_block-meta in
     let planned = plan.ensures in
     let offset = start.args.offset in
     let a = start.args in
     let blocks = blocks_at a.area.now a.stride a.first a.count in
     let addrs = group_addrs best_slope blocks in
     let bits = planned-bits best_slope start.requires.0 offset planned in
-    let record-put = c.before.before.before.before.before.before.serialize in
-    let mid = put-part a.out.now record-put.new.1.0 (meta_bytes plan.result) (group_record best_slope offset blocks) a.meta-at record-put.ensures (planned-record best_slope start.requires.0 offset planned) in (
-      c.before.before.flush-block.ensures.0 ∙ ap length bits,
-      put-part _ _ _ addrs a.at c.before.before.flush-block.ensures.1 bits ∙ ap (λ (l : List ℕ). sets l a.at addrs) mid,
+    let record-put = c.serialize in
+    let mid = put-part a.out.now record-put.new.out (meta_bytes plan.result) (group_record best_slope offset blocks) a.meta_at record-put.ensures (planned-record best_slope start.requires.0 offset planned) in (
+      c.flush_block.ensures.0 ∙ ap length bits,
+      put-part _ _ _ addrs a.at c.flush_block.ensures.1 bits ∙ ap (λ (l : List ℕ). sets l a.at addrs) mid,
     )
 
-pub write-group-spec : {M : Type 1} → statement M
-write-group-spec =
+pub write_group_spec : {M : Type 1} → statement M
+write_group_spec =
     tie.close
     (tie.spec
     mul-plan

@@ -3,14 +3,14 @@ use native.Mathlib.Omega.{arith}
 use Rattle.store.proofs.grouping.blocks_from.Statement.{statement}
 use Rattle.store.proofs.grouping.blocks_from.Tie as tie
 
-sub-left : tie.Need-overflow-sub-left
+sub-left : tie.Need-overflow_sub-left
 sub-left c = omega arith
 
-returns : tie.Need-returns
+returns : tie.Need-returns-then-group_len-left
 returns c = omega arith
 
-returns-2 : tie.Need-returns-2
+returns-2 : tie.Need-returns-else-group_len-left
 returns-2 c = omega arith
 
-pub blocks-from-spec : {M : Type 1} → statement M
-blocks-from-spec = tie.close (tie.spec sub-left returns returns-2)
+pub blocks_from_spec : {M : Type 1} → statement M
+blocks_from_spec = tie.close (tie.spec sub-left returns returns-2)

@@ -4,20 +4,20 @@ use Rattle.store_slice.specs.Records.{seen_with}
 use Rattle.store_slice.proofs.rows.Seen.with.Statement.{statement}
 use Rattle.store_slice.proofs.rows.Seen.with.Tie as tie
 
-numbers-bad-requires : tie.Need-numbers-bad-requires
+numbers-bad-requires : tie.Need-numbers_bad-requires
 numbers-bad-requires c κs = search rules
 
-join-bad-requires : tie.Need-join-bad-requires
+join-bad-requires : tie.Need-join_bad-requires
 join-bad-requires c κs = search rules
 
-ordinal-bad-requires : tie.Need-ordinal-bad-requires
+ordinal-bad-requires : tie.Need-ordinal_bad-requires
 ordinal-bad-requires c κs = search rules
 
 returns : tie.Need-returns
 unfolding seen_with
 returns c =
-    simp (c.before.before.before.before.before.before.before.numbers-bad.ensures, c.before.before.before.before.before.join-bad.ensures, c.before.before.ordinal-bad.ensures)
+    simp (c.numbers_bad.ensures, c.join_bad.ensures, c.ordinal_bad.ensures)
 
-pub with-spec : {M : Type 1} → statement M
-with-spec =
+pub with_spec : {M : Type 1} → statement M
+with_spec =
     tie.close (tie.spec numbers-bad-requires join-bad-requires ordinal-bad-requires returns)

@@ -9,38 +9,38 @@ use Rattle.store_slice.proofs.Taken.{not-both, group-few}
 use Rattle.store_slice.proofs.writer.BlockAddrStoreWriter.flush_block.Statement.{statement}
 use Rattle.store_slice.proofs.writer.BlockAddrStoreWriter.flush_block.Tie as tie
 
-add-flushed : tie.Need-overflow-add-flushed
+add-flushed : tie.Need-overflow_add-flushed
 add-flushed c = search rules
 
-mul-write-group : tie.Need-overflow-mul-write-group
-mul-write-group c = omega (arith, c.before.before.before.before.before.before.before.requires.1 c.before.before.if1.true)
+mul-write-group : tie.Need-overflow_mul-self
+mul-write-group c = omega (arith, c.requires.1 c.if-self.true)
 
-add-write-group : tie.Need-overflow-add-write-group
-add-write-group c = omega (arith, c.before.before.before.before.before.before.before.requires.1 c.before.before.if1.true)
+add-write-group : tie.Need-overflow_add-self
+add-write-group c = omega (arith, c.requires.1 c.if-self.true)
 
-add-write-group-2 : tie.Need-overflow-add-write-group-2
-add-write-group-2 c = omega (arith, c.before.before.before.before.before.before.before.before.requires.1 c.before.before.before.if1.true)
+add-write-group-2 : tie.Need-overflow_add-self-then-self
+add-write-group-2 c = omega (arith, c.requires.1 c.if-self.true)
 
-write-group-requires : tie.Need-write-group-requires
+write-group-requires : tie.Need-write_group-len-requires
 write-group-requires c κs =
-    let asked = c.before.before.before.before.before.before.before.before.before.requires.1 c.before.before.before.before.if1.true in
+    let asked = c.requires.1 c.if-self.true in
     (asked.group, asked.planned, asked.behind, asked.room)
 
-add-flushed-2 : tie.Need-overflow-add-flushed-2
+add-flushed-2 : tie.Need-overflow_add-flushed-then-self
 add-flushed-2 c =
-    omega (arith, c.before.before.before.write-group.ensures.0, c.before.before.before.before.before.before.before.before.before.before.before.before.before.well-formed.1.1.1.0.0, c.before.before.before.before.before.before.before.before.before.before.before.before.before.requires.1 c.before.before.before.before.before.before.before.before.if1.true)
+    omega (arith, c.write_group-len.ensures.0, c.well_formed.1.1.1.0.0, c.requires.1 c.if-self.true)
 
-same_length : tie.Need-same-length
+same_length : tie.Need-shape_of-kept-then-self
 same_length c = search rules
 
-same-length-2 : tie.Need-same-length-2
+same-length-2 : tie.Need-shape_of-out-then-self
 same-length-2 c = search rules
 
-returns : tie.Need-returns
+returns : tie.Need-returns-then-self
 returns c =
-    let w = c.before.before.before.before.before.before.before.before.before.before.before.before.before.args.self in
-    let is = c.before.before.before.write-group.ensures in
-    let taken = c.before.before.before.before.before.before.before.before.if1.true in
+    let w = c.args.self in
+    let is = c.write_group-len.ensures in
+    let taken = c.if-self.true in
     record {
       written = λ _. (ap (flushed_with w) is.0, refl, is.1);
       planned = λ e none. absurd (not-both taken e);
@@ -50,42 +50,42 @@ returns c =
 no-requires : tie.Need-no-requires
 no-requires c κs = search rules
 
-plan-group-requires : tie.Need-plan-group-requires
+plan-group-requires : tie.Need-plan_group-len-requires
 plan-group-requires c κs =
-    let asked = c.before.before.before.before.before.before.before.before.before.requires.2 c.before.before.before.before.if1.false (sym c.before.before.no.ensures ∙ c.before.if2.true) in
+    let asked = c.requires.2 c.if-self.false (sym c.no.ensures ∙ c.if-no-eq0.true) in
     (asked.group, asked.room)
 
-add-flushed-3 : tie.Need-overflow-add-flushed-3
+add-flushed-3 : tie.Need-overflow_add-flushed-then-no-eq0
 add-flushed-3 c =
-    let asked = c.before.before.before.before.before.before.before.before.before.before.before.before.before.requires.2 c.before.before.before.before.before.before.before.before.if1.false (sym c.before.before.before.before.before.before.no.ensures ∙ c.before.before.before.before.before.if2.true) in
-    omega (arith, c.before.before.before.plan-group.ensures.0, group-few asked.group, asked)
+    let asked = c.requires.2 c.if-self.false (sym c.no.ensures ∙ c.if-no-eq0.true) in
+    omega (arith, c.plan_group-len.ensures.0, group-few asked.group, asked)
 
-same-length-3 : tie.Need-same-length-3
+same-length-3 : tie.Need-shape_of-kept
 same-length-3 c = search rules
 
-returns-2 : tie.Need-returns-2
+returns-2 : tie.Need-returns-then-no-eq0
 returns-2 c =
-    let w = c.before.before.before.before.before.before.before.before.before.before.before.before.before.args.self in
-    let is = c.before.before.before.plan-group.ensures in
-    let none = sym c.before.before.before.before.before.before.no.ensures ∙ c.before.before.before.before.before.if2.true in
+    let w = c.args.self in
+    let is = c.plan_group-len.ensures in
+    let none = sym c.no.ensures ∙ c.if-no-eq0.true in
     record {
-      written = λ e. absurd (not-both e c.before.before.before.before.before.before.before.before.if1.false);
+      written = λ e. absurd (not-both e c.if-self.false);
       planned = λ e _. (ap (flushed_with w) is.0, is.1, refl);
       refused = λ e hit. absurd (hit none);
     }
 
-returns-3 : tie.Need-returns-3
+returns-3 : tie.Need-returns-else-no-eq0
 returns-3 c =
-    let w = c.before.before.before.before.before.before.before.before.args.self in
-    let hit : seen_number w.seen w.n ≡ 0 → ⊥ = λ e. c.if2.false (c.before.no.ensures ∙ e) in
+    let w = c.args.self in
+    let hit : seen_number w.seen w.n ≡ 0 → ⊥ = λ e. c.if-no-eq0.false (c.no.ensures ∙ e) in
     record {
-      written = λ e. absurd (not-both e c.before.before.before.if1.false);
+      written = λ e. absurd (not-both e c.if-self.false);
       planned = λ e none. absurd (hit none);
       refused = λ e _. (rw (add-zero w.offset) refl, refl, refl);
     }
 
-pub flush-block-spec : {M : Type 1} → statement M
-flush-block-spec =
+pub flush_block_spec : {M : Type 1} → statement M
+flush_block_spec =
     tie.close
     (tie.spec
     add-flushed

@@ -10,23 +10,23 @@ use Rattle.store_slice.proofs.writer.BlockAddrStoreWriter.new.Tie as tie
 none-requires : tie.Need-none-requires
 none-requires c κs = search rules
 
-end-round-requires : tie.Need-end-round-requires
+end-round-requires : tie.Need-end_round-requires
 end-round-requires c κs = search rules
 
-same_length : tie.Need-same-length
+same_length : tie.Need-shape_of-out-then-n-eq0
 same_length c = search rules
 
-returns : tie.Need-returns
+returns : tie.Need-returns-then-n-eq0
 returns c bs window kept count rooms =
-    let start = c.before.before.before.before.before.before.before in
-    begin-none start.requires c.before.before.before.before.before.none.result c.before.before.before.before.before.none.ensures bs start.args.out.now window kept count rooms c.before.before.before.before.if1.true _ _
-    c.before.before.end-round.ensures
+    let start = c in
+    begin-none start.requires c.none.result c.none.ensures bs start.args.out.now window kept count rooms c.if-n-eq0.true _ _
+    c.end_round.ensures
 
-returns-2 : tie.Need-returns-2
+returns-2 : tie.Need-returns
 returns-2 c bs window kept count rooms =
-    let start = c.before.before.before in
-    let some : 0 < start.args.n = ⊎_elim (λ e. absurd (c.if1.false e)) (λ h. h) (eq-zero-or-pos start.args.n) in
-    begin start.requires c.before.none.result c.before.none.ensures bs start.args.out.now window kept count rooms some
+    let start = c in
+    let some : 0 < start.args.n = ⊎_elim (λ e. absurd (c.if-n-eq0.false e)) (λ h. h) (eq-zero-or-pos start.args.n) in
+    begin start.requires c.none.result c.none.ensures bs start.args.out.now window kept count rooms some
 
 pub new_spec : {M : Type 1} → statement M
 new_spec = tie.close (tie.spec none-requires end-round-requires same_length returns returns-2)
