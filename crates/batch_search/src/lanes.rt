@@ -12,7 +12,7 @@ use crate::NO_ID;
 use layout::MAX_BATCH_KEYS;
 
 // A search: its left bound, and how many bytes the keys around its bounds share with its key.
-#[derive(Drop)]
+#[derive(Clone, Copy)]
 struct Lane {
     left: usize,
     low: usize,

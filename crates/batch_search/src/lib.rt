@@ -1,4 +1,6 @@
 // The blocks of a list of keys in one directory: one search after the other, or all side by side.
+#![tactic(auto)]
+
 pub mod lanes;
 
 ghost use Rattle.std.specs.Prelude.{◌≡◌, ◌≤◌, eqb, length};

@@ -1,7 +1,7 @@
 -- Laws of an opened directory: what was written reads back and is accepted, and every directory that row 12 lets pass is the directory of its keys.
 use mathlib.Core.Path.{◌≡◌, refl, sym, ap, ◌∙◌}
 use mathlib.Core.Bool.{false}
-use mathlib.Core.List.{List, [], ◌∷◌, ◌++◌, append-nil}
+use mathlib.Core.List.{List, [], ◌++◌, append-nil}
 use Prim.Native.Nat.{ℕ, zero, suc, ◌+◌, ◌*◌, ◌≤◌, ◌<◌}
 use native.Mathlib.Nat.{add-zero, add-suc, suc-add, zero-add, le_refl, le_of_suc-le-suc, not-suc-le-zero}
 use native.Mathlib.Omega.{arith}
@@ -96,25 +96,25 @@ module _ (d : List ℕ) (n : ℕ) where
   length-keys_from i (suc count) = ap suc (length-keys_from (suc i) count)
 
   -- key j of those from key i on is key i + j
-  pub get_d-keys_from : (i count j : ℕ) → j < count → get_or (keys_from d n i count) j [] ≡ key_of d n (i + j)
+  pub get_or-keys_from : (i count j : ℕ) → j < count → get_or (keys_from d n i count) j [] ≡ key_of d n (i + j)
   unfolding keys_from
-  get_d-keys_from i zero j h = absurd (not-suc-le-zero h)
-  get_d-keys_from i (suc count) zero h = rw (add-zero i) refl
-  get_d-keys_from i (suc count) (suc j) h = rw (add-suc i j, ← (suc-add i j)) (get_d-keys_from (suc i) count j (le_of_suc-le-suc h))
+  get_or-keys_from i zero j h = absurd (not-suc-le-zero h)
+  get_or-keys_from i (suc count) zero h = rw (add-zero i) refl
+  get_or-keys_from i (suc count) (suc j) h = rw (add-suc i j, ← (suc-add i j)) (get_or-keys_from (suc i) count j (le_of_suc-le-suc h))
 
 module _ (d : List ℕ) where
   pub length-keys_in : length (keys_in d) ≡ count_of d
   length-keys_in = length-keys_from d (count_of d) 0 (count_of d)
 
-  pub get_d-keys_in : (i : ℕ) → i < count_of d → get_or (keys_in d) i [] ≡ key_of d (count_of d) i
-  get_d-keys_in i h = get_d-keys_from d (count_of d) 0 (count_of d) i h ∙ rw (zero-add i)
+  pub get_or-keys_in : (i : ℕ) → i < count_of d → get_or (keys_in d) i [] ≡ key_of d (count_of d) i
+  get_or-keys_in i h = get_or-keys_from d (count_of d) 0 (count_of d) i h ∙ rw (zero-add i)
 
 -- what was written has the keys written
 pub keys_in-written : (ks : List (List ℕ)) → Bounded ks → keys_in (directory_bytes ks) ≡ ks
 keys_in-written ks b =
     let same : length (keys_in (directory_bytes ks)) ≡ length ks = length-keys_in (directory_bytes ks) ∙ count-whole ks b in
     ext_get_or [] (keys_in (directory_bytes ks)) ks same
-    (λ i h. get_d-keys_in (directory_bytes ks) i (omega (arith, length-keys_in (directory_bytes ks))) ∙ rw (count-whole ks b) (key-whole ks b i (omega arith)))
+    (λ i h. get_or-keys_in (directory_bytes ks) i (omega (arith, length-keys_in (directory_bytes ks))) ∙ rw (count-whole ks b) (key-whole ks b i (omega arith)))
 
 -- ---- a directory that row 12 lets pass
 
@@ -142,7 +142,7 @@ module _ (d : List ℕ) (good : directory_bad d ≡ false) where
     few = rw (length-keys_in d) ok.few;
     short = λ i l.
         let h : i < count_of d = rw (length-keys_in d) at l in
-        rw (get_d-keys_in d i h, length-key i h) (ok.pairs.short i h);
+        rw (get_or-keys_in d i h, length-key i h) (ok.pairs.short i h);
   }
 
   -- the keys from key i on stand at its offset, and with the last one the bytes end

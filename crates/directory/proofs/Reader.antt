@@ -1,12 +1,12 @@
 -- Laws of a key's search: keys that rise one by one rise between any two, and there is one first key that isn't below, at most.
-use mathlib.Core.Path.{◌≡◌, refl, sym, ap, ◌∙◌}
-use mathlib.Core.Bool.{Bool, true, false, true≢false}
-use mathlib.Core.List.{List, []}
+use mathlib.Core.Path.{◌≡◌, sym, ◌∙◌}
+use mathlib.Core.Bool.{true≢false}
+use mathlib.Core.List.{List}
 use mathlib.Core.Logic.{⊎_elim}
-use Prim.Native.Nat.{ℕ, zero, suc, ◌+◌, ◌*◌, ◌≤◌, ◌<◌}
+use Prim.Native.Nat.{ℕ, zero, suc, ◌+◌, ◌≤◌, ◌<◌}
 use native.Mathlib.Nat.{eq-or-lt_of_le, le_of_suc-le-suc, lt_of_not-le}
 use native.Mathlib.Omega.{arith}
-use Rattle.keys.specs.Order.{less, ◌≺◌, ◌≼◌, common_prefix_len}
+use Rattle.keys.specs.Order.{◌≺◌, ◌≼◌, common_prefix_len}
 use Rattle.keys.proofs.Order.{less-trans, less-asym, ≺-≼-trans, common_prefix_len-below, common_prefix_len-above}
 use Rattle.directory.specs.Read.{key_of, Sorted, First}
 

@@ -1,5 +1,5 @@
 -- A directory read from a file (document 01, rows 12, 13, 19 and 20). d is the directory's bytes, or more bytes that begin with them.
-use Rattle.std.specs.Prelude.{ℕ, zero, suc, ◌+◌, ◌-◌, ◌*◌, ◌<◌, ◌≡◌, List, [], ◌∷◌, Bool, false, not, ◌||◌, cond, eqb, ltb, length, take, drop}
+use Rattle.std.specs.Prelude.{ℕ, zero, suc, ◌+◌, ◌*◌, ◌<◌, ◌≡◌, List, [], ◌∷◌, Bool, false, not, ◌||◌, cond, eqb, ltb, length, take, drop}
 use Rattle.layout.specs.Layout.{max_blocks, max_key_len}
 use Rattle.serialize.specs.Digits.{number_at}
 use Rattle.keys.specs.Order.{less, ◌≺◌, ◌≼◌}

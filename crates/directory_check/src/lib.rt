@@ -1,4 +1,6 @@
 // Rows 12 and 13: the rules of a directory.
+#![tactic(auto)]
+
 ghost use Rattle.std.specs.Prelude.{◌≡◌, false, ◌+◌, ◌*◌, ◌≤◌, ◌<◌, length};
 ghost use Rattle.layout.specs.Layout.{max_blocks, pair_len};
 ghost use Rattle.directory.specs.Read.{count_of};

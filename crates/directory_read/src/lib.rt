@@ -1,4 +1,6 @@
 // A directory in a file: its keys, the search for a key.
+#![tactic(auto)]
+
 ghost use Rattle.std.specs.Prelude.{◌≡◌, false, ◌+◌, ◌*◌, ◌^◌, ◌≤◌, ◌<◌, length};
 ghost use Rattle.layout.specs.Layout.{max_blocks};
 ghost use Rattle.serialize.specs.Digits.{number_at};

@@ -1,4 +1,6 @@
 // Writing a directory: its length, its pairs, its keys.
+#![tactic(auto)]
+
 ghost use Rattle.std.specs.Prelude.{◌≡◌, ◌+◌, ◌-◌, ◌*◌, ◌≤◌, ◌<◌, length};
 ghost use Rattle.std.proofs.lemmas.List.Edits.{sets};
 ghost use Rattle.directory.specs.Directory.{directory_bytes, pairs, key_bytes};
@@ -66,7 +68,7 @@ fn write_keys(
         let at = stride * i + field;
         let from = area[at] as usize;
         let end = from + area[at + 1] as usize;
-        to += bytes::copy(&keys[from..end], &mut out[to..]);
+        to += byte_copy::copy(&keys[from..end], &mut out[to..]);
         i += 1;
     }
     to

@@ -1,5 +1,6 @@
 -- A list of keys as a caller lends it (document 02, wish 1): pairs of offset and length, two numbers each, over one area of bytes.
-use Rattle.std.specs.Prelude.{ℕ, zero, suc, ◌+◌, ◌*◌, ◌/◌, ◌%◌, ◌≤◌, ◌<◌, ◌≡◌, List, Bool, false, ◌||◌, eqb, ltb, length, get_or, take, drop}
+use Rattle.std.specs.Prelude.{ℕ, zero, suc, ◌+◌, ◌*◌, ◌/◌, ◌%◌, ◌≤◌, ◌<◌, ◌≡◌, List, Bool, false, ◌||◌, eqb, ltb}
+use Rattle.std.specs.Prelude.{length, get_or, take, drop}
 
 -- how many pairs there are, and the offset and the length of pair i
 abbrev pub key_list_count : List ℕ → ℕ
@@ -22,7 +23,8 @@ offset_before pairs (suc i) = key_list_offset pairs i
 
 -- pair i is bad: its offset falls, or its key ends beyond `room` bytes
 unfoldable pub key_pair_bad : List ℕ → ℕ → ℕ → Bool
-key_pair_bad pairs room i = ltb (key_list_offset pairs i) (offset_before pairs i) || ltb room (key_list_offset pairs i + key_list_len pairs i)
+key_pair_bad pairs room i =
+    ltb (key_list_offset pairs i) (offset_before pairs i) || ltb room (key_list_offset pairs i + key_list_len pairs i)
 
 -- one of the first m pairs is
 unfoldable pub key_pairs_bad : List ℕ → ℕ → ℕ → Bool

@@ -1,4 +1,6 @@
 // A lent list of keys: pairs of offset and length over one area of bytes.
+#![tactic(auto)]
+
 ghost use Rattle.std.specs.Prelude.{◌≡◌, ◌+◌, ◌*◌, ◌/◌, ◌≤◌, ◌<◌, ltb, length};
 ghost use Rattle.key_list.specs.KeyList.{key_list_offset, key_list_len, key_list_key, key_pairs_bad, key_list_bad};
 

@@ -9,83 +9,73 @@ use Rattle.directory.proofs.Rules.{pairs-stay-bad, offset-bad, length-bad, pair-
 use Rattle.directory_check.proofs.pairs_bad.Statement.{statement}
 use Rattle.directory_check.proofs.pairs_bad.Tie as tie
 
-abbrev invariant-loop : tie.invariant-loop
+abbrev invariant-loop : tie.invariant-loop-i
 invariant-loop directory n begin₀ i₀ begin i =
     (i ≤ n) × (begin ≡ key_begin directory i) × (begin ≤ 1024 * i) × (pairs_bad directory i ≡ false)
 
-abbrev decreases-loop : tie.decreases-loop
+abbrev decreases-loop : tie.decreases-loop-i
 decreases-loop directory n begin₀ i₀ begin i = n - i
 
-loop-holds : tie.Need-loop-init invariant-loop decreases-loop
+loop-holds : tie.Need-loop-i-init invariant-loop decreases-loop
 unfolding key_begin pairs_bad
 loop-holds c = (omega arith, refl, omega arith, refl)
 
-mul_at : tie.Need-overflow-mul-at invariant-loop decreases-loop
+mul_at : tie.Need-overflow_mul-at invariant-loop decreases-loop
 mul_at c = search rules
 
-add_at : tie.Need-overflow-add-at invariant-loop decreases-loop
+add_at : tie.Need-overflow_add-at invariant-loop decreases-loop
 add_at c = search rules
 
-add-number : tie.Need-overflow-add-number invariant-loop decreases-loop
+add-number : tie.Need-overflow_add-at-in-loop-i invariant-loop decreases-loop
 add-number c = search rules
 
-number-requires : tie.Need-number-requires invariant-loop decreases-loop
+number-requires : tie.Need-number-len-requires invariant-loop decreases-loop
 number-requires c κs = search rules
 
-number-requires-2 : tie.Need-number-requires-2 invariant-loop decreases-loop
+number-requires-2 : tie.Need-number-requires invariant-loop decreases-loop
 number-requires-2 c κs = search rules
 
-returns : tie.Need-returns invariant-loop decreases-loop
+returns : tie.Need-returns-then-number-begin invariant-loop decreases-loop
 returns c =
-    let second = c.before in
-    let first = second.before in
-    let l = first.before.before in
-    let d = l.before.before.args.directory.now in
-    sym (pairs-stay-bad d (l.loop.i + 1) l.before.before.args.n (omega arith)
-    (offset-bad d l.loop.i second.number2.result first.number.result l.loop.begin
-    l.loop.invariant.3 second.number2.ensures.0 first.number.ensures.0 l.loop.invariant.1 c.if1.true))
+    let d = c.args.directory.now in
+    sym (pairs-stay-bad d (c.loop-i.i + 1) c.args.n (omega arith)
+    (offset-bad d c.loop-i.i c.number.result c.number-len.result c.loop-i.begin
+    c.loop-i.invariant.3 c.number.ensures.0 c.number-len.ensures.0 c.loop-i.invariant.1 c.if-number-begin.true))
 
-returns-2 : tie.Need-returns-2 invariant-loop decreases-loop
+returns-2 : tie.Need-returns-then-len-gt-MAX_KEY_LEN invariant-loop decreases-loop
 returns-2 c =
-    let second = c.before.before in
-    let first = second.before in
-    let l = first.before.before in
-    let d = l.before.before.args.directory.now in
-    sym (pairs-stay-bad d (l.loop.i + 1) l.before.before.args.n (omega arith)
-    (length-bad d l.loop.i second.number2.result first.number.result l.loop.begin
-    l.loop.invariant.3 second.number2.ensures.0 first.number.ensures.0 l.loop.invariant.1 c.if2.true))
+    let d = c.args.directory.now in
+    sym (pairs-stay-bad d (c.loop-i.i + 1) c.args.n (omega arith)
+    (length-bad d c.loop-i.i c.number.result c.number-len.result c.loop-i.begin
+    c.loop-i.invariant.3 c.number.ensures.0 c.number-len.ensures.0 c.loop-i.invariant.1 c.if-len-gt-MAX_KEY_LEN.true))
 
-add_begin : tie.Need-overflow-add-begin invariant-loop decreases-loop
+add_begin : tie.Need-overflow_add-begin invariant-loop decreases-loop
 add_begin c = search rules
 
-add-i : tie.Need-overflow-add-i invariant-loop decreases-loop
+add-i : tie.Need-overflow_add-i invariant-loop decreases-loop
 add-i c = search rules
 
-loop-less : tie.Need-loop-smaller invariant-loop decreases-loop
+loop-less : tie.Need-loop-i-smaller invariant-loop decreases-loop
 loop-less c = search rules
 
-loop-again : tie.Need-loop-preserved invariant-loop decreases-loop
+loop-again : tie.Need-loop-i-preserved invariant-loop decreases-loop
 loop-again c =
-    let second = c.before.before in
-    let first = second.before in
-    let l = first.before.before in
-    let d = l.before.before.args.directory.now in (
+    let d = c.args.directory.now in (
       omega arith,
-      next-begin d l.loop.i second.number2.result first.number.result l.loop.begin
-          l.loop.invariant.3 second.number2.ensures.0 first.number.ensures.0 l.loop.invariant.1 c.before.if1.false,
+      next-begin d c.loop-i.i c.number.result c.number-len.result c.loop-i.begin
+          c.loop-i.invariant.3 c.number.ensures.0 c.number-len.ensures.0 c.loop-i.invariant.1 c.if-number-begin.false,
       omega arith,
-      pair-good d l.loop.i second.number2.result first.number.result l.loop.begin
-          l.loop.invariant.3 second.number2.ensures.0 first.number.ensures.0 l.loop.invariant.1 c.before.if1.false (omega arith),
+      pair-good d c.loop-i.i c.number.result c.number-len.result c.loop-i.begin
+          c.loop-i.invariant.3 c.number.ensures.0 c.number-len.ensures.0 c.loop-i.invariant.1 c.if-number-begin.false (omega arith),
     )
 
-returns-3 : tie.Need-returns-3 invariant-loop decreases-loop
+returns-3 : tie.Need-returns invariant-loop decreases-loop
 returns-3 c =
-    let l = c.before in
-    let e : l.loop.i ≡ l.before.before.args.n = omega arith in
-    sym (rw e at l.loop.invariant.3)
+    let e : c.loop-i.i ≡ c.args.n = omega arith in
+    sym (rw e at c.loop-i.invariant.3)
 
-pub pairs-bad-spec : {M : Type 1} → statement M
-pairs-bad-spec =
+pub pairs_bad_spec : {M : Type 1} → statement M
+pairs_bad_spec =
     tie.close
     (tie.spec
     invariant-loop

@@ -18,69 +18,64 @@ room s =
     let a = s.args in
     omega (arith, s.requires.1, length-keys_at-directory a.area.now a.stride a.field a.keys.now a.n)
 
-cast-serialize-u32 : tie.Need-overflow-cast-serialize-u32
+cast-serialize-u32 : tie.Need-overflow_cast-n
 cast-serialize-u32 c = search rules
 
-serialize-u32-requires : tie.Need-serialize-u32-requires
+serialize-u32-requires : tie.Need-serialize_u32-requires
 serialize-u32-requires c κs = omega (arith, room c.before.before.before.before)
 
-sub-write-pairs : tie.Need-overflow-sub-write-pairs
+sub-write-pairs : tie.Need-slice_bounds-write_pairs-count
 sub-write-pairs c = omega (arith, room c.before.before.before.before.before.before.before)
 
-part-write-pairs-start : tie.Need-slice-bounds-write-pairs-start
+part-write-pairs-start : tie.Need-slice_bounds-write_pairs-start
 part-write-pairs-start c = omega (arith, room c.before.before.before.before.before.before.before)
 
-part-write-pairs-end : tie.Need-slice-bounds-write-pairs-end
+part-write-pairs-end : tie.Need-slice_bounds-write_pairs-end
 part-write-pairs-end c = search rules
 
-write-pairs-requires : tie.Need-write-pairs-requires
+write-pairs-requires : tie.Need-write_pairs-requires
 write-pairs-requires c κs =
-    let s = c.before.before.before.before.before.before.before.before in
-    (s.requires.0, omega (arith, room s, length_rest c.before.before.before.serialize-u32.new.0 4))
+    (c.requires.0, omega (arith, room c.before.before.before.before.before.before.before.before, length_rest c.serialize_u32.new.out 4))
 
-mul_at : tie.Need-overflow-mul-at
+mul_at : tie.Need-overflow_mul-at
 mul_at c = search rules
 
-add_at : tie.Need-overflow-add-at
+add_at : tie.Need-overflow_add-at
 add_at c = search rules
 
-sub-write-keys : tie.Need-overflow-sub-write-keys
+sub-write-keys : tie.Need-slice_bounds-write_keys-count
 sub-write-keys c = omega (arith, room c.before.before.before.before.before.before.before.before.before.before.before)
 
-part-write-keys-start : tie.Need-slice-bounds-write-keys-start
+part-write-keys-start : tie.Need-slice_bounds-write_keys-start
 part-write-keys-start c = omega (arith, room c.before.before.before.before.before.before.before.before.before.before.before)
 
-part-write-keys-end : tie.Need-slice-bounds-write-keys-end
+part-write-keys-end : tie.Need-slice_bounds-write_keys-end
 part-write-keys-end c = search rules
 
-write-keys-requires : tie.Need-write-keys-requires
+write-keys-requires : tie.Need-write_keys-requires
 write-keys-requires c κs =
-    let s = c.before.before.before.before.before.before.before.before.before.before.before.before in
-    let a = c.before.before.before.before.before.before.before.serialize-u32.new.0 in
-    let p = c.before.before.before.write-pairs.new.1.1.1.1.1.0 in
-    (s.requires.0, omega (arith, room s, length_rest (put_mid 4 (length a - 4) a p) (4 + 8 * s.args.n)))
+    let a = c.serialize_u32.new.out in
+    let p = c.write_pairs.new.out in
+    (c.requires.0, omega (arith, room c.before.before.before.before.before.before.before.before.before.before.before.before, length_rest (put_mid 4 (length a - 4) a p) (4 + 8 * c.args.n)))
 
-add-result : tie.Need-overflow-add-result
+add-result : tie.Need-overflow_add-result
 add-result c = omega (arith, room c.before.before.before.before.before.before.before.before.before.before.before.before.before.before.before)
 
-same_length : tie.Need-same-length
+same_length : tie.Need-shape_of-out
 same_length c = search rules
 
 returns : tie.Need-returns
 returns c =
-    let keys = c.before.before in
-    let pairs = keys.before.before.before.before in
-    let count = pairs.before.before.before.before in
-    let a = count.before.before.before.before.before.args in (
-      omega (arith, keys.write-keys.ensures.0, length-keys_at-directory a.area.now a.stride a.field a.keys.now a.n),
+    let a = c.args in (
+      omega (arith, c.write_keys.ensures.0, length-keys_at-directory a.area.now a.stride a.field a.keys.now a.n),
       directory-written (keys_at a.area.now a.stride a.field a.keys.now 0 a.n) a.n a.out.now
-          count.serialize-u32.new.0 pairs.write-pairs.new.1.1.1.1.1.0 keys.write-keys.new.1.1.1.1.1.0
+          c.serialize_u32.new.out c.write_pairs.new.out c.write_keys.new.out
           (length-keys_at a.area.now a.stride a.field a.keys.now 0 a.n)
-          count.serialize-u32.ensures pairs.write-pairs.ensures keys.write-keys.ensures.1,
+          c.serialize_u32.ensures c.write_pairs.ensures c.write_keys.ensures.1,
     )
 
-pub serialize-spec : {M : Type 1} → statement M
-serialize-spec =
+pub serialize_spec : {M : Type 1} → statement M
+serialize_spec =
     tie.close
     (tie.spec
     cast-serialize-u32

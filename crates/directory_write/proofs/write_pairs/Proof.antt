@@ -13,100 +13,93 @@ use Rattle.directory.proofs.Written.{pairs-turn, pairs-none}
 use Rattle.directory_write.proofs.write_pairs.Statement.{statement}
 use Rattle.directory_write.proofs.write_pairs.Tie as tie
 
-abbrev invariant-loop : tie.invariant-loop
+abbrev invariant-loop : tie.invariant-loop-i
 invariant-loop area stride field keys n out₀ offset₀ i₀ out offset i =
     (i ≤ n) × (offset ≤ 1024 * i) × (length out ≡ length out₀)
     × (sets out₀ 0 (pairs 0 (keys_at area stride field keys 0 n)) ≡ sets out (8 * i) (pairs offset (keys_at area stride field keys i (n - i))))
 
-abbrev decreases-loop : tie.decreases-loop
+abbrev decreases-loop : tie.decreases-loop-i
 decreases-loop area stride field keys n out₀ offset₀ i₀ out offset i = n - i
 
 -- key i's record stands in the area
-inside : (c : tie.In-loop invariant-loop decreases-loop) → let a = c.before.before.before.before.before.args in a.stride * c.before.loop.i + a.stride ≤ length a.area.now
+inside : (c : tie.In-loop-i invariant-loop decreases-loop) → let a = c.args in a.stride * c.loop-i.i + a.stride ≤ length a.area.now
 inside c =
-    let s = c.before.before.before.before.before in
-    let a = s.args in
-    record-inside a.area.now a.stride a.field a.keys.now a.n s.requires.0 c.before.loop.i (omega arith)
+    let a = c.args in
+    record-inside a.area.now a.stride a.field a.keys.now a.n c.requires.0 c.loop-i.i (omega arith)
 
-short : (c : tie.In-loop invariant-loop decreases-loop) → let a = c.before.before.before.before.before.args in length_at a.area.now a.stride a.field c.before.loop.i ≤ 1024
-short c = c.before.before.before.before.before.requires.0.short c.before.loop.i (omega arith)
+short : (c : tie.In-loop-i invariant-loop decreases-loop) → let a = c.args in length_at a.area.now a.stride a.field c.loop-i.i ≤ 1024
+short c = c.requires.0.short c.loop-i.i (omega arith)
 
-loop-holds : tie.Need-loop-init invariant-loop decreases-loop
+loop-holds : tie.Need-loop-i-init invariant-loop decreases-loop
 loop-holds c =
-    let a = c.before.before.before.args in
+    let a = c.args in
     (omega arith, omega arith, refl, rw (sub-zero a.n))
 
-mul-len : tie.Need-overflow-mul-len invariant-loop decreases-loop
+mul-len : tie.Need-overflow_mul-len invariant-loop decreases-loop
 mul-len c = omega (arith, inside c)
 
-add-len : tie.Need-overflow-add-len invariant-loop decreases-loop
+add-len : tie.Need-overflow_add-len invariant-loop decreases-loop
 add-len c = search rules
 
-add-len-2 : tie.Need-overflow-add-len-2 invariant-loop decreases-loop
+add-len-2 : tie.Need-overflow_add-len-in-loop-i invariant-loop decreases-loop
 add-len-2 c = omega (arith, inside c)
 
-mul-len-2 : tie.Need-overflow-mul-len-2 invariant-loop decreases-loop
+mul-len-2 : tie.Need-offset_bounds-area-stride invariant-loop decreases-loop
 mul-len-2 c = omega (arith, inside c)
 
-shared-slice-read-len : tie.Need-shared-slice-read-len invariant-loop decreases-loop
+shared-slice-read-len : tie.Need-bounds-area-stride invariant-loop decreases-loop
 shared-slice-read-len c = omega (arith, inside c.before)
 
-mul-serialize-u32 : tie.Need-overflow-mul-serialize-u32 invariant-loop decreases-loop
+mul-serialize-u32 : tie.Need-overflow_mul-i invariant-loop decreases-loop
 mul-serialize-u32 c = search rules
 
-cast-serialize-u32 : tie.Need-overflow-cast-serialize-u32 invariant-loop decreases-loop
+cast-serialize-u32 : tie.Need-overflow_cast-offset invariant-loop decreases-loop
 cast-serialize-u32 c = omega (arith, short c.before.before)
 
-serialize-u32-requires : tie.Need-serialize-u32-requires invariant-loop decreases-loop
+serialize-u32-requires : tie.Need-serialize_u32-requires invariant-loop decreases-loop
 serialize-u32-requires c κs = search rules
 
-mul-serialize-u32-2 : tie.Need-overflow-mul-serialize-u32-2 invariant-loop decreases-loop
+mul-serialize-u32-2 : tie.Need-overflow_mul-i-in-loop-i invariant-loop decreases-loop
 mul-serialize-u32-2 c = search rules
 
-add-serialize-u32 : tie.Need-overflow-add-serialize-u32 invariant-loop decreases-loop
+add-serialize-u32 : tie.Need-overflow_add-i invariant-loop decreases-loop
 add-serialize-u32 c = search rules
 
-cast-serialize-u32-2 : tie.Need-overflow-cast-serialize-u32-2 invariant-loop decreases-loop
+cast-serialize-u32-2 : tie.Need-overflow_cast-len invariant-loop decreases-loop
 cast-serialize-u32-2 c = omega (arith, short c.before.before.before.before.before.before)
 
-serialize-u32-requires-2 : tie.Need-serialize-u32-requires-2 invariant-loop decreases-loop
+serialize-u32-requires-2 : tie.Need-serialize_u32-requires-in-loop-i invariant-loop decreases-loop
 serialize-u32-requires-2 c κs = search rules
 
-add-offset : tie.Need-overflow-add-offset invariant-loop decreases-loop
+add-offset : tie.Need-overflow_add-offset invariant-loop decreases-loop
 add-offset c = omega (arith, short c.before.before.before.before.before.before.before.before.before)
 
-add-i : tie.Need-overflow-add-i invariant-loop decreases-loop
+add-i : tie.Need-overflow_add-i-in-loop-i invariant-loop decreases-loop
 add-i c = search rules
 
-loop-less : tie.Need-loop-smaller invariant-loop decreases-loop
+loop-less : tie.Need-loop-i-smaller invariant-loop decreases-loop
 loop-less c = search rules
 
-loop-again : tie.Need-loop-preserved invariant-loop decreases-loop
+loop-again : tie.Need-loop-i-preserved invariant-loop decreases-loop
 loop-again c =
-    let second = c.before.before in
-    let first = second.before.before.before.before in
-    let turn = first.before.before.before in
-    let l = turn.before in
-    let s = l.before.before.before.before in
-    let a = s.args in (
+    let a = c.args in (
       omega arith,
-      omega (arith, short turn),
+      omega (arith, short c.before.before.before.before.before.before.before.before.before),
       omega arith,
-      l.loop.invariant.3 ∙ pairs-turn a.area.now a.stride a.field a.keys.now a.n s.requires.0 l.loop.i (omega arith)
-          l.loop.out first.serialize-u32.new.0 second.serialize-u322.new.0 l.loop.offset first.serialize-u32.ensures second.serialize-u322.ensures,
+      c.loop-i.invariant.3 ∙ pairs-turn a.area.now a.stride a.field a.keys.now a.n c.requires.0 c.loop-i.i (omega arith)
+          c.loop-i.out c.serialize_u32.new.out c.serialize_u32-in-loop-i.new.out c.loop-i.offset c.serialize_u32.ensures c.serialize_u32-in-loop-i.ensures,
     )
 
-same_length : tie.Need-same-length invariant-loop decreases-loop
+same_length : tie.Need-shape_of-out invariant-loop decreases-loop
 same_length c = search rules
 
 returns : tie.Need-returns invariant-loop decreases-loop
 returns c =
-    let l = c.before in
-    let a = l.before.before.before.before.args in
-    sym (l.loop.invariant.3 ∙ pairs-none a.area.now a.stride a.field a.keys.now a.n l.loop.i (omega arith) l.loop.out (8 * l.loop.i) l.loop.offset)
+    let a = c.args in
+    sym (c.loop-i.invariant.3 ∙ pairs-none a.area.now a.stride a.field a.keys.now a.n c.loop-i.i (omega arith) c.loop-i.out (8 * c.loop-i.i) c.loop-i.offset)
 
-pub write-pairs-spec : {M : Type 1} → statement M
-write-pairs-spec =
+pub write_pairs_spec : {M : Type 1} → statement M
+write_pairs_spec =
     tie.close
     (tie.spec
     invariant-loop

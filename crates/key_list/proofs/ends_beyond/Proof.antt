@@ -14,11 +14,11 @@ same_test offset len room h =
     (λ t. t ∙ sym (lt-ltb room (offset + len) (omega (arith, ltb-true (room - offset) len t))))
     (λ e. e ∙ sym (le-ltb room (offset + len) (omega (arith, ltb-false (room - offset) len e))))
 
-returns : tie.Need-returns
-returns c = let a = c.before.args in sym (lt-ltb a.room (a.offset + a.len) (omega arith))
+returns : tie.Need-returns-then-offset-room
+returns c = let a = c.args in sym (lt-ltb a.room (a.offset + a.len) (omega arith))
 
-returns-2 : tie.Need-returns-2
-returns-2 c = let a = c.before.args in same_test a.offset a.len a.room (omega arith)
+returns-2 : tie.Need-returns
+returns-2 c = let a = c.args in same_test a.offset a.len a.room (omega arith)
 
-pub ends-beyond-spec : {M : Type 1} → statement M
-ends-beyond-spec = tie.close (tie.spec returns returns-2)
+pub ends_beyond_spec : {M : Type 1} → statement M
+ends_beyond_spec = tie.close (tie.spec returns returns-2)

@@ -6,46 +6,46 @@ use lib.ListN.{get_or}
 use Rattle.key_list.proofs.nth_key.Statement.{statement}
 use Rattle.key_list.proofs.nth_key.Tie as tie
 
-mul-from : tie.Need-overflow-mul-from
+mul-from : tie.Need-overflow_mul-from
 mul-from c = search rules
 
-mul-from-2 : tie.Need-overflow-mul-from-2
+mul-from-2 : tie.Need-offset_bounds-pairs-i
 mul-from-2 c = search rules
 
-shared-slice-read-from : tie.Need-shared-slice-read-from
+shared-slice-read-from : tie.Need-bounds-pairs-i
 shared-slice-read-from c = search rules
 
-mul-end : tie.Need-overflow-mul-end
+mul-end : tie.Need-overflow_mul-end
 mul-end c = search rules
 
-add-end : tie.Need-overflow-add-end
+add-end : tie.Need-overflow_add-end
 add-end c = search rules
 
-mul-end-2 : tie.Need-overflow-mul-end-2
+mul-end-2 : tie.Need-offset_bounds-pairs-i-2
 mul-end-2 c = search rules
 
-shared-slice-read-end : tie.Need-shared-slice-read-end
+shared-slice-read-end : tie.Need-bounds-pairs-i-2
 shared-slice-read-end c = search rules
 
-add-end-2 : tie.Need-overflow-add-end-2
+add-end-2 : tie.Need-overflow_add-end-2
 add-end-2 c = search rules
 
-sub-result : tie.Need-overflow-sub-result
+sub-result : tie.Need-slice_bounds-result-count
 sub-result c = search rules
 
-part-result-start : tie.Need-slice-bounds-result-start
+part-result-start : tie.Need-slice_bounds-result-start
 part-result-start c = search rules
 
-part-result-end : tie.Need-slice-bounds-result-end
+part-result-end : tie.Need-slice_bounds-result-end
 part-result-end c = search rules
 
 returns : tie.Need-returns
 returns c =
-    let a = c.before.before.before.args in
+    let a = c.args in
     rw (add-sub_cancel_left (get_or a.pairs.now (2 * a.i) 0) (get_or a.pairs.now (2 * a.i + 1) 0))
 
-pub nth-key-spec : {M : Type 1} → statement M
-nth-key-spec =
+pub nth_key_spec : {M : Type 1} → statement M
+nth_key_spec =
     tie.close
     (tie.spec
     mul-from

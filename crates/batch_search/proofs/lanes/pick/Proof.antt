@@ -1,18 +1,17 @@
 -- `batch_search::lanes::pick` meets its contract: of two masks one has all bits and the other none.
-use borrow.Author.Rules.{rules}
 use lib.Dec.{eqb}
 use native.Mathlib.Omega.{arith}
 use Rattle.batch_search.proofs.Picked.{either-fits, picked}
 use Rattle.batch_search.proofs.lanes.pick.Statement.{statement}
 use Rattle.batch_search.proofs.lanes.pick.Tie as tie
 
-mul-all : tie.Need-overflow-mul-all
+mul-all : tie.Need-overflow_mul-all
 mul-all c = omega (arith, c.requires)
 
-sub-result : tie.Need-overflow-sub-result
+sub-result : tie.Need-overflow_sub-result
 sub-result c = omega (arith, c.requires)
 
-add-result : tie.Need-overflow-add-result
+add-result : tie.Need-overflow_add-result
 add-result c =
     let a = c.args in
     let x = c.ranges.first.fits in

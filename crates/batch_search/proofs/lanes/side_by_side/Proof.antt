@@ -1,11 +1,9 @@
 -- `batch_search::lanes::side_by_side` meets its contract: each round halves what is left to every search.
 use borrow.Author.Rules.{rules}
 use mathlib.Core.Path.{◌≡◌, refl, sym, ◌∙◌}
-use mathlib.Core.Bool.{true, false, not, true≢false}
-use Prim.Native.Nat.{ℕ, ◌+◌, ◌-◌, ◌/◌, ◌≤◌, ◌<◌}
+use mathlib.Core.Bool.{true, false, true≢false}
 use native.Mathlib.Omega.{arith}
-use lib.ListN.{length, get_or, replicate}
-use borrow.Author.Tests.{not-true, not-false}
+use lib.ListN.{replicate}
 use Rattle.directory.specs.Read.{Sorted}
 use Rattle.batch_search.specs.Lanes.{LanesOk}
 use Rattle.batch_search.proofs.Turns.{zero-at, lanes-fresh, lanes-ended}
@@ -13,53 +11,48 @@ use Rattle.batch_search.proofs.Entries.{ended-in, ended-exact}
 use Rattle.batch_search.proofs.lanes.side_by_side.Statement.{statement}
 use Rattle.batch_search.proofs.lanes.side_by_side.Tie as tie
 
-abbrev invariant-loop : tie.invariant-loop
+abbrev invariant-loop : tie.invariant-loop-len
 invariant-loop directory n pairs keys found lefts₀ lows₀ highs₀ len₀ lefts lows highs len = LanesOk directory n pairs keys 0 len lefts lows highs
 
-abbrev decreases-loop : tie.decreases-loop
+abbrev decreases-loop : tie.decreases-loop-len
 decreases-loop directory n pairs keys found lefts₀ lows₀ highs₀ len₀ lefts lows highs len = len
 
-loop-holds : tie.Need-loop-init invariant-loop decreases-loop
-loop-holds c = let a = c.before.before.before.args in lanes-fresh a.directory.now a.n a.pairs.now a.keys.now (replicate 64 0) refl (zero-at 64)
+loop-holds : tie.Need-loop-len-init invariant-loop decreases-loop
+loop-holds c = let a = c.args in lanes-fresh a.directory.now a.n a.pairs.now a.keys.now (replicate 64 0) refl (zero-at 64)
 
 round-requires : tie.Need-round-requires invariant-loop decreases-loop
 round-requires c κs =
-    let l = c.before.before.before.before in
-    let s = l.before.before.before.before in
-    (s.requires.1, omega arith, s.requires.2, l.loop.invariant)
+    (c.requires.1, omega arith, c.requires.2, c.loop-len.invariant)
 
 -- where keys rise, no round ends early
-unended : (c : tie.Then1 invariant-loop decreases-loop) →
-    let a = c.before.before.before.before.before.before.before.before.before.before.args in
+unended : (c : tie.Then-not-round invariant-loop decreases-loop) →
+    let a = c.args in
     Sorted a.directory.now a.n → false ≡ true
-unended c sorted = sym (not-true _ c.if1.true) ∙ c.before.round.ensures.1 sorted
+unended c sorted = sym c.if-not-round.true ∙ c.round.ensures.1 sorted
 
-returns : tie.Need-returns invariant-loop decreases-loop
+returns : tie.Need-returns-then-not-round invariant-loop decreases-loop
 returns c =
-    let s = c.before.before.before.before.before.before.before.before.before.before in
     record {
-      long = s.requires.3;
+      long = c.requires.3;
       allowed = λ e. absurd (true≢false (sym e));
       ends = λ sorted. unended c sorted;
       exact = λ sorted i h. absurd (true≢false (sym (unended c sorted)));
     }
 
-loop-less : tie.Need-loop-smaller invariant-loop decreases-loop
+loop-less : tie.Need-loop-len-smaller invariant-loop decreases-loop
 loop-less c = search rules
 
-loop-again : tie.Need-loop-preserved invariant-loop decreases-loop
-loop-again c = c.before.round.ensures.0 (not-false _ c.if1.false)
+loop-again : tie.Need-loop-len-preserved invariant-loop decreases-loop
+loop-again c = c.round.ensures.0 c.if-not-round.false
 
 entries-requires : tie.Need-entries-requires invariant-loop decreases-loop
-entries-requires c κs = let s = c.before.before.before.before.before.before.before in (omega (arith, s.requires.2.few), s.requires.3)
+entries-requires c κs = (omega (arith, c.requires.2.few), c.requires.3)
 
-returns-2 : tie.Need-returns-2 invariant-loop decreases-loop
+returns-2 : tie.Need-returns invariant-loop decreases-loop
 returns-2 c =
-    let e = c.before in
-    let l = e.before.before.before in
-    let a = l.before.before.before.before.args in
-    let z : l.loop.len ≡ 0 = omega arith in
-    let ended = lanes-ended a.directory.now a.n a.pairs.now a.keys.now l.loop.lefts l.loop.lows l.loop.highs (rw z at l.loop.invariant) in
+    let a = c.args in
+    let z : c.loop-len.len ≡ 0 = omega arith in
+    let ended = lanes-ended a.directory.now a.n a.pairs.now a.keys.now c.loop-len.lefts c.loop-len.lows c.loop-len.highs (rw z at c.loop-len.invariant) in
     record {
       long = c.entries.ensures.0;
       allowed = λ t i h. rw (c.entries.ensures.1 i (omega arith)) (ended-in _ _ _ _ _ _ (ended i h));
@@ -67,8 +60,8 @@ returns-2 c =
       exact = λ sorted i h. rw (c.entries.ensures.1 i (omega arith)) (ended-exact _ _ _ _ _ _ (ended i h) sorted);
     }
 
-pub side-by-side-spec : {M : Type 1} → statement M
-side-by-side-spec =
+pub side_by_side_spec : {M : Type 1} → statement M
+side_by_side_spec =
     tie.close
     (tie.spec
     invariant-loop
