@@ -13,7 +13,7 @@ use Rattle.serialize.proofs.Tests.{neither}
 use Rattle.keys.specs.Order.{less, ◌≺◌}
 use Rattle.group.specs.declared.BlockAddr.{BlockAddr}
 use Rattle.group.specs.Legal.{NumbersOk, Follows}
-use Rattle.group.specs.Rows.{are_numbers_bad, is_join_bad, is_ordinal_bad, or_row}
+use Rattle.group.specs.Rows.{are_numbers_bad, is_join_bad, is_ordinal_bad}
 use Rattle.group.proofs.Legal as legal
 use Rattle.group.proofs.RowOrder.{or_row-first, or_row-zero}
 use Rattle.builder.specs.declared.SSTableIndexBuilder.{SSTableIndexBuilder}

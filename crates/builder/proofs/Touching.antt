@@ -1,5 +1,5 @@
 -- Row 8's test of each record refuses nothing by itself: where row 1 isn't hit and the keys touch, every key stands in the key area.
-use Prim.Native.Nat.{ℕ, zero, suc, ◌+◌, ◌≤◌, ◌<◌}
+use Prim.Native.Nat.{ℕ, zero, suc, ◌≤◌, ◌<◌}
 use mathlib.Core.Path.{◌≡◌, refl}
 use mathlib.Core.List.{List}
 use mathlib.Core.Bool.{false}

@@ -1,30 +1,32 @@
 // The index builder over two lent areas: `SSTableIndexBuilder` of src/index/mod.rs, and what its calls answer.
+#![tactic(auto)]
+
 pub mod record;
 
 ghost use Rattle.std.specs.Prelude.{◌≡◌};
 ghost use Rattle.builder.specs.Calls.{builder_of, with_blocks};
 
-#[derive(Drop)]
+#[derive(Clone, Copy)]
 pub struct SSTableIndexBuilder {
     pub n: usize,
 }
 
 // The builder taken on, or a row's number and the builder as it was.
-#[derive(Drop)]
+#[derive(Clone, Copy)]
 pub enum Answer {
     Taken(SSTableIndexBuilder),
     Refused(u32, SSTableIndexBuilder),
 }
 
 // The index's and its directory's length, or a row's number; and the builder as it was.
-#[derive(Drop)]
+#[derive(Clone, Copy)]
 pub enum Finished {
     Written(SSTableIndexBuilder, usize, usize),
     Unwritten(u32, SSTableIndexBuilder),
 }
 
 // The length that a finish would need, or a row's number.
-#[derive(Drop)]
+#[derive(Clone, Copy)]
 pub enum FinishLen {
     Total(usize),
     Refused(u32),

@@ -35,5 +35,5 @@ pub fn append(
     blocks[at + FIRST_ORDINAL] = block.first_ordinal;
     blocks[at + KEY_OFFSET] = offset as u64;
     blocks[at + KEY_LEN] = key.len() as u64;
-    bytes::copy(key, &mut keys[offset..]);
+    byte_copy::copy(key, &mut keys[offset..]);
 }

@@ -1,4 +1,6 @@
 // Adding a block and shortening the last key.
+#![tactic(auto)]
+
 mod add;
 mod shorten;
 
@@ -17,7 +19,7 @@ pub fn add_block(
     last_key: &[u8],
     block: BlockAddr,
 ) -> Answer
-    ensures keys_after { called result blocks.new keys.new
+    ensures answers { called result blocks.new keys.new
         ≡ add_def builder blocks.old keys.old last_key.now block }
     ensures answer_cased { AnswerCased result }
 {
@@ -37,7 +39,7 @@ pub fn shorten_last_block_key_given_next_key(
     keys: &mut [u8],
     next_key: &[u8],
 ) -> Answer
-    ensures keys_after { called result blocks.new keys.new
+    ensures answers { called result blocks.new keys.new
         ≡ shorten_def builder blocks.old keys.old next_key.now }
     ensures answer_cased { AnswerCased result }
 {

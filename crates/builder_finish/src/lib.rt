@@ -1,4 +1,6 @@
 // Finishing: the index of the builder's areas.
+#![tactic(auto)]
+
 mod write;
 
 ghost use Rattle.std.specs.Prelude.{◌≡◌};
@@ -13,7 +15,7 @@ const FEW_BLOCKS: usize = 1_024;
 
 // Writes the index from the front of `out` on: the Rust's `serialize`.
 pub fn finish(builder: SSTableIndexBuilder, blocks: &[u64], keys: &[u8], out: &mut [u8]) -> Finished
-    ensures out_after { finish_of result out.new
+    ensures finishes { finish_of result out.new
         ≡ finish_def standard builder blocks.now keys.now out.old }
     ensures finished_cased { FinishedCased result }
 {

@@ -68,7 +68,7 @@ pub fn finish_with(
 ) -> Finished
     requires { (list_no builder blocks.now keys.now ≡ 0) × GroupLenOk group_len
         × (2 * group_count group_len builder.n ≤ length kept.old) }
-    ensures out_after { finish_of result out.new
+    ensures finishes { finish_of result out.new
         ≡ finish_def (settings_of group_len) builder blocks.now keys.now out.old }
     ensures finished_cased { FinishedCased result }
 {

@@ -1,4 +1,6 @@
 // Rows 1 and 8: what a finish asks of the areas.
+#![tactic(auto)]
+
 ghost use Rattle.std.specs.Prelude.{◌≡◌, ◌+◌, ◌*◌, ◌<◌, false};
 ghost use Rattle.builder.specs.Rows.{AreaOk};
 ghost use Rattle.builder.specs.Area.{area_view, view_of};

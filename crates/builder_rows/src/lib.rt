@@ -1,4 +1,6 @@
 // Rows 1 to 7 of the table.
+#![tactic(auto)]
+
 ghost use Rattle.std.specs.Prelude.{◌≡◌, ◌+◌, ◌*◌, ◌≤◌, ◌<◌, length};
 ghost use Rattle.layout.specs.Layout.{max_blocks};
 ghost use Rattle.keys.specs.Order.{common_prefix_len};

@@ -89,8 +89,8 @@ plain-room rooms (e ∷ es) = (refl, refl)
 
 -- ---- what stands before a change stays
 
-front-get_d : (m : ℕ) (B B' : List ℕ) (j : ℕ) → j < m → take m B' ≡ take m B → get_or B' j 0 ≡ get_or B j 0
-front-get_d m B B' j h e = sym (get_or-take m B' j 0 h) ∙ ap (λ (l : List ℕ). get_or l j 0) e ∙ get_or-take m B j 0 h
+front-get_or : (m : ℕ) (B B' : List ℕ) (j : ℕ) → j < m → take m B' ≡ take m B → get_or B' j 0 ≡ get_or B j 0
+front-get_or m B B' j h e = sym (get_or-take m B' j 0 h) ∙ ap (λ (l : List ℕ). get_or l j 0) e ∙ get_or-take m B j 0 h
 
 drop-take : (n m : ℕ) (l : List ℕ) → drop n (take (n + m) l) ≡ take m (drop n l)
 drop-take zero m l = rw (zero-add m)
@@ -109,7 +109,7 @@ unfolding Holds key_bytes_taken
 holds_kept [] B K B' K' m k h g p q w = tt
 holds_kept (e ∷ es) B K B' K' m k h g p q w =
     let i : ℕ = length es in
-    let same : (j : ℕ) → j < m → get_or B' j 0 ≡ get_or B j 0 = λ j l. front-get_d m B B' j l p in (
+    let same : (j : ℕ) → j < m → get_or B' j 0 ≡ get_or B j 0 = λ j l. front-get_or m B B' j l p in (
       record {
         block =
             rw (same (stride * i) (omega arith), same (stride * i + 1) (omega arith), same (stride * i + 2) (omega arith)) w.0.block;
@@ -128,8 +128,8 @@ holds_kept (e ∷ es) B K B' K' m k h g p q w =
 
 -- ---- an accepted add
 
-get_d_sets : (B w : List ℕ) (at j : ℕ) → at + length w ≤ length B → j < length w → get_or (sets B at w) (at + j) 0 ≡ get_or w j 0
-get_d_sets B w at j h l =
+get_or-sets : (B w : List ℕ) (at j : ℕ) → at + length w ≤ length B → j < length w → get_or (sets B at w) (at + j) 0 ≡ get_or w j 0
+get_or-sets B w at j h l =
     sym (get_or-drop at (sets B at w) j 0)
     ∙ sym (get_or-take (length w) (drop at (sets B at w)) j 0 l)
     ∙ ap (λ (x : List ℕ). get_or x j 0) (sets-part B w at h)
@@ -142,7 +142,7 @@ added-held : (b : BlockAddr) (key : List ℕ) (i at : ℕ) (B K : List ℕ) → 
     → Held (record { block = b; key = key }) i at (sets B (stride * i) (record_numbers b (place_at at key))) (sets K at key)
 added-held b key i at B K h g =
     let w : List ℕ = record_numbers b (place_at at key) in
-    let n : (j : ℕ) → j < stride → get_or (sets B (stride * i) w) (stride * i + j) 0 ≡ get_or w j 0 = λ j l. get_d_sets B w (stride * i) j h l in
+    let n : (j : ℕ) → j < stride → get_or (sets B (stride * i) w) (stride * i + j) 0 ≡ get_or w j 0 = λ j l. get_or-sets B w (stride * i) j h l in
     record {
       block = rw (rw (add-zero (stride * i)) at (n 0 (omega arith)), n 1 (omega arith), n 2 (omega arith));
       offset = n 3 (omega arith);

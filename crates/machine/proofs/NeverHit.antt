@@ -1,5 +1,5 @@
 -- Rows 1 and 8 are never hit by a list of calls from a fresh builder: none of its numbers is 1 or 8.
-use Prim.Native.Nat.{ℕ, zero, suc, ◌+◌}
+use Prim.Native.Nat.{ℕ, zero, suc}
 use mathlib.Core.Path.{◌≡◌, refl}
 use mathlib.Core.List.{List, [], ◌∷◌}
 use mathlib.Core.Bool.{Bool, true, false, ◌&&◌, cond}
@@ -13,7 +13,7 @@ use Rattle.builder.specs.View.{View}
 use Rattle.builder.specs.Rows.{area_bad, key_long, key_no, key_bad, room_bad, block_no, add_no, shorten_no}
 use Rattle.builder.specs.Calls.{State}
 use Rattle.builder.proofs.Views.{area-good}
-use Rattle.machine.specs.Plain.{Entry, Call, add, shorten_last, key_bytes_taken, plain_view, call_no}
+use Rattle.machine.specs.Plain.{Entry, Call, add, shorten_last, plain_view, call_no}
 use Rattle.machine.specs.Runs.{FreshState, rooms_of, call_def, run_numbers}
 use Rattle.machine.proofs.Entries.{Rep, fresh, plain-n, plain-place, plain-room}
 use Rattle.machine.proofs.Machine.{step}

@@ -1,6 +1,6 @@
 -- The plain machine's finish by cases: its number is 9 or 0, and what it leaves with each.
 use Prim.Native.Nat.{ℕ, ◌+◌, ◌≤◌, ◌<◌}
-use mathlib.Core.Path.{◌≡◌, refl, ap, ◌∙◌}
+use mathlib.Core.Path.{◌≡◌, ap}
 use mathlib.Core.Logic.{◌⊎◌, inl, inr, ⊎_elim}
 use mathlib.Core.List.{List, []}
 use native.Mathlib.Nat.{zero-add}

@@ -1,9 +1,10 @@
 -- `shorten_last_block_key_given_next_key` meets its contract: rows 1, 2 and 6 in their order, then the shortening.
 use borrow.Author.Rules.{rules}
 use mathlib.Core.Path.{◌≡◌, sym, ◌∙◌}
-use mathlib.Core.Bool.{false}
+use mathlib.Core.Bool.{Bool, false}
 use native.Mathlib.Omega.{arith}
 use Rattle.keys.proofs.Order.{common_prefix_len-left}
+use Rattle.builder.specs.View.{View}
 use Rattle.builder.specs.Rows.{area_bad, AreaOk}
 use Rattle.builder.specs.Area.{view_of}
 use Rattle.builder.proofs.Views.{area-ok}
@@ -20,103 +21,93 @@ use Rattle.builder_add.proofs.shorten_last_block_key_given_next_key.Statement.{
 }
 use Rattle.builder_add.proofs.shorten_last_block_key_given_next_key.Tie as tie
 
-good : (c : tie.Else1)
-    → let a = c.before.before.before.before.before.before.before.args in
-    area_bad (view_of a.builder a.blocks.now a.keys.now) ≡ false
-good c = sym c.before.area-bad.ensures ∙ c.if1.false
+-- past row 1
+good : (v : View) {t : Bool} → t ≡ area_bad v → t ≡ false → area_bad v ≡ false
+good v e f = sym e ∙ f
 
-ok : (c : tie.Else1)
-    → let a = c.before.before.before.before.before.before.before.args in
-    AreaOk (view_of a.builder a.blocks.now a.keys.now)
-ok c = area-ok _ (good c)
+ok : (v : View) {t : Bool} → t ≡ area_bad v → t ≡ false → AreaOk v
+ok v e f = area-ok v (good v e f)
 
-area-bad-requires : tie.Need-area-bad-requires
+area-bad-requires : tie.Need-area_bad-requires
 area-bad-requires c κs = search rules
 
-same_length : tie.Need-same-length
+same_length : tie.Need-shape_of-blocks-then-area_bad
 same_length c = search rules
 
-same-length-2 : tie.Need-same-length-2
+same-length-2 : tie.Need-shape_of-keys-then-area_bad
 same-length-2 c = search rules
 
-returns : tie.Need-returns
+returns : tie.Need-returns-then-area_bad
 returns c =
-    let a = c.before.before.before.before.before.before.before.args in
-    shorten-refused a.builder a.blocks.now a.keys.now a.next-key.now 1
-    (shorten-area _ _ (sym c.before.area-bad.ensures ∙ c.if1.true)) (λ e. omega arith)
+    let a = c.args in
+    shorten-refused a.builder a.blocks.now a.keys.now a.next_key.now 1
+    (shorten-area _ _ (sym c.area_bad.ensures ∙ c.if-area_bad.true)) (λ e. omega arith)
 
-key-no-requires : tie.Need-key-no-requires
+key-no-requires : tie.Need-key_no-key_no-requires
 key-no-requires c κs = search rules
 
-same-length-3 : tie.Need-same-length-3
+same-length-3 : tie.Need-shape_of-blocks-then-key_no-ne0
 same-length-3 c = search rules
 
-same-length-4 : tie.Need-same-length-4
+same-length-4 : tie.Need-shape_of-keys-then-key_no-ne0
 same-length-4 c = search rules
 
-returns-2 : tie.Need-returns-2
+returns-2 : tie.Need-returns-then-key_no-ne0
 returns-2 c =
-    let a = c.before.before.before.before.before.before.before.before.before.args in
-    shorten-refused a.builder a.blocks.now a.keys.now a.next-key.now c.before.key-no.result
-    (shorten-key _ _ (good c.before.before) _ c.before.key-no.ensures c.if2.true) c.if2.true
+    let a = c.args in
+    shorten-refused a.builder a.blocks.now a.keys.now a.next_key.now c.key_no-key_no.result
+    (shorten-key _ _ (good _ c.area_bad.ensures c.if-area_bad.false) _ c.key_no-key_no.ensures c.if-key_no-ne0.true)
+    c.if-key_no-ne0.true
 
-common-len-requires : tie.Need-common-len-requires
-common-len-requires c κs = ok c.before.before.before.before
+common-len-requires : tie.Need-common_len-common-requires
+common-len-requires c κs = ok _ c.area_bad.ensures c.if-area_bad.false
 
-key-bad-behind-requires : tie.Need-key-bad-behind-requires
+key-bad-behind-requires : tie.Need-key_bad_behind-requires
 key-bad-behind-requires c κs =
-    let d = c.before.before in
-    (ok d.before.before.before.before.before, d.common-len.ensures)
+    (ok _ c.area_bad.ensures c.if-area_bad.false, c.common_len-common.ensures)
 
-same-length-5 : tie.Need-same-length-5
+same-length-5 : tie.Need-shape_of-blocks-then-key_bad_behind
 same-length-5 c = search rules
 
-same-length-6 : tie.Need-same-length-6
+same-length-6 : tie.Need-shape_of-keys-then-key_bad_behind
 same-length-6 c = search rules
 
-returns-3 : tie.Need-returns-3
+returns-3 : tie.Need-returns-then-key_bad_behind
 returns-3 c =
-    let d = c.before.before.before.before.before.before.before in
-    let a = d.before.before.before.before.before.before.before.before.before.args in
-    shorten-refused a.builder a.blocks.now a.keys.now a.next-key.now 6
-    (shorten-not-above _ _ (good d.before.before) _ d.before.key-no.ensures d.if2.false
-    (sym c.before.key-bad-behind.ensures ∙ c.if3.true))
+    let a = c.args in
+    shorten-refused a.builder a.blocks.now a.keys.now a.next_key.now 6
+    (shorten-not-above _ _ (good _ c.area_bad.ensures c.if-area_bad.false) _ c.key_no-key_no.ensures c.if-key_no-ne0.false
+    (sym c.key_bad_behind.ensures ∙ c.if-key_bad_behind.true))
     (λ e. omega arith)
 
-shorten-last-requires : tie.Need-shorten-last-requires
+shorten-last-requires : tie.Need-shorten_last-requires
 shorten-last-requires c κs =
-    let f = c.before.before.before.before.before.before in
-    let d = f.before.before.before in
-    let a = d.before.before.before.before.before.before.before.before.before.args in (
-      ok d.before.before,
+    let a = c.args in (
+      ok _ c.area_bad.ensures c.if-area_bad.false,
       omega (
         arith,
-        f.common-len.ensures,
-        common_prefix_len-left (view_of a.builder a.blocks.now a.keys.now).last_key a.next-key.now,
+        c.common_len-common.ensures,
+        common_prefix_len-left (view_of a.builder a.blocks.now a.keys.now).last_key a.next_key.now,
       ),
     )
 
-same-length-7 : tie.Need-same-length-7
+same-length-7 : tie.Need-shape_of-blocks
 same-length-7 c = search rules
 
-same-length-8 : tie.Need-same-length-8
+same-length-8 : tie.Need-shape_of-keys
 same-length-8 c = search rules
 
-returns-4 : tie.Need-returns-4
+returns-4 : tie.Need-returns
 returns-4 c =
-    let call = c.before.before.before.before.shorten-last in
-    let e = c.before.before.before.before.before.before.before in
-    let f = e.before.before.before.before in
-    let d = f.before.before.before in
-    let a = d.before.before.before.before.before.before.before.before.before.args in
-    let left = call.ensures a.next-key.now f.common-len.ensures in
+    let a = c.args in
+    let left = c.shorten_last.ensures a.next_key.now c.common_len-common.ensures in
     let none =
-    shorten-none _ _ (good d.before.before) _ d.before.key-no.ensures d.if2.false
-    (sym e.before.key-bad-behind.ensures ∙ e.if3.false) in
-    (shorten-taken a.builder a.blocks.now a.keys.now a.next-key.now _ _ none left.0 left.1, tt)
+    shorten-none _ _ (good _ c.area_bad.ensures c.if-area_bad.false) _ c.key_no-key_no.ensures c.if-key_no-ne0.false
+    (sym c.key_bad_behind.ensures ∙ c.if-key_bad_behind.false) in
+    (shorten-taken a.builder a.blocks.now a.keys.now a.next_key.now _ _ none left.0 left.1, tt)
 
-pub shorten-last-block-key-given-next-key-spec : {M : Type 1} → statement M
-shorten-last-block-key-given-next-key-spec =
+pub shorten_last_block_key_given_next_key_spec : {M : Type 1} → statement M
+shorten_last_block_key_given_next_key_spec =
     tie.close
     (tie.spec
     area-bad-requires

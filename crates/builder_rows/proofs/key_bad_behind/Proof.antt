@@ -19,27 +19,26 @@ behind-block : (v : View) (key last : List ℕ) (t : Bool) → (v.n ≡ 0 → �
 unfolding key_bad
 behind-block v key last t h w e = rw (lt-ltb 0 v.n (omega arith), e, w)
 
-returns : tie.Need-returns
+returns : tie.Need-returns-then-builder-eq0
 unfolding key_bad area_view
-returns c = simp (le-ltb 0 c.before.before.before.before.before.args.builder.n (omega arith))
+returns c = simp (le-ltb 0 c.args.builder.n (omega arith))
 
-last-key-requires : tie.Need-last-key-requires
+last-key-requires : tie.Need-last_key-requires
 last-key-requires c κs = search rules
 
-lt-behind-requires : tie.Need-lt-behind-requires
+lt-behind-requires : tie.Need-lt_behind-requires
 lt-behind-requires c κs = search rules
 
-some : (c : tie.Else1)
-    → let a = c.before.before.before.before.before.args in
+some : (c : tie.Else-builder-eq0)
+    → let a = c.args in
     (view_of a.builder a.blocks.now a.keys.now).n ≡ 0 → ⊥
 unfolding area_view
-some c = c.if1.false
+some c = c.if-builder-eq0.false
 
-returns-2 : tie.Need-returns-2
+returns-2 : tie.Need-returns
 returns-2 c =
-    let s = c.before.before.before.before.before.before.before in
-    let counted = s.requires.1 ∙ ap (λ (last : List ℕ). common_prefix_len last s.args.key.now) (sym c.before.last-key.ensures) in
-    behind-block _ _ _ _ (some c.before.before) c.before.last-key.ensures (c.lt-behind.ensures counted)
+    let counted = c.requires.1 ∙ ap (λ (last : List ℕ). common_prefix_len last c.args.key.now) (sym c.last_key.ensures) in
+    behind-block _ _ _ _ (some c.before.before) c.last_key.ensures (c.lt_behind.ensures counted)
 
-pub key-bad-behind-spec : {M : Type 1} → statement M
-key-bad-behind-spec = tie.close (tie.spec returns last-key-requires lt-behind-requires returns-2)
+pub key_bad_behind_spec : {M : Type 1} → statement M
+key_bad_behind_spec = tie.close (tie.spec returns last-key-requires lt-behind-requires returns-2)

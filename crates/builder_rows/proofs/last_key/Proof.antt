@@ -11,71 +11,70 @@ use Rattle.builder_rows.proofs.last_key.Statement.{statement}
 use Rattle.builder_rows.proofs.last_key.Tie as tie
 
 -- the last key ends inside the key area
-inside : (c : tie.Else1)
-    → let p = area_place c.before.args.blocks.now (c.before.args.builder.n - 1) in
-    p.offset + p.len ≤ length c.before.args.keys.now
+inside : (c : tie.Else-n-eq0)
+    → let p = area_place c.args.blocks.now (c.args.builder.n - 1) in
+    p.offset + p.len ≤ length c.args.keys.now
 inside c =
-    let a = c.before.args in
-    (last-place a.builder.n a.blocks.now a.keys.now c.before.requires c.if1.false).within
+    let a = c.args in
+    (last-place a.builder.n a.blocks.now a.keys.now c.requires c.if-n-eq0.false).within
 
-slice-aggregate-result : tie.Need-slice-aggregate-result
+slice-aggregate-result : tie.Need-slice_bounds-result-end
 slice-aggregate-result c = search rules
 
-returns : tie.Need-returns
+returns : tie.Need-returns-then-n-eq0
 unfolding area_view
-returns c = simp (eq-eqb _ _ c.before.if1.true)
+returns c = simp (eq-eqb _ _ c.if-n-eq0.true)
 
-sub_at : tie.Need-overflow-sub-at
+sub_at : tie.Need-overflow_sub-at
 sub_at c = search rules
 
-mul_at : tie.Need-overflow-mul-at
+mul_at : tie.Need-overflow_mul-at
 unfolding area_view
 mul_at c = search rules
 
-add-offset : tie.Need-overflow-add-offset
+add-offset : tie.Need-overflow_add-offset
 unfolding area_view
 add-offset c = search rules
 
-mul-offset : tie.Need-overflow-mul-offset
+mul-offset : tie.Need-offset_bounds-blocks-at
 unfolding area_view
 mul-offset c = search rules
 
-shared-slice-read-offset : tie.Need-shared-slice-read-offset
+shared-slice-read-offset : tie.Need-bounds-blocks-at
 unfolding area_view
 shared-slice-read-offset c = search rules
 
-add-end : tie.Need-overflow-add-end
+add-end : tie.Need-overflow_add-end
 unfolding area_view
 add-end c = search rules
 
-mul-end : tie.Need-overflow-mul-end
+mul-end : tie.Need-offset_bounds-blocks-at-2
 unfolding area_view
 mul-end c = search rules
 
-shared-slice-read-end : tie.Need-shared-slice-read-end
+shared-slice-read-end : tie.Need-bounds-blocks-at-2
 unfolding area_view
 shared-slice-read-end c = search rules
 
-add-end-2 : tie.Need-overflow-add-end-2
+add-end-2 : tie.Need-overflow_add-end-2
 add-end-2 c = omega (arith, inside c.before.before)
 
-sub-result : tie.Need-overflow-sub-result
+sub-result : tie.Need-slice_bounds-result-count
 sub-result c = search rules
 
-part-result-start : tie.Need-slice-bounds-result-start
+part-result-start : tie.Need-slice_bounds-result-start
 part-result-start c = search rules
 
-part-result-end : tie.Need-slice-bounds-result-end
+part-result-end : tie.Need-slice_bounds-result-end-2
 part-result-end c = omega (arith, inside c.before.before)
 
-returns-2 : tie.Need-returns-2
+returns-2 : tie.Need-returns
 returns-2 c =
-    let b = c.before.before.before in
-    let a = b.before.args in
-    simp (key-some a.builder.n a.blocks.now a.keys.now b.if1.false, add-sub_cancel_left)
+    let a = c.args in
+    simp (key-some a.builder.n a.blocks.now a.keys.now c.if-n-eq0.false, add-sub_cancel_left)
 
-pub last-key-spec : {M : Type 1} → statement M
-last-key-spec =
+pub last_key_spec : {M : Type 1} → statement M
+last_key_spec =
     tie.close
     (tie.spec
     slice-aggregate-result

@@ -11,43 +11,41 @@ use Rattle.builder_rows.proofs.room_bad.Statement.{statement}
 use Rattle.builder_rows.proofs.room_bad.Tie as tie
 
 -- the next key starts inside the key area
-within : (c : tie.After-next-key)
-    → c.next-key.result ≤ length c.before.before.before.before.before.before.args.keys.now
+within : (c : tie.After-next_key)
+    → c.next_key.result ≤ length c.args.keys.now
 within c =
-    let s = c.before.before.before.before.before.before in
-    let a = s.args in
-    omega (arith, c.next-key.ensures, next-within a.builder.n a.blocks.now a.keys.now s.requires)
+    let a = c.args in
+    omega (arith, c.next_key.ensures, next-within a.builder.n a.blocks.now a.keys.now c.requires)
 
-returns : tie.Need-returns
+returns : tie.Need-returns-then-n-eq-MAX_BLOCKS
 unfolding room_bad area_view
-returns c = simp (eq-eqb _ _ c.if1.true)
+returns c = simp (eq-eqb _ _ c.if-n-eq-MAX_BLOCKS.true)
 
-mul-if2 : tie.Need-overflow-mul-if2
+mul-if2 : tie.Need-overflow_mul-n
 unfolding area_view
 mul-if2 c = search rules
 
-add-if2 : tie.Need-overflow-add-if2
+add-if2 : tie.Need-overflow_add-n
 unfolding area_view
 add-if2 c = search rules
 
-returns-2 : tie.Need-returns-2
+returns-2 : tie.Need-returns-then-blocks-n
 unfolding room_bad area_view
-returns-2 c = simp (ne_eqb _ _ c.before.if1.false, lt-ltb _ _ c.if2.true)
+returns-2 c = simp (ne_eqb _ _ c.if-n-eq-MAX_BLOCKS.false, lt-ltb _ _ c.if-blocks-n.true)
 
-next-key-requires : tie.Need-next-key-requires
+next-key-requires : tie.Need-next_key-requires
 next-key-requires c κs = search rules
 
-sub-result : tie.Need-overflow-sub-result
+sub-result : tie.Need-overflow_sub-result
 sub-result c = omega (arith, within c)
 
-returns-3 : tie.Need-returns-3
+returns-3 : tie.Need-returns
 unfolding area_view
 returns-3 c =
-    let s = c.before.before.before.before.before.before in
-    let a = s.args in
-    room-keys (area_view a.builder.n a.blocks.now a.keys.now) a.key.now c.next-key.result
-    c.before.before.if1.false c.before.if2.false c.next-key.ensures (within c)
+    let a = c.args in
+    room-keys (area_view a.builder.n a.blocks.now a.keys.now) a.key.now c.next_key.result
+    c.if-n-eq-MAX_BLOCKS.false c.if-blocks-n.false c.next_key.ensures (within c)
 
-pub room-bad-spec : {M : Type 1} → statement M
-room-bad-spec =
+pub room_bad_spec : {M : Type 1} → statement M
+room_bad_spec =
     tie.close (tie.spec returns mul-if2 add-if2 returns-2 next-key-requires sub-result returns-3)

@@ -22,83 +22,82 @@ copied K key at part h e =
     let w : part ≡ sets P 0 key = e ∙ rw (take-length key, sets-eq key P 0 room, zero-add (length key)) in
     rw w (rw (add-zero at) at (sets-in-part K key at 0))
 
-next-key-requires : tie.Need-next-key-requires
+next-key-requires : tie.Need-next_key-offset-requires
 next-key-requires c κs = search rules
 
-mul_at : tie.Need-overflow-mul-at
+mul_at : tie.Need-overflow_mul-at
 mul_at c = search rules
 
-mul-blocks : tie.Need-overflow-mul-blocks
+mul-blocks : tie.Need-offset_bounds-blocks-at
 mul-blocks c = search rules
 
-slice-write-blocks : tie.Need-slice-write-blocks
+slice-write-blocks : tie.Need-bounds-blocks-at
 slice-write-blocks c = search rules
 
-add-blocks : tie.Need-overflow-add-blocks
+add-blocks : tie.Need-overflow_add-blocks
 add-blocks c = search rules
 
-mul-blocks-2 : tie.Need-overflow-mul-blocks-2
+mul-blocks-2 : tie.Need-offset_bounds-blocks-at-2
 mul-blocks-2 c = search rules
 
-slice-write-blocks-2 : tie.Need-slice-write-blocks-2
+slice-write-blocks-2 : tie.Need-bounds-blocks-at-2
 slice-write-blocks-2 c = simp length-set (omega arith)
 
-add-blocks-2 : tie.Need-overflow-add-blocks-2
+add-blocks-2 : tie.Need-overflow_add-blocks-2
 add-blocks-2 c = search rules
 
-mul-blocks-3 : tie.Need-overflow-mul-blocks-3
+mul-blocks-3 : tie.Need-offset_bounds-blocks-at-3
 mul-blocks-3 c = search rules
 
-slice-write-blocks-3 : tie.Need-slice-write-blocks-3
+slice-write-blocks-3 : tie.Need-bounds-blocks-at-3
 slice-write-blocks-3 c = simp length-set (omega arith)
 
-add-blocks-3 : tie.Need-overflow-add-blocks-3
+add-blocks-3 : tie.Need-overflow_add-blocks-3
 add-blocks-3 c = search rules
 
-mul-blocks-4 : tie.Need-overflow-mul-blocks-4
+mul-blocks-4 : tie.Need-offset_bounds-blocks-at-4
 mul-blocks-4 c = search rules
 
-slice-write-blocks-4 : tie.Need-slice-write-blocks-4
+slice-write-blocks-4 : tie.Need-bounds-blocks-at-4
 slice-write-blocks-4 c = simp length-set (omega arith)
 
-add-blocks-4 : tie.Need-overflow-add-blocks-4
+add-blocks-4 : tie.Need-overflow_add-blocks-4
 add-blocks-4 c = search rules
 
-mul-blocks-5 : tie.Need-overflow-mul-blocks-5
+mul-blocks-5 : tie.Need-offset_bounds-blocks-at-5
 mul-blocks-5 c = search rules
 
-slice-write-blocks-5 : tie.Need-slice-write-blocks-5
+slice-write-blocks-5 : tie.Need-bounds-blocks-at-5
 slice-write-blocks-5 c = simp length-set (omega arith)
 
-sub-copy : tie.Need-overflow-sub-copy
+sub-copy : tie.Need-slice_bounds-copy-count
 sub-copy c = search rules
 
-part-copy-start : tie.Need-slice-bounds-copy-start
+part-copy-start : tie.Need-slice_bounds-copy-start
 part-copy-start c = search rules
 
-part-copy-end : tie.Need-slice-bounds-copy-end
+part-copy-end : tie.Need-slice_bounds-copy-end
 part-copy-end c = search rules
 
 copy-requires : tie.Need-copy-requires
 copy-requires c κs = search rules
 
-same_length : tie.Need-same-length
+same_length : tie.Need-shape_of-blocks
 same_length c = search rules
 
-same-length-2 : tie.Need-same-length-2
+same-length-2 : tie.Need-shape_of-keys
 same-length-2 c = search rules
 
 returns : tie.Need-returns
 returns c =
-    let s = c.before.before.before.before.before.before.before.before.before.before.before in
-    let next = c.before.before.before.before.before.next-key in (
+    let next = c.next_key-offset in (
       rw (← next.ensures) (simp towards_suc),
       rw (← next.ensures)
-          (copied s.args.keys.now s.args.key.now next.result _ (omega (arith, s.requires.2)) c.before.before.copy.ensures.1),
+          (copied c.args.keys.now c.args.key.now next.result _ (omega (arith, c.requires.2)) c.copy.ensures.1),
     )
 
-pub append-spec : {M : Type 1} → statement M
-append-spec =
+pub append_spec : {M : Type 1} → statement M
+append_spec =
     tie.close
     (tie.spec
     next-key-requires

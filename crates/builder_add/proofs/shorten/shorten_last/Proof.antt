@@ -20,81 +20,78 @@ within-key n B K common some h =
     let g : common ≤ length (area_key B K (n - 1)) = rw (key-some n B K some) at h in
     omega (arith, length-take (area_place B (n - 1)).len (drop (area_place B (n - 1)).offset K))
 
-returns : tie.Need-returns
+returns : tie.Need-returns-then-n-eq0
 unfolding short_blocks short_keys
-returns c = λ next e. rw (eq-eqb _ _ c.if1.true) (refl, refl)
+returns c = λ next e. rw (eq-eqb _ _ c.if-n-eq0.true) (refl, refl)
 
-sub_at : tie.Need-overflow-sub-at
+sub_at : tie.Need-overflow_sub-at
 sub_at c = search rules
 
-mul_at : tie.Need-overflow-mul-at
+mul_at : tie.Need-overflow_mul-at
 unfolding area_view
 mul_at c = search rules
 
-add-offset : tie.Need-overflow-add-offset
+add-offset : tie.Need-overflow_add-offset
 unfolding area_view
 add-offset c = search rules
 
-mul-offset : tie.Need-overflow-mul-offset
+mul-offset : tie.Need-offset_bounds-blocks-at
 unfolding area_view
 mul-offset c = search rules
 
-slice-read-offset : tie.Need-slice-read-offset
+slice-read-offset : tie.Need-bounds-blocks-at
 unfolding area_view
 slice-read-offset c = search rules
 
-add-len : tie.Need-overflow-add-len
+add-len : tie.Need-overflow_add-len
 unfolding area_view
 add-len c = search rules
 
-mul-len : tie.Need-overflow-mul-len
+mul-len : tie.Need-offset_bounds-blocks-at-2
 unfolding area_view
 mul-len c = search rules
 
-slice-read-len : tie.Need-slice-read-len
+slice-read-len : tie.Need-bounds-blocks-at-2
 unfolding area_view
 slice-read-len c = search rules
 
-shorter-str-behind-requires : tie.Need-shorter-str-behind-requires
+shorter-str-behind-requires : tie.Need-shorter_str_behind-shortened-requires
 unfolding area_view
 shorter-str-behind-requires c κs =
-    let b = c.before.before.before in
-    let s = b.before.before.before in
-    let a = s.args in
-    let k = last-place a.builder.n a.blocks.now a.keys.now s.requires.0 b.if1.false in (
+    let a = c.args in
+    let k = last-place a.builder.n a.blocks.now a.keys.now c.requires.0 c.if-n-eq0.false in (
       k.within,
-      within-key a.builder.n a.blocks.now a.keys.now a.common b.if1.false s.requires.1,
+      within-key a.builder.n a.blocks.now a.keys.now a.common c.if-n-eq0.false c.requires.1,
     )
 
-add-blocks : tie.Need-overflow-add-blocks
+add-blocks : tie.Need-overflow_add-blocks
 unfolding area_view
 add-blocks c = search rules
 
-mul-blocks : tie.Need-overflow-mul-blocks
+mul-blocks : tie.Need-offset_bounds-blocks-at-3
 unfolding area_view
 mul-blocks c = search rules
 
-slice-write-blocks : tie.Need-slice-write-blocks
+slice-write-blocks : tie.Need-bounds-blocks-at-3
 unfolding area_view
 slice-write-blocks c = search rules
 
-same_length : tie.Need-same-length
+same_length : tie.Need-shape_of-blocks
 same_length c = search rules
 
-same-length-2 : tie.Need-same-length-2
+same-length-2 : tie.Need-shape_of-keys
 same-length-2 c = search rules
 
-returns-2 : tie.Need-returns-2
+returns-2 : tie.Need-returns
 unfolding short_blocks short_keys
 returns-2 c = λ next e.
-    let b = c.before.before.before.before.before.before in
-    let a = b.before.before.before.args in
-    let key = key-some a.builder.n a.blocks.now a.keys.now b.if1.false in
-    let call = c.before.before.shorter-str-behind.ensures next (e ∙ ap (λ (k : List ℕ). common_prefix_len k next) key) in
-    rw (ne_eqb _ _ b.if1.false) (ap (set a.blocks.now _) call.0, call.1)
+    let a = c.args in
+    let key = key-some a.builder.n a.blocks.now a.keys.now c.if-n-eq0.false in
+    let call = c.shorter_str_behind-shortened.ensures next (e ∙ ap (λ (k : List ℕ). common_prefix_len k next) key) in
+    rw (ne_eqb _ _ c.if-n-eq0.false) (ap (set a.blocks.now _) call.0, call.1)
 
-pub shorten-last-spec : {M : Type 1} → statement M
-shorten-last-spec =
+pub shorten_last_spec : {M : Type 1} → statement M
+shorten_last_spec =
     tie.close
     (tie.spec
     returns
