@@ -2,7 +2,7 @@
 use mathlib.Core.Path.{◌≡◌, sym, ap, ◌∙◌, subst}
 use mathlib.Core.List.{List}
 use mathlib.Core.Logic.{⊎_elim}
-use Prim.Native.Nat.{ℕ, zero, suc, ◌+◌, ◌-◌, ◌*◌, ◌/◌, ◌%◌, ◌^◌, ◌<◌}
+use Prim.Native.Nat.{ℕ, zero, suc, ◌+◌, ◌*◌, ◌%◌, ◌^◌, ◌<◌}
 use native.Mathlib.Nat.{pow-suc, le_refl, zero-mul}
 use native.Mathlib.Numerals.{add-one}
 use native.Mathlib.Omega.{arith}
@@ -11,7 +11,7 @@ use lib.Bits.{bit_or, or_zero_r}
 use lib.ListN.{length, get_or, set}
 use lib.Seq.{get_or-set_same, get_or-set_other}
 use Rattle.automaton.specs.Bits.{bit}
-use Rattle.automaton.proofs.Exact.{same_or, lt-or-le}
+use Rattle.automaton.proofs.Exact.{same_or}
 use Rattle.automaton.proofs.Word.{bit-lt, bit-zero, bit-top, bit-set, bit-set-other, bit-pow, bit-pow-other, bit-or, or_set, shl-bit, shl_one}
 
 -- ---- w has n bits, and bit k is f k

@@ -1,5 +1,6 @@
 -- The automaton's table (SPECIFICATION 3.6): its number of states, a flag for each, a row of next states for each; and rows 21 to 23.
-use Rattle.std.specs.Prelude.{ℕ, ◌+◌, ◌*◌, ◌≤◌, ◌<◌, ◌≡◌, List, [], ◌∷◌, Bool, false, not, ◌||◌, cond, eqb, ltb, leb, length, get_or, take, drop}
+use Rattle.std.specs.Prelude.{ℕ, ◌+◌, ◌*◌, ◌≤◌, ◌<◌, ◌≡◌, List, [], ◌∷◌, Bool, false, not, ◌||◌, cond, eqb, ltb, leb}
+use Rattle.std.specs.Prelude.{length, get_or, take, drop}
 
 -- m
 abbrev pub states : List ℕ → ℕ

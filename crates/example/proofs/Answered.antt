@@ -17,7 +17,7 @@ use Rattle.automaton.specs.Table.{table_no, flag}
 use Rattle.automaton.specs.Words.{Accepts}
 use Rattle.automaton.proofs.Strings.{hits-nil, word-cases, hits-cons}
 use Rattle.pruning.specs.Interval.{start_of, Marked}
-use Rattle.example.specs.Example.{longer, ExampleNo, Shown, example_answer_no, example_answer_len, ExampleAnswerCased, ExampleLeaves, ExampleFor}
+use Rattle.example.specs.Example.{longer, ExampleNo, Shown, example_answer_no, example_answer_len, ExampleAnswerCased, ExampleFor}
 use Rattle.example_walk.specs.Walk.{FromByte, InFront}
 use Rattle.example.specs.declared.ExampleAnswer.{ExampleAnswer}
 use Rattle.example.specs.declared.ExampleAnswer.TheVariants.{Written, Refused}

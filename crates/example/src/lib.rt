@@ -1,4 +1,6 @@
 // A string that a block's pattern finds: some accepted string of an interval of keys.
+#![tactic(auto)]
+
 ghost use Rattle.std.specs.Prelude.{◌≡◌, ◌+◌, ◌≤◌, ◌<◌};
 ghost use Rattle.automaton.specs.Bits.{Exactly};
 ghost use Rattle.pruning.specs.Interval.{start_of};
@@ -8,7 +10,7 @@ use example_walk::{write_between, write_range_end};
 use layout::refusals::{NO_EXAMPLE, ROOM_SHORT};
 
 // The length of an example, or a row's number.
-#[derive(Drop)]
+#[derive(Clone, Copy)]
 pub enum ExampleAnswer {
     Written(usize),
     Refused(u32),

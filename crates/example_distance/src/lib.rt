@@ -1,4 +1,6 @@
 // Distances from states to acceptance.
+#![tactic(auto)]
+
 ghost use Rattle.std.specs.Prelude.{◌≡◌, ℕ, ◌^◌, ◌≤◌, ◌<◌, length, get_or};
 ghost use Rattle.automaton.specs.Bits.{bit};
 ghost use Rattle.automaton.specs.Table.{WellFormed};

@@ -1,5 +1,7 @@
 // The walk along a key to where an example leaves it, and the example written from there. A length of 0 stands for none:
 // nothing is written then.
+#![tactic(auto)]
+
 mod tail;
 
 ghost use Rattle.std.specs.Prelude.{◌≡◌, ◌+◌, ◌≤◌, ◌<◌, max, length, take, get_or};
@@ -52,7 +54,7 @@ fn write_leaving(
     if byte >= hi {
         return 0;
     }
-    bytes::copy(&key[..len], out);
+    byte_copy::copy(&key[..len], out);
     out[len] = byte as u8;
     write_tail(
         table,
@@ -120,7 +122,7 @@ pub fn write_range_end(
         at = accept(table, at, kb);
         i += 1;
         if distances[at] == 0 {
-            return bytes::copy(&key[..i], out);
+            return byte_copy::copy(&key[..i], out);
         }
         low = 0;
     }

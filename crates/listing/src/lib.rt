@@ -1,4 +1,6 @@
 // The blocks that can hold a key of a pattern: `get_block_for_automaton` of src/index/v3.rs.
+#![tactic(auto)]
+
 ghost use Rattle.std.specs.Prelude.{◌≡◌, true, false, cond, ◌+◌, ◌≤◌, ◌<◌, length, set, get_or};
 ghost use Rattle.layout.specs.Layout.{max_blocks, max_key_len};
 ghost use Rattle.keys.specs.Order.{common_prefix_len};
@@ -21,14 +23,14 @@ use listing_follow::{follow, state_behind};
 use pruning_match::{can_block_match, can_block_match_from};
 
 // How many blocks are marked, or a row's number.
-#[derive(Drop)]
+#[derive(Clone, Copy)]
 pub enum Listed {
     Count(usize),
     Refused(u32),
 }
 
 // How many bytes of a block's end key are followed, and whether the block matches.
-#[derive(Drop)]
+#[derive(Clone, Copy)]
 struct Turn {
     known: usize,
     matches: bool,

@@ -1,4 +1,6 @@
 // Whether an interval of keys holds an accepted string, from the walks along its two keys.
+#![tactic(auto)]
+
 ghost use Rattle.std.specs.Prelude.{◌≡◌, ◌<◌, take};
 ghost use Rattle.keys.specs.Order.{common_prefix_len};
 ghost use Rattle.automaton.specs.Bits.{Exactly};

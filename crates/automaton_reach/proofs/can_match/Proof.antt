@@ -4,14 +4,14 @@ use Rattle.automaton.proofs.Strings.{can-match-exactly}
 use Rattle.automaton_reach.proofs.can_match.Statement.{statement}
 use Rattle.automaton_reach.proofs.can_match.Tie as tie
 
-is-set-requires : tie.Need-is-set-requires
+is-set-requires : tie.Need-is_set-requires
 is-set-requires c κs = search rules
 
 returns : tie.Need-returns
 returns c = (
   c.is_set.ensures,
-  λ t k h. can-match-exactly k c.before.args.state h c.is_set.result c.is_set.ensures,
+  λ t k h. can-match-exactly k c.args.state h c.is_set.result c.is_set.ensures,
 )
 
-pub can-match-spec : {M : Type 1} → statement M
-can-match-spec = tie.close (tie.spec is-set-requires returns)
+pub can_match_spec : {M : Type 1} → statement M
+can_match_spec = tie.close (tie.spec is-set-requires returns)

@@ -9,42 +9,42 @@ use Rattle.listing.proofs.Outside.{outside-none, outside-next, one_outside}
 use Rattle.listing.proofs.keys_outside.Statement.{statement}
 use Rattle.listing.proofs.keys_outside.Tie as tie
 
-abbrev invariant-loop : tie.invariant-loop
+abbrev invariant-loop : tie.invariant-loop-i
 invariant-loop directory n i₀ i = (i ≤ n) × (keys_outside directory n i ≡ false)
 
-abbrev decreases-loop : tie.decreases-loop
+abbrev decreases-loop : tie.decreases-loop-i
 decreases-loop directory n i₀ i = n - i
 
-loop-holds : tie.Need-loop-init invariant-loop decreases-loop
+loop-holds : tie.Need-loop-i-init invariant-loop decreases-loop
 loop-holds c = (omega arith, outside-none _ _)
 
-key-outside-requires : tie.Need-key-outside-requires invariant-loop decreases-loop
+key-outside-requires : tie.Need-key_outside-requires invariant-loop decreases-loop
 key-outside-requires c κs = search rules
 
-returns : tie.Need-returns invariant-loop decreases-loop
+returns : tie.Need-returns-then-key_outside invariant-loop decreases-loop
 returns c =
-    let l = c.before.before.before in
-    sym (one_outside _ _ _ l.loop.i (omega arith) (sym c.before.key-outside.ensures ∙ c.if1.true))
+    let l = c in
+    sym (one_outside _ _ _ l.loop-i.i (omega arith) (sym c.key_outside.ensures ∙ c.if-key_outside.true))
 
-add-i : tie.Need-overflow-add-i invariant-loop decreases-loop
+add-i : tie.Need-overflow_add-i invariant-loop decreases-loop
 add-i c = search rules
 
-loop-less : tie.Need-loop-smaller invariant-loop decreases-loop
+loop-less : tie.Need-loop-i-smaller invariant-loop decreases-loop
 loop-less c = search rules
 
-loop-again : tie.Need-loop-preserved invariant-loop decreases-loop
+loop-again : tie.Need-loop-i-preserved invariant-loop decreases-loop
 loop-again c =
-    let l = c.before.before.before in
-    (omega arith, outside-next _ _ l.loop.i l.loop.invariant.1 (sym c.before.key-outside.ensures ∙ c.if1.false))
+    let l = c in
+    (omega arith, outside-next _ _ l.loop-i.i l.loop-i.invariant.1 (sym c.key_outside.ensures ∙ c.if-key_outside.false))
 
-returns-2 : tie.Need-returns-2 invariant-loop decreases-loop
+returns-2 : tie.Need-returns invariant-loop decreases-loop
 returns-2 c =
-    let l = c.before in
-    let e : l.loop.i ≡ l.before.before.args.n = omega arith in
-    sym (rw e at l.loop.invariant.1)
+    let l = c in
+    let e : l.loop-i.i ≡ l.args.n = omega arith in
+    sym (rw e at l.loop-i.invariant.1)
 
-pub keys-outside-spec : {M : Type 1} → statement M
-keys-outside-spec =
+pub keys_outside_spec : {M : Type 1} → statement M
+keys_outside_spec =
     tie.close
     (tie.spec
     invariant-loop

@@ -7,39 +7,39 @@ use Rattle.pruning_match.proofs.can_block_match.Statement.{statement}
 use Rattle.pruning_match.proofs.can_block_match.Tie as tie
 
 can-block-match-automaton-with-start-requires :
-    tie.Need-can-block-match-automaton-with-start-requires
+    tie.Need-can_block_match_automaton_with_start-requires
 can-block-match-automaton-with-start-requires c κs = search rules
 
-returns : tie.Need-returns
+returns : tie.Need-returns-then-has_start
 returns c =
-    let e = c.can-block-match-automaton-with-start.ensures in
-    (rw c.before.before.before.if1.true e.0, e.1)
+    let e = c.can_block_match_automaton_with_start.ensures in
+    (rw c.if-has_start.true e.0, e.1)
 
-is-match-requires : tie.Need-is-match-requires
+is-match-requires : tie.Need-is_match-requires
 is-match-requires c κs = search rules
 
-returns-2 : tie.Need-returns-2
+returns-2 : tie.Need-returns-then-is_match
 returns-2 c =
-    let a = c.before.before.before.before.before.before.args in
-    (rw c.before.before.if1.false ((marked-none a.table.now a.end-key.now).1 (inl (when_true c.before.is-match.ensures c.if2.true))), c.before.before.before.before.before.before.requires)
+    let a = c.args in
+    (rw c.if-has_start.false ((marked-none a.table.now a.end_key.now).1 (inl (when_true c.is_match.ensures c.if-is_match.true))), c.requires)
 
 slice-aggregate-can-block-match-automaton-with-start :
-    tie.Need-slice-aggregate-can-block-match-automaton-with-start
+    tie.Need-slice_bounds-can_block_match_automaton_with_start-end
 slice-aggregate-can-block-match-automaton-with-start c = search rules
 
 can-block-match-automaton-with-start-requires-2 :
-    tie.Need-can-block-match-automaton-with-start-requires-2
+    tie.Need-can_block_match_automaton_with_start-requires-2
 can-block-match-automaton-with-start-requires-2 c κs = search rules
 
-returns-3 : tie.Need-returns-3
+returns-3 : tie.Need-returns
 returns-3 c =
-    let a = c.before.before.before.before.before.before.before.before.before.before.args in
-    let e = c.can-block-match-automaton-with-start2.ensures in
-    let r = past (marked-none a.table.now a.end-key.now) (when_false c.before.before.before.before.before.is-match.ensures c.before.before.before.before.if2.false) in
-    (rw c.before.before.before.before.before.before.if1.false (exactly-map c.can-block-match-automaton-with-start2.result r.1 r.0 e.0), e.1)
+    let a = c.args in
+    let e = c.can_block_match_automaton_with_start-2.ensures in
+    let r = past (marked-none a.table.now a.end_key.now) (when_false c.is_match.ensures c.if-is_match.false) in
+    (rw c.if-has_start.false (exactly-map c.can_block_match_automaton_with_start-2.result r.1 r.0 e.0), e.1)
 
-pub can-block-match-spec : {M : Type 1} → statement M
-can-block-match-spec =
+pub can_block_match_spec : {M : Type 1} → statement M
+can_block_match_spec =
     tie.close
     (tie.spec
     can-block-match-automaton-with-start-requires

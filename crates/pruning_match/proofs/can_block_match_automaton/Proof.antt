@@ -8,39 +8,39 @@ use Rattle.pruning.proofs.Kept.{nothing_known}
 use Rattle.pruning_match.proofs.can_block_match_automaton.Statement.{statement}
 use Rattle.pruning_match.proofs.can_block_match_automaton.Tie as tie
 
-number : (c : tie.Else1) → 0 ≡ table_no c.before.before.before.before.before.args.table.now
+number : (c : tie.Else-no-ne0) → 0 ≡ table_no c.args.table.now
 number c =
-    let e : 0 ≡ c.before.check.result = omega arith in
-    e ∙ c.before.check.ensures
+    let e : 0 ≡ c.check-no.result = omega arith in
+    e ∙ c.check-no.ensures
 
-taken : (c : tie.Else1) → WellFormed c.before.before.before.before.before.args.table.now
-taken c = table-ok c.before.before.before.before.before.args.table.now (sym (number c))
+taken : (c : tie.Else-no-ne0) → WellFormed c.args.table.now
+taken c = table-ok c.args.table.now (sym (number c))
 
-check-requires : tie.Need-check-requires
+check-requires : tie.Need-check-no-requires
 check-requires c κs = search rules
 
-returns : tie.Need-returns
+returns : tie.Need-returns-then-no-ne0
 returns c = (
-  record { number = c.before.check.ensures; taken = λ e. absurd (let z : ⊥ = omega arith in z); refused = λ p. refl },
+  record { number = c.check-no.ensures; taken = λ e. absurd (let z : ⊥ = omega arith in z); refused = λ p. refl },
   omega arith,
 )
 
-reach-requires : tie.Need-reach-requires
+reach-requires : tie.Need-reach-reach-requires
 reach-requires c κs = taken c
 
-can-block-match-requires : tie.Need-can-block-match-requires
-can-block-match-requires c κs = nothing_known (taken c.before.before.before) c.before.before.reach.ensures.0
+can-block-match-requires : tie.Need-can_block_match-requires
+can-block-match-requires c κs = nothing_known (taken c.before.before.before) c.reach-reach.ensures.0
 
-returns-2 : tie.Need-returns-2
+returns-2 : tie.Need-returns
 returns-2 c = (
   record {
     number = number c.before.before.before.before;
-    taken = λ e. c.can-block-match.ensures.0;
+    taken = λ e. c.can_block_match.ensures.0;
     refused = λ p. absurd (let z : ⊥ = omega arith in z);
   },
   tt,
 )
 
-pub can-block-match-automaton-spec : {M : Type 1} → statement M
-can-block-match-automaton-spec =
+pub can_block_match_automaton_spec : {M : Type 1} → statement M
+can_block_match_automaton_spec =
     tie.close (tie.spec check-requires returns reach-requires can-block-match-requires returns-2)

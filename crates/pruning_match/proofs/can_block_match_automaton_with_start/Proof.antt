@@ -7,20 +7,20 @@ use Rattle.pruning_match.proofs.can_block_match_automaton_with_start.Statement.{
 }
 use Rattle.pruning_match.proofs.can_block_match_automaton_with_start.Tie as tie
 
-common-prefix-len-requires : tie.Need-common-prefix-len-requires
+common-prefix-len-requires : tie.Need-common_prefix_len-n-requires
 common-prefix-len-requires c κs = search rules
 
-accept-prefix-requires : tie.Need-accept-prefix-requires
-accept-prefix-requires c κs = (search rules, omega (arith, common_prefix_len-left c.before.before.before.before.args.start-key.now c.before.before.before.before.args.end-key.now))
+accept-prefix-requires : tie.Need-accept_prefix-base-requires
+accept-prefix-requires c κs = (search rules, omega (arith, common_prefix_len-left c.args.start_key.now c.args.end_key.now))
 
-can-block-match-from-requires : tie.Need-can-block-match-from-requires
+can-block-match-from-requires : tie.Need-can_block_match_from-requires
 can-block-match-from-requires c κs = search rules
 
 returns : tie.Need-returns
 returns c = search rules
 
-pub can-block-match-automaton-with-start-spec : {M : Type 1} → statement M
-can-block-match-automaton-with-start-spec =
+pub can_block_match_automaton_with_start_spec : {M : Type 1} → statement M
+can_block_match_automaton_with_start_spec =
     tie.close
     (tie.spec
     common-prefix-len-requires

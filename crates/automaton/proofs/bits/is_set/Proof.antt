@@ -6,11 +6,11 @@ use Rattle.automaton.proofs.Word.{bit_test}
 use Rattle.automaton.proofs.bits.is_set.Statement.{statement}
 use Rattle.automaton.proofs.bits.is_set.Tie as tie
 
-shr-result : tie.Need-overflow-shr-result
+shr-result : tie.Need-overflow_shr-result
 shr-result c = search rules
 
 returns : tie.Need-returns
 returns c = rw bit_test (exactly-eqb (bit c.args.word c.args.s) 1)
 
-pub is-set-spec : {M : Type 1} → statement M
-is-set-spec = tie.close (tie.spec shr-result returns)
+pub is_set_spec : {M : Type 1} → statement M
+is_set_spec = tie.close (tie.spec shr-result returns)

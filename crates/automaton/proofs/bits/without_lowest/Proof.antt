@@ -4,11 +4,11 @@ use Rattle.automaton.proofs.Word.{and-pred}
 use Rattle.automaton.proofs.bits.without_lowest.Statement.{statement}
 use Rattle.automaton.proofs.bits.without_lowest.Tie as tie
 
-sub-result : tie.Need-overflow-sub-result
+sub-result : tie.Need-overflow_sub-result
 sub-result c = search rules
 
 returns : tie.Need-returns
 returns c = and-pred 64 c.args.word c.requires c.ranges.word.fits
 
-pub without-lowest-spec : {M : Type 1} → statement M
-without-lowest-spec = tie.close (tie.spec sub-result returns)
+pub without_lowest_spec : {M : Type 1} → statement M
+without_lowest_spec = tie.close (tie.spec sub-result returns)

@@ -16,74 +16,74 @@ use Rattle.pruning.proofs.Looks.{upto-decided-at, upto-next-at}
 use Rattle.pruning.proofs.block_match_automaton.match_range_end.Statement.{statement}
 use Rattle.pruning.proofs.block_match_automaton.match_range_end.Tie as tie
 
-abbrev invariant-loop : tie.invariant-loop
+abbrev invariant-loop : tie.invariant-loop-i
 invariant-loop table reach firsts₀ end-key state at₀ i₀ firsts at i = (at < states table) × (i ≤ length end-key) × Firsts table firsts × (MatchBetween table state [] end-key ↔ MatchBetween table at [] (drop i end-key))
 
-abbrev decreases-loop : tie.decreases-loop
+abbrev decreases-loop : tie.decreases-loop-i
 decreases-loop table reach firsts₀ end-key state at₀ i₀ firsts at i = length end-key - i
 
-loop-holds : tie.Need-loop-init invariant-loop decreases-loop
+loop-holds : tie.Need-loop-i-init invariant-loop decreases-loop
 loop-holds c = (search rules, search rules, search rules, Iff.rfl)
 
-shared-slice-read-kb : tie.Need-shared-slice-read-kb invariant-loop decreases-loop
+shared-slice-read-kb : tie.Need-bounds-end_key-i invariant-loop decreases-loop
 shared-slice-read-kb c = search rules
 
-first-requires : tie.Need-first-requires invariant-loop decreases-loop
-first-requires c κs = (c.before.before.before.before.before.before.requires.0, c.before.before.before.before.before.before.requires.1, c.before.before.before.loop.invariant.2, c.before.before.before.loop.invariant.0)
+first-requires : tie.Need-first-least-requires invariant-loop decreases-loop
+first-requires c κs = (c.requires.0, c.requires.1, c.loop-i.invariant.2, c.loop-i.invariant.0)
 
-cast-if1 : tie.Need-overflow-cast-if1 invariant-loop decreases-loop
-cast-if1 c = omega (arith, c.before.before.shared-slice-known3.given c.before.before.before.before.loop.i)
+cast-if1 : tie.Need-overflow_cast-kb invariant-loop decreases-loop
+cast-if1 c = omega (arith, c.shared_slice_known-in-loop-i-1.given c.loop-i.i)
 
-cast-result : tie.Need-overflow-cast-result invariant-loop decreases-loop
-cast-result c = omega (arith, c.before.before.before.shared-slice-known3.given c.before.before.before.before.before.loop.i)
+cast-result : tie.Need-overflow_cast-result invariant-loop decreases-loop
+cast-result c = omega (arith, c.shared_slice_known-in-loop-i-1.given c.loop-i.i)
 
-returns : tie.Need-returns invariant-loop decreases-loop
+returns : tie.Need-returns-then-least-kb invariant-loop decreases-loop
 returns c =
-    let a = c.before.before.before.before.before.before.before.before.args in
-    let l = c.before.before.before.before.before.loop in
-    let f = c.before.first in
-    let g = upto-decided-at a.end-key.now l.i (search rules) (omega (arith, c.before.before.before.shared-slice-known3.given l.i)) a.table.now l.at _ f.ensures.0 c.if1.true in
-    (exactly-map (ltb f.result (get_or a.end-key.now l.i 0)) l.invariant.3.1 l.invariant.3.0 g, f.ensures.1)
+    let a = c.args in
+    let l = c.loop-i in
+    let f = c.first-least in
+    let g = upto-decided-at a.end_key.now l.i (search rules) (omega (arith, c.shared_slice_known-in-loop-i-1.given l.i)) a.table.now l.at _ f.ensures.0 c.if-least-kb.true in
+    (exactly-map (ltb f.result (get_or a.end_key.now l.i 0)) l.invariant.3.1 l.invariant.3.0 g, f.ensures.1)
 
-accept-requires : tie.Need-accept-requires invariant-loop decreases-loop
+accept-requires : tie.Need-accept-at-requires invariant-loop decreases-loop
 accept-requires c κs = search rules
 
-is-match-requires : tie.Need-is-match-requires invariant-loop decreases-loop
+is-match-requires : tie.Need-is_match-requires invariant-loop decreases-loop
 is-match-requires c κs = search rules
 
-returns-2 : tie.Need-returns-2 invariant-loop decreases-loop
+returns-2 : tie.Need-returns-then-is_match invariant-loop decreases-loop
 returns-2 c =
-    let a = c.before.before.before.before.before.before.before.before.before.before.before.args in
-    let l = c.before.before.before.before.before.before.before.before.loop in
-    let f = c.before.before.before.before.first in
-    let n = upto-next-at a.end-key.now l.i (search rules) (omega (arith, c.before.before.before.before.before.before.shared-slice-known3.given l.i)) a.table.now l.at _ f.ensures.0 (search rules) in
-    let e = c.before.before.accept.ensures.0 in
-    (l.invariant.3.1 (n.1 (inl (when_true (rw e at c.before.is-match.ensures) c.if2.true))), f.ensures.1)
+    let a = c.args in
+    let l = c.loop-i in
+    let f = c.first-least in
+    let n = upto-next-at a.end_key.now l.i (search rules) (omega (arith, c.shared_slice_known-in-loop-i-1.given l.i)) a.table.now l.at _ f.ensures.0 (search rules) in
+    let e = c.accept-at.ensures.0 in
+    (l.invariant.3.1 (n.1 (inl (when_true (rw e at c.is_match.ensures) c.if-is_match.true))), f.ensures.1)
 
-add-i : tie.Need-overflow-add-i invariant-loop decreases-loop
+add-i : tie.Need-overflow_add-i invariant-loop decreases-loop
 add-i c = search rules
 
-loop-less : tie.Need-loop-smaller invariant-loop decreases-loop
+loop-less : tie.Need-loop-i-smaller invariant-loop decreases-loop
 loop-less c = search rules
 
-loop-again : tie.Need-loop-preserved invariant-loop decreases-loop
+loop-again : tie.Need-loop-i-preserved invariant-loop decreases-loop
 loop-again c =
-    let a = c.before.before.before.before.before.before.before.before.before.before.before.args in
-    let l = c.before.before.before.before.before.before.before.before.loop in
-    let f = c.before.before.before.before.first in
-    let n = upto-next-at a.end-key.now l.i (search rules) (omega (arith, c.before.before.before.before.before.before.shared-slice-known3.given l.i)) a.table.now l.at _ f.ensures.0 (search rules) in
-    let e = c.before.before.accept.ensures.0 in
-    let r = past n (when_false (rw e at c.before.is-match.ensures) c.if2.false) in
+    let a = c.args in
+    let l = c.loop-i in
+    let f = c.first-least in
+    let n = upto-next-at a.end_key.now l.i (search rules) (omega (arith, c.shared_slice_known-in-loop-i-1.given l.i)) a.table.now l.at _ f.ensures.0 (search rules) in
+    let e = c.accept-at.ensures.0 in
+    let r = past n (when_false (rw e at c.is_match.ensures) c.if-is_match.false) in
     (search rules, search rules, f.ensures.1, rw e (Iff.trans l.invariant.3 r))
 
-returns-3 : tie.Need-returns-3 invariant-loop decreases-loop
+returns-3 : tie.Need-returns invariant-loop decreases-loop
 returns-3 c =
-    let a = c.before.before.before.before.args in
-    let l = c.before.loop in
-    (λ m. upto-end a.table.now l.at a.end-key.now l.i (search rules) (l.invariant.3.0 m), l.invariant.2)
+    let a = c.args in
+    let l = c.loop-i in
+    (λ m. upto-end a.table.now l.at a.end_key.now l.i (search rules) (l.invariant.3.0 m), l.invariant.2)
 
-pub match-range-end-spec : {M : Type 1} → statement M
-match-range-end-spec =
+pub match_range_end_spec : {M : Type 1} → statement M
+match_range_end_spec =
     tie.close
     (tie.spec
     invariant-loop
