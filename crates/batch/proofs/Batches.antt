@@ -2,7 +2,7 @@
 use mathlib.Core.Path.{◌≡◌, refl, sym, ◌∙◌}
 use mathlib.Core.Bool.{Bool, true, false, cond, true≢false}
 use mathlib.Core.Logic.{inl, inr}
-use mathlib.Core.List.{List, [], ◌∷◌, ◌++◌}
+use mathlib.Core.List.{List, [], ◌∷◌}
 use Prim.Native.Nat.{ℕ, ◌+◌, ◌≤◌, ◌<◌}
 use native.Mathlib.Nat.{zero-add}
 use native.Mathlib.Numerals.{add-one}
@@ -16,15 +16,15 @@ use Rattle.serialize.proofs.Stores.{sets-append}
 use Rattle.directory.specs.Read.{key_of, Sorted}
 use Rattle.store.specs.Facts.{GroupLenOk}
 use Rattle.index.specs.declared.SSTableIndexV3.{SSTableIndexV3}
-use Rattle.index.specs.Parts.{directory_part, separator_in}
+use Rattle.index.specs.Parts.{separator_in}
 use Rattle.index.specs.Opening.{OpensBy}
 use Rattle.index.specs.Lookups.{opened_bad_by, OpenedFits, directory_at}
 use Rattle.index.proofs.Fits.{bad-unfit}
 use Rattle.index.proofs.OpenFacts.{OpenFacts, opens-facts-by}
 use Rattle.index.proofs.Answered.{bad-unopened}
-use Rattle.key_list.specs.KeyList.{key_list_count, key_list_key, key_list_bad, KeyListOk}
+use Rattle.key_list.specs.KeyList.{key_list_count, key_list_bad, KeyListOk}
 use Rattle.key_list.proofs.Pairs.{key-list-ok}
-use Rattle.batch_search.specs.Entries.{EntryIn, EntryExact, EntriesFound}
+use Rattle.batch_search.specs.Entries.{EntryExact, EntriesFound}
 use Rattle.batch.specs.Batch.{batch_bad, EntriesWritten, BatchLeaves, LocateWithKeysBy}
 
 -- ---- row 26

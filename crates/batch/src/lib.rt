@@ -1,4 +1,6 @@
 // The blocks of up to 64 keys in one lookup.
+#![tactic(auto)]
+
 pub mod grouped;
 
 ghost use Rattle.batch.specs.Batch.{LocateWithKeys};

@@ -1,4 +1,6 @@
 // Whether an index is the one that finish makes from the blocks and separators read in it.
+#![tactic(auto)]
+
 ghost use Rattle.std.specs.Prelude.{◌≡◌};
 ghost use Rattle.store.specs.Facts.{GroupLenOk};
 ghost use Rattle.builder.specs.Index.{settings_of, standard};

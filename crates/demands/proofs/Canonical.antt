@@ -8,7 +8,7 @@ use lib.ListN.{length}
 use lib.Seq.{ext_get_or}
 use Rattle.group.specs.declared.BlockAddr.{BlockAddr}
 use Rattle.group.specs.Blocks.{no_block}
-use Rattle.directory.proofs.Opened.{length-keys_from, get_d-keys_from}
+use Rattle.directory.proofs.Opened.{length-keys_from, get_or-keys_from}
 use Rattle.builder.specs.Index.{Settings, index_bytes}
 use Rattle.index.specs.Parts.{directory_part, count_in, block_in, separator_in}
 use Rattle.written_index.specs.Written.{WrittenIndex, IndexRead}
@@ -38,7 +38,7 @@ module _ {choose : List ℕ → ℕ} {L : ℕ} {bs : List BlockAddr} {ks : List 
       let long = length-keys_from (directory_part f) (count_in f) 0 (count_in f) in
       ext_get_or [] (separators_in f) ks (long ∙ count ∙ sym w.same)
       (λ i h. let b : i < count_in f = omega (arith, long) in
-      get_d-keys_from (directory_part f) (count_in f) 0 (count_in f) i b ∙ rw (zero-add i) (reads.separator i (omega (arith, count))))
+      get_or-keys_from (directory_part f) (count_in f) 0 (count_in f) i b ∙ rw (zero-add i) (reads.separator i (omega (arith, count))))
 
   abbrev S : Settings
   S = record { choose = choose; len_of_group = L }

@@ -1,13 +1,12 @@
 -- Demand 3: the calls' answers are the plain machine's; a finish that isn't refused writes the entries' index; it opens, the blocks are found there, and the check says yes.
-use Prim.Native.Nat.{ℕ, ◌^◌, ◌≤◌, ◌<◌}
+use Prim.Native.Nat.{ℕ, ◌^◌, ◌<◌}
 use mathlib.Core.Path.{◌≡◌, refl, sym, ap, subst, ◌∙◌}
-use mathlib.Core.List.{List, []}
+use mathlib.Core.List.{List}
 use mathlib.Core.Logic.{⊎_elim}
 use native.Mathlib.Omega.{arith}
-use lib.ListN.{length, take}
+use lib.ListN.{take}
 use Rattle.slope.specs.Slope.{best_slope}
 use Rattle.slope.proofs.Widths.{best_slope-lt}
-use Rattle.layout.specs.Layout.{store_block_len}
 use Rattle.builder.specs.Calls.{State}
 use Rattle.builder.specs.Index.{SettingsOk, standard}
 use Rattle.builder.specs.Finish.{Finish}

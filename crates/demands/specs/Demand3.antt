@@ -103,7 +103,9 @@ pub record Demand3 (S : Settings) (cs : List Call) (fresh : State) (out : List �
   -- 18.10
   pub equal : (cs' : List Call) (fresh' : State) (out' : List ℕ) → FreshState fresh'
       → Finishes S cs fresh out → Finishes S cs' fresh' out'
-      → index_of_calls S cs fresh out ≡ index_of_calls S cs' fresh' out' → SameLists (entries_of_calls cs fresh) (entries_of_calls cs' fresh')
+      → index_of_calls S cs fresh out ≡ index_of_calls S cs' fresh' out'
+      → SameLists (entries_of_calls cs fresh) (entries_of_calls cs' fresh')
   pub equal-bytes : (cs' : List Call) (fresh' : State) (out' : List ℕ) → FreshState fresh'
       → Finishes S cs fresh out → Finishes S cs' fresh' out'
-      → SameLists (entries_of_calls cs fresh) (entries_of_calls cs' fresh') → index_of_calls S cs fresh out ≡ index_of_calls S cs' fresh' out'
+      → SameLists (entries_of_calls cs fresh) (entries_of_calls cs' fresh')
+      → index_of_calls S cs fresh out ≡ index_of_calls S cs' fresh' out'

@@ -16,7 +16,8 @@ footer_no f = cond (ltb (length f) 8) 10 (cond (eqb (len_of_directory f) 0) 11 (
 
 -- row 14 (SPECIFICATION 13.14, 12.10): group records of another length than the groups', or more than the store holds
 unfoldable pub group_records_bad : ℕ → List ℕ → Bool
-group_records_bad L f = not (eqb (group_records_len f) (meta_len * group_count L (count_in f))) || ltb (store_len f) (8 + group_records_len f)
+group_records_bad L f =
+    not (eqb (group_records_len f) (meta_len * group_count L (count_in f))) || ltb (store_len f) (8 + group_records_len f)
 
 -- the rows in their order; 0 where none is hit
 unfoldable pub open_no : ℕ → List ℕ → ℕ

@@ -1,4 +1,6 @@
 // Opening the bytes of an index.
+#![tactic(auto)]
+
 pub mod grouped;
 
 ghost use Rattle.std.specs.Prelude.{◌≡◌};

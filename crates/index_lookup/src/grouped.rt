@@ -117,7 +117,8 @@ pub fn get_block(opened: SSTableIndexV3, data: &[u8], group_len: usize, block_id
 // The last block whose first ordinal is at or below `ord`.
 pub fn locate_with_ord(opened: SSTableIndexV3, data: &[u8], group_len: usize, ord: u64) -> Located
     requires { GroupLenOk group_len }
-    ensures locate_with_ord_by { LocateWithOrdBy group_len «data».now opened ord (located_no result) (located_id result) (located_addr result) }
+    ensures locate_with_ord_by { LocateWithOrdBy group_len «data».now opened ord
+        (located_no result) (located_id result) (located_addr result) }
     ensures located_cased { LocatedCased result }
 {
     if opened_bad(opened, data.len(), group_len) {

@@ -1,4 +1,6 @@
 // The lookups in an opened index.
+#![tactic(auto)]
+
 pub mod grouped;
 
 ghost use Rattle.std.specs.Prelude.{◌≡◌};

@@ -12,13 +12,13 @@ use Rattle.keys.proofs.Order.{by-test}
 use Rattle.group.specs.declared.BlockAddr.{BlockAddr}
 use Rattle.group.specs.Rows.{or_row}
 use Rattle.builder.specs.Index.{Settings}
-use Rattle.machine.specs.Plain.{Entry, plain_index}
+use Rattle.machine.specs.Plain.{Entry}
 use Rattle.automaton.specs.Table.{table_no}
 use Rattle.index.specs.declared.SSTableIndexV3.{SSTableIndexV3}
 use Rattle.index.specs.declared.Place.{Place}
 use Rattle.index.specs.Lookups.{GetBlock, LocateWithOrd, LocateWithKey, GetBlockWithKey, place_def}
 use Rattle.listing.specs.Listing.{Listing, GetBlockForAutomaton}
-use Rattle.demands.specs.Demand3.{entry_separator, entry_place}
+use Rattle.demands.specs.Demand3.{entry_separator}
 use Rattle.replay.specs.Made.{cells}
 use Rattle.replay.specs.Replay.{IdAnswer, OrdAnswer, KeyAnswer, AddrAnswer, place_cells, SeparatorAnswer, MarkAnswer}
 use Rattle.replay.specs.Asked.{Indexed}

@@ -3,11 +3,9 @@ use Prim.Native.Nat.{ℕ}
 use mathlib.Core.Path.{◌≡◌, refl, sym, ap, ◌∙◌}
 use mathlib.Core.List.{List}
 use lib.ListN.{take}
-use Rattle.builder.specs.Finish.{Finish}
 use Rattle.machine.specs.Plain.{SameLists}
-use Rattle.demands.specs.Demand3.{Finishes}
 use Rattle.replay.specs.Format.{calls}
-use Rattle.replay.specs.Made.{list_settings, fresh_of, entries_of, finish_of_list}
+use Rattle.replay.specs.Made.{fresh_of, entries_of, finish_of_list}
 use Rattle.replay.specs.Replay.{Replayed}
 use Rattle.replay.proofs.Entries.{list-demand}
 use Rattle.replay.proofs.Opening.{list-after, list-finishes}

@@ -1,5 +1,5 @@
 -- What replaying a list answers and leaves, from the plain machine and its entries: demand 3 on running code.
-use Rattle.std.specs.Prelude.{ℕ, ◌+◌, ◌*◌, ◌≤◌, ◌<◌, ◌≡◌, List, [], ◌∷◌, ◌++◌, cond, ◌⊎◌, ltb, length, get_or}
+use Rattle.std.specs.Prelude.{ℕ, ◌+◌, ◌*◌, ◌<◌, ◌≡◌, List, [], ◌∷◌, ◌++◌, cond, ◌⊎◌, ltb, length, get_or}
 use Rattle.std.proofs.lemmas.List.Edits.{sets}
 use Rattle.group.specs.declared.BlockAddr.{BlockAddr}
 use Rattle.builder.specs.Index.{Settings}
@@ -26,7 +26,8 @@ use Rattle.replay.specs.Format.{
   question_count,
   list_bad,
 }
-use Rattle.replay.specs.Made.{cells, call_cells, finish_cells, opening_cells, list_settings, fresh_of, entries_of, finish_of_list, open_number}
+use Rattle.replay.specs.Made.{cells, call_cells, finish_cells, opening_cells, list_settings, fresh_of, entries_of}
+use Rattle.replay.specs.Made.{finish_of_list, open_number}
 
 -- by id: the entry's block, or 17
 pub record IdAnswer (es : List Entry) (id : ℕ) (cs : List ℕ) : Type 0 where

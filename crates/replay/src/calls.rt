@@ -13,7 +13,7 @@ use builder::{Answer, SSTableIndexBuilder};
 use group::BlockAddr;
 
 // A call's number, the builder that it leaves, and where the next item begins.
-#[derive(Drop)]
+#[derive(Clone, Copy)]
 pub struct Called {
     pub no: u32,
     pub builder: SSTableIndexBuilder,
@@ -49,7 +49,7 @@ fn block(list: &[u8], at: usize) -> BlockAddr
 // Makes the call at `at` on the builder that the last one left.
 fn make_call(list: &[u8], at: usize, last: Called, blocks: &mut [u64], keys: &mut [u8]) -> Called
     requires { 0 < call_len list.now at }
-    ensures keys_after { leaves result blocks.new keys.new
+    ensures leaves_areas { leaves result blocks.new keys.new
         ≡ call_def (call_at list.now at) (state_of last blocks.old keys.old) }
     ensures next_value { result.next ≡ at + call_len list.now at }
 {
@@ -70,7 +70,7 @@ fn make_call(list: &[u8], at: usize, last: Called, blocks: &mut [u64], keys: &mu
 // Makes the list's calls on a fresh builder, each on what the last one left, and writes their numbers.
 pub fn make_calls(list: &[u8], blocks: &mut [u64], keys: &mut [u8], answers: &mut [u64]) -> Called
     requires { (list_bad list.now ≡ false) × (5 * call_count list.now ≤ length answers.old) }
-    ensures keys_after { (state_of result blocks.new keys.new
+    ensures leaves_state { (state_of result blocks.new keys.new
         ≡ run_end (calls list.now) (fresh_of blocks.old keys.old))
         × (result.next ≡ questions_from list.now) }
     ensures answers_after { answers.new ≡ sets answers.old 0

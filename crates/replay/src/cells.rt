@@ -7,7 +7,7 @@ ghost use Rattle.replay.specs.Steps.{cells_of};
 // How many numbers an answer has.
 pub const WIDTH: usize = 5;
 
-#[derive(Drop)]
+#[derive(Clone, Copy)]
 pub struct Cells {
     pub no: u32,
     pub a: u64,

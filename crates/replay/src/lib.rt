@@ -1,4 +1,6 @@
 // A list of calls, replayed through the real functions.
+#![tactic(auto)]
+
 pub mod calls;
 pub mod cells;
 pub mod finish;

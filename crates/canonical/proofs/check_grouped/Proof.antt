@@ -10,29 +10,29 @@ use Rattle.canonical.proofs.check_grouped.Tie as tie
 load-requires : tie.Need-load-requires
 load-requires c κs = search rules
 
-enum-known-no : tie.Need-enum-known-no
+enum-known-no : tie.Need-enum_known-no
 enum-known-no c = search rules
 
-enum-known-opened : tie.Need-enum-known-opened
+enum-known-opened : tie.Need-enum_known-opened
 enum-known-opened c = search rules
 
-opens : (c : tie.After-opened) → let a = c.before.before.before.before.args in OpensBy a.group-len a.«data».now c.opened.given.0.0
-opens c = sym c.before.before.load.ensures ∙ c.opened.given.1
+opens : (c : tie.In-Opened) → let a = c.args in OpensBy a.group_len a.«data».now c.in-Opened.opened
+opens c = sym c.load.ensures ∙ c.in-Opened.is
 
-store-no-requires : tie.Need-store-no-requires
-store-no-requires c κs = (c.before.before.before.before.before.requires, opens c.before)
+store-no-requires : tie.Need-store_no-requires
+store-no-requires c κs = (c.requires, opens c)
 
-returns : tie.Need-returns
+returns : tie.Need-returns-in-Refused
 returns c =
-    let found = c.before in
-    let loaded = found.before.before in
-    let a = loaded.before.before.args in
-    refused-number (settings_of a.group-len) a.«data».now found.no.given.0.0 (sym loaded.load.ensures ∙ found.no.given.1)
+    let found = c in
+    let loaded = found in
+    let a = loaded.args in
+    refused-number (settings_of a.group_len) a.«data».now found.in-Refused.no (sym loaded.load.ensures ∙ found.in-Refused.is)
 
-returns-2 : tie.Need-returns-2
+returns-2 : tie.Need-returns-in-Opened
 returns-2 c = search rules
 
-pub check-grouped-spec : {M : Type 1} → statement M
-check-grouped-spec =
+pub check_grouped_spec : {M : Type 1} → statement M
+check_grouped_spec =
     tie.close
     (tie.spec load-requires enum-known-no enum-known-opened store-no-requires returns returns-2)

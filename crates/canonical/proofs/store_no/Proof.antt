@@ -9,70 +9,70 @@ use Rattle.canonical.proofs.Opened.{in_order, inside, records-exact, records-eno
 use Rattle.canonical.proofs.store_no.Statement.{statement}
 use Rattle.canonical.proofs.store_no.Tie as tie
 
-add-end : tie.Need-overflow-add-end
+add-end : tie.Need-overflow_add-end
 add-end c =
-    let s = c.before.before in
+    let s = c in
     let a = s.args in
-    omega (arith, inside a.group-len a.«data».now a.opened s.requires.0 s.requires.1)
+    omega (arith, inside a.group_len a.«data».now a.opened s.requires.0 s.requires.1)
 
-sub-store-canonical : tie.Need-overflow-sub-store-canonical
+sub-store-canonical : tie.Need-slice_bounds-store_canonical-count
 sub-store-canonical c =
-    let s = c.before.before in
+    let s = c in
     let a = s.args in
-    omega (arith, in_order a.group-len a.«data».now a.opened s.requires.0 s.requires.1)
+    omega (arith, in_order a.group_len a.«data».now a.opened s.requires.0 s.requires.1)
 
-part-store-canonical-start : tie.Need-slice-bounds-store-canonical-start
+part-store-canonical-start : tie.Need-slice_bounds-store_canonical-start
 part-store-canonical-start c =
-    let s = c.before.before in
+    let s = c in
     let a = s.args in
-    omega (arith, in_order a.group-len a.«data».now a.opened s.requires.0 s.requires.1)
+    omega (arith, in_order a.group_len a.«data».now a.opened s.requires.0 s.requires.1)
 
-part-store-canonical-end : tie.Need-slice-bounds-store-canonical-end
+part-store-canonical-end : tie.Need-slice_bounds-store_canonical-end
 part-store-canonical-end c =
-    let s = c.before.before in
+    let s = c in
     let a = s.args in
-    omega (arith, inside a.group-len a.«data».now a.opened s.requires.0 s.requires.1)
+    omega (arith, inside a.group_len a.«data».now a.opened s.requires.0 s.requires.1)
 
-sub-store-canonical-2 : tie.Need-overflow-sub-store-canonical-2
+sub-store-canonical-2 : tie.Need-slice_bounds-store_canonical-count-2
 sub-store-canonical-2 c = search rules
 
-part-store-canonical-start-2 : tie.Need-slice-bounds-store-canonical-start-2
+part-store-canonical-start-2 : tie.Need-slice_bounds-store_canonical-start-2
 part-store-canonical-start-2 c = search rules
 
-part-store-canonical-end-2 : tie.Need-slice-bounds-store-canonical-end-2
+part-store-canonical-end-2 : tie.Need-slice_bounds-store_canonical-end-2
 part-store-canonical-end-2 c =
-    let s = c.before.before.before in
+    let s = c in
     let a = s.args in
-    omega (arith, inside a.group-len a.«data».now a.opened s.requires.0 s.requires.1)
+    omega (arith, inside a.group_len a.«data».now a.opened s.requires.0 s.requires.1)
 
-store-canonical-requires : tie.Need-store-canonical-requires
+store-canonical-requires : tie.Need-store_canonical-requires
 store-canonical-requires c κs =
-    let s = c.before.before.before.before in
+    let s = c in
     let a = s.args in (
       s.requires.0,
-      records-enough a.group-len a.«data».now a.opened s.requires.0 s.requires.1,
-      records-exact a.group-len a.«data».now a.opened s.requires.0 s.requires.1,
-      store_kept a.group-len a.«data».now a.opened s.requires.0 s.requires.1,
+      records-enough a.group_len a.«data».now a.opened s.requires.0 s.requires.1,
+      records-exact a.group_len a.«data».now a.opened s.requires.0 s.requires.1,
+      store_kept a.group_len a.«data».now a.opened s.requires.0 s.requires.1,
     )
 
 -- the number by what the store's check answers
-number : (c : tie.After-store-canonical) → let a = c.before.before.before.before.before.args in
-    cond c.store-canonical.result 0 27 ≡ canonical_no (settings_of a.group-len) a.«data».now
+number : (c : tie.After-store_canonical) → let a = c.args in
+    cond c.store_canonical.result 0 27 ≡ canonical_no (settings_of a.group_len) a.«data».now
 number c =
-    let known = c.before.before.before.before in
-    let s = known.before in
+    let known = c in
+    let s = known in
     let a = s.args in
-    number_by a.group-len a.«data».now a.opened s.requires.0 s.requires.1 c.store-canonical.result
-    (λ k. (known.shared-slice-known.given k).fits) c.store-canonical.ensures
+    number_by a.group_len a.«data».now a.opened s.requires.0 s.requires.1 c.store_canonical.result
+    (λ k. (known.shared_slice_known-1.given k).fits) c.store_canonical.ensures
 
-returns : tie.Need-returns
-returns c = sym (ap (λ (t : Bool). cond t 0 27) c.if1.true) ∙ number c.before
+returns : tie.Need-returns-then-store_canonical
+returns c = sym (ap (λ (t : Bool). cond t 0 27) c.if-store_canonical.true) ∙ number c.before
 
-returns-2 : tie.Need-returns-2
-returns-2 c = sym (ap (λ (t : Bool). cond t 0 27) c.if1.false) ∙ number c.before
+returns-2 : tie.Need-returns
+returns-2 c = sym (ap (λ (t : Bool). cond t 0 27) c.if-store_canonical.false) ∙ number c.before
 
-pub store-no-spec : {M : Type 1} → statement M
-store-no-spec =
+pub store_no_spec : {M : Type 1} → statement M
+store_no_spec =
     tie.close
     (tie.spec
     add-end

@@ -12,49 +12,49 @@ use Rattle.index.proofs.Places.{place_inside}
 use Rattle.index_lookup.proofs.separator.Statement.{statement}
 use Rattle.index_lookup.proofs.separator.Tie as tie
 
-separator-place-requires : tie.Need-separator-place-requires
+separator-place-requires : tie.Need-separator_place-requires
 separator-place-requires c κs = search rules
 
-enum-known-offset : tie.Need-enum-known-offset
+enum-known-offset : tie.Need-enum_known-offset
 enum-known-offset c = search rules
 
-enum_told : tie.Need-enum-told
+enum_told : tie.Need-enum_told-1
 enum_told c = search rules
 
-slice-aggregate-result : tie.Need-slice-aggregate-result
+slice-aggregate-result : tie.Need-slice_bounds-result-end
 slice-aggregate-result c = search rules
 
-returns : tie.Need-returns
-returns c = let t = c.before in rw (sym t.before.before.separator-place.ensures ∙ t.enum_told.given.1)
+returns : tie.Need-returns-in_default
+returns c = let t = c in rw (sym t.separator_place.ensures ∙ t.in_default.is)
 
 -- the place is a part
-placed : (c : tie.After-offset) → place_def c.before.before.before.before.args.opened c.before.before.before.before.args.«data».now c.before.before.before.before.args.block-id ≡ Part c.offset.given.0.0 c.offset.given.0.1.0
-placed c = sym c.before.before.separator-place.ensures ∙ c.offset.given.1
+placed : (c : tie.In-Part) → place_def c.args.opened c.args.«data».now c.args.block_id ≡ Part c.in-Part.offset c.in-Part.len
+placed c = sym c.separator_place.ensures ∙ c.in-Part.is
 
-inside : (c : tie.After-offset) → c.offset.given.0.0 + c.offset.given.0.1.0 ≤ length c.before.before.before.before.args.«data».now
+inside : (c : tie.In-Part) → c.in-Part.offset + c.in-Part.len ≤ length c.args.«data».now
 inside c =
-    let a = c.before.before.before.before.args in
-    place_inside (group_of a.opened) a.opened a.«data».now a.block-id _ _ (placed c)
+    let a = c.args in
+    place_inside (group_of a.opened) a.opened a.«data».now a.block_id _ _ (placed c)
 
-add-end : tie.Need-overflow-add-end
-add-end c = omega (arith, inside c.before)
+add-end : tie.Need-overflow_add-end
+add-end c = omega (arith, inside c)
 
-sub-result : tie.Need-overflow-sub-result
+sub-result : tie.Need-slice_bounds-result-count
 sub-result c = search rules
 
-part-result-start : tie.Need-slice-bounds-result-start
+part-result-start : tie.Need-slice_bounds-result-start
 part-result-start c = search rules
 
-part-result-end : tie.Need-slice-bounds-result-end
-part-result-end c = inside c.before
+part-result-end : tie.Need-slice_bounds-result-end-2
+part-result-end c = inside c
 
-returns-2 : tie.Need-returns-2
+returns-2 : tie.Need-returns
 returns-2 c =
-    let p = c.before.before in
-    rw (placed p, add-sub_cancel_left p.offset.given.0.0 p.offset.given.0.1.0)
+    let p = c.before in
+    rw (placed p, add-sub_cancel_left p.in-Part.offset p.in-Part.len)
 
-pub separator-spec : {M : Type 1} → statement M
-separator-spec =
+pub separator_spec : {M : Type 1} → statement M
+separator_spec =
     tie.close
     (tie.spec
     separator-place-requires

@@ -5,34 +5,34 @@ use borrow.Author.Rules.{rules}
 use Rattle.replay.proofs.replay.Statement.{statement}
 use Rattle.replay.proofs.replay.Tie as tie
 
-replay-no-requires : tie.Need-replay-no-requires
+replay-no-requires : tie.Need-replay_no-no-requires
 replay-no-requires c κs = search rules
 
-returns : tie.Need-returns
-returns c = (c.before.replay-no.ensures, (λ z. absurd (c.if1.true z), λ h. (refl, refl, refl, refl)))
+returns : tie.Need-returns-then-no-ne0
+returns c = (c.replay_no-no.ensures, (λ z. absurd (c.if-no-ne0.true z), λ h. (refl, refl, refl, refl)))
 
-replay-list-requires : tie.Need-replay-list-requires
+replay-list-requires : tie.Need-replay_list-requires
 replay-list-requires c κs = search rules
 
-same_length : tie.Need-same-length
+same_length : tie.Need-shape_of-blocks
 same_length c = search rules
 
-same-length-2 : tie.Need-same-length-2
+same-length-2 : tie.Need-shape_of-keys
 same-length-2 c = search rules
 
-same-length-3 : tie.Need-same-length-3
+same-length-3 : tie.Need-shape_of-out
 same-length-3 c = search rules
 
-same-length-4 : tie.Need-same-length-4
+same-length-4 : tie.Need-shape_of-answers
 same-length-4 c = search rules
 
-returns-2 : tie.Need-returns-2
+returns-2 : tie.Need-returns
 returns-2 c =
-    let n = c.before.before.before.before.before.before.before.before.before.before.before.before.before.before in
-    (sym c.before.before.before.before.before.before.before.before.before.before.before.before.before.if1.false ∙ n.replay-no.ensures, (λ z. c.before.before.before.before.before.before.before.before.replay-list.ensures, λ h. absurd (let z : ⊥ = omega arith in z)))
+    let n = c in
+    (sym c.if-no-ne0.false ∙ n.replay_no-no.ensures, (λ z. c.replay_list.ensures, λ h. absurd (let z : ⊥ = omega arith in z)))
 
-pub replay-spec : {M : Type 1} → statement M
-replay-spec =
+pub replay_spec : {M : Type 1} → statement M
+replay_spec =
     tie.close
     (tie.spec
     replay-no-requires

@@ -6,28 +6,28 @@ use Rattle.index.proofs.OpeningRows.{footer-short, footer-none, footer-beyond, f
 use Rattle.index_load.proofs.grouped.footer_no.Statement.{statement}
 use Rattle.index_load.proofs.grouped.footer_no.Tie as tie
 
-returns : tie.Need-returns
-returns c = footer-short c.before.before.args.«data».now (omega arith)
+returns : tie.Need-returns-then-len-lt-FOOTER_LEN
+returns c = footer-short c.args.«data».now (omega arith)
 
-deserialize-u64-requires : tie.Need-deserialize-u64-requires
+deserialize-u64-requires : tie.Need-deserialize_u64-directory-requires
 deserialize-u64-requires c κs = search rules
 
-returns-2 : tie.Need-returns-2
-returns-2 c = footer-none c.before.before.before.before.args.«data».now (omega arith) (omega arith)
+returns-2 : tie.Need-returns-then-directory-eq0
+returns-2 c = footer-none c.args.«data».now (omega arith) (omega arith)
 
-returns-3 : tie.Need-returns-3
-returns-3 c = footer-beyond c.before.before.before.before.before.args.«data».now (omega arith) (λ e. omega arith) (omega arith)
+returns-3 : tie.Need-returns-then-directory-len
+returns-3 c = footer-beyond c.args.«data».now (omega arith) (λ e. omega arith) (omega arith)
 
-add-if4 : tie.Need-overflow-add-if4
+add-if4 : tie.Need-overflow_add-directory
 add-if4 c = search rules
 
-returns-4 : tie.Need-returns-4
-returns-4 c = footer-beyond c.before.before.before.before.before.before.args.«data».now (omega arith) (λ e. omega arith) (omega arith)
+returns-4 : tie.Need-returns-then-len-directory
+returns-4 c = footer-beyond c.args.«data».now (omega arith) (λ e. omega arith) (omega arith)
 
-returns-5 : tie.Need-returns-5
-returns-5 c = sym (footer-good c.before.before.before.before.before.before.args.«data».now (record { some = omega arith; inside = omega arith }))
+returns-5 : tie.Need-returns
+returns-5 c = sym (footer-good c.args.«data».now (record { some = omega arith; inside = omega arith }))
 
-pub footer-no-spec : {M : Type 1} → statement M
-footer-no-spec =
+pub footer_no_spec : {M : Type 1} → statement M
+footer_no_spec =
     tie.close
     (tie.spec returns deserialize-u64-requires returns-2 returns-3 add-if4 returns-4 returns-5)

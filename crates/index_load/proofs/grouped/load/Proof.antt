@@ -9,56 +9,56 @@ use Rattle.index.proofs.OpeningRows.{FooterOk, footer-ok, length-directory_part,
 use Rattle.index_load.proofs.grouped.load.Statement.{statement}
 use Rattle.index_load.proofs.grouped.load.Tie as tie
 
-footer-no-requires : tie.Need-footer-no-requires
+footer-no-requires : tie.Need-footer_no-footer-requires
 footer-no-requires c κs = search rules
 
-returns : tie.Need-returns
+returns : tie.Need-returns-then-footer-ne0
 returns c =
-    let a = c.before.before.before.args in
-    let no = c.before.footer-no in
-    open-refused a.group-len a.«data».now no.result (no.ensures ∙ open-footer a.group-len a.«data».now (λ z. omega arith)) (λ z. omega arith)
+    let a = c.args in
+    let no = c.footer_no-footer in
+    open-refused a.group_len a.«data».now no.result (no.ensures ∙ open-footer a.group_len a.«data».now (λ z. omega arith)) (λ z. omega arith)
 
 -- rows 10 and 11 aren't hit
-passes : (c : tie.Else1) → footer_no c.before.before.before.args.«data».now ≡ 0
+passes : (c : tie.Else-footer-ne0) → footer_no c.args.«data».now ≡ 0
 passes c = omega arith
 
-footer : (c : tie.Else1) → FooterOk c.before.before.before.args.«data».now
-footer c = footer-ok c.before.before.before.args.«data».now (passes c)
+footer : (c : tie.Else-footer-ne0) → FooterOk c.args.«data».now
+footer c = footer-ok c.args.«data».now (passes c)
 
-sub-deserialize-u64 : tie.Need-overflow-sub-deserialize-u64
+sub-deserialize-u64 : tie.Need-overflow_sub-data
 sub-deserialize-u64 c = omega (arith, (footer c).inside)
 
-deserialize-u64-requires : tie.Need-deserialize-u64-requires
+deserialize-u64-requires : tie.Need-deserialize_u64-directory_len-requires
 deserialize-u64-requires c κs = omega (arith, (footer c).inside)
 
-slice-aggregate-directory-no : tie.Need-slice-aggregate-directory-no
+slice-aggregate-directory-no : tie.Need-slice_bounds-directory_no-end
 slice-aggregate-directory-no c =
-    let e = c.before.before in
-    let f = e.before.before.before.args.«data».now in
-    rw c.before.deserialize-u64.ensures (sym (length-directory_part f (footer e)))
+    let e = c.before in
+    let f = e.args.«data».now in
+    rw c.deserialize_u64-directory_len.ensures (sym (length-directory_part f (footer e)))
 
-directory-no-requires : tie.Need-directory-no-requires
+directory-no-requires : tie.Need-directory_no-keys-requires
 directory-no-requires c κs = search rules
 
 -- the number of rows 12 and 13 is that of the directory's part
-number : (c : tie.After-directory-no) → c.directory-no.result ≡ directory_no (directory_part c.before.before.before.before.before.before.args.«data».now)
-number c = c.directory-no.ensures ∙ rw c.before.before.deserialize-u64.ensures
+number : (c : tie.After-directory_no-keys) → c.directory_no-keys.result ≡ directory_no (directory_part c.args.«data».now)
+number c = c.directory_no-keys.ensures ∙ rw c.deserialize_u64-directory_len.ensures
 
-returns-2 : tie.Need-returns-2
+returns-2 : tie.Need-returns-then-keys-ne0
 returns-2 c =
-    let e = c.before.before.before.before in
-    let a = e.before.before.before.args in
-    let no = c.before.directory-no in
-    open-refused a.group-len a.«data».now no.result
-    (number c.before ∙ open-directory a.group-len a.«data».now (passes e) (λ z. omega (arith, number c.before))) (λ z. omega arith)
+    let e = c.before.before.before in
+    let a = e.args in
+    let no = c.directory_no-keys in
+    open-refused a.group_len a.«data».now no.result
+    (number c.before ∙ open-directory a.group_len a.«data».now (passes e) (λ z. omega (arith, number c.before))) (λ z. omega arith)
 
-load-store-requires : tie.Need-load-store-requires
+load-store-requires : tie.Need-load_store-requires
 load-store-requires c κs =
-    let e = c.before.before.before.before in
-    let s = e.before.before.before in
-    (s.requires, passes e, c.before.before.before.deserialize-u64.ensures, omega (arith, number c.before))
+    let e = c.before.before.before in
+    let s = e in
+    (s.requires, passes e, c.deserialize_u64-directory_len.ensures, omega (arith, number c.before))
 
-returns-3 : tie.Need-returns-3
+returns-3 : tie.Need-returns
 returns-3 c = search rules
 
 pub load_spec : {M : Type 1} → statement M

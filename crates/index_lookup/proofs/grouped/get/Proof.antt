@@ -13,16 +13,16 @@ part-requires-2 c κs = search rules
 
 block-requires : tie.Need-block-requires
 block-requires c κs =
-    let s = c.before.before.before in
-    (s.requires.0, enough-records s.args.group-len s.args.«data».now s.args.opened _ s.requires.1 c.before.part.ensures, s.requires.2)
+    let s = c in
+    (s.requires.0, enough-records s.args.group_len s.args.«data».now s.args.opened _ s.requires.1 c.part.ensures, s.requires.2)
 
 returns : tie.Need-returns
 returns c =
-    let s = c.before.before.before.before in
+    let s = c in
     let a = s.args in
     λ o.
-    got-as a.group-len a.«data».now a.opened (opens-facts-by a.group-len a.«data».now a.opened s.requires.0 o) _ _
-    c.before.before.part.ensures c.before.part2.ensures a.id _ s.requires.2 c.block.ensures
+    got-as a.group_len a.«data».now a.opened (opens-facts-by a.group_len a.«data».now a.opened s.requires.0 o) _ _
+    c.part.ensures c.part-2.ensures a.id _ s.requires.2 c.block.ensures
 
 pub get_spec : {M : Type 1} → statement M
 get_spec = tie.close (tie.spec part-requires part-requires-2 block-requires returns)

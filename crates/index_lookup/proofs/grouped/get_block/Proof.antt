@@ -15,24 +15,24 @@ use Rattle.index_lookup.proofs.grouped.get_block.Statement.{statement}
 use Rattle.index_lookup.proofs.grouped.get_block.Tie as tie
 
 -- the record passed its test
-fits : (c : tie.Else1) → let a = c.before.before.before.args in OpenedFits a.group-len a.opened (length a.«data».now)
-fits c = opened-fits _ _ _ (sym c.before.opened-bad.ensures ∙ c.if1.false)
+fits : (c : tie.Else-opened_bad) → let a = c.args in OpenedFits a.group_len a.opened (length a.«data».now)
+fits c = opened-fits _ _ _ (sym c.opened_bad.ensures ∙ c.if-opened_bad.false)
 
-opened-bad-requires : tie.Need-opened-bad-requires
+opened-bad-requires : tie.Need-opened_bad-requires
 opened-bad-requires c κs = search rules
 
-returns : tie.Need-returns
+returns : tie.Need-returns-then-opened_bad
 returns c =
-    let s = c.before.before.before in (
+    let s = c in (
       record {
         allowed = inr (inr refl, refl);
         unfit = λ e. refl;
-        exact = λ o. absurd (bad-unopened _ _ _ s.requires (sym c.before.opened-bad.ensures ∙ c.if1.true) o);
+        exact = λ o. absurd (bad-unopened _ _ _ s.requires (sym c.opened_bad.ensures ∙ c.if-opened_bad.true) o);
       },
       omega arith,
     )
 
-returns-2 : tie.Need-returns-2
+returns-2 : tie.Need-returns-then-block_id-opened
 returns-2 c = (
   record {
     allowed = inr (inl refl, refl);
@@ -42,43 +42,43 @@ returns-2 c = (
   omega arith,
 )
 
-get-requires : tie.Need-get-requires
-get-requires c κs = (c.before.before.before.before.requires, fits c.before, c.if2.false)
+get-requires : tie.Need-get-block-requires
+get-requires c κs = (c.requires, fits c.before, c.if-block_id-opened.false)
 
-numbers-bad-requires : tie.Need-numbers-bad-requires
+numbers-bad-requires : tie.Need-numbers_bad-requires
 numbers-bad-requires c κs = search rules
 
-returns-3 : tie.Need-returns-3
+returns-3 : tie.Need-returns-then-numbers_bad
 returns-3 c =
-    let g = c.before.before in
-    let e = g.before in
-    let s = e.before.before.before.before in
+    let g = c in
+    let e = g in
+    let s = e in
     let a = s.args in (
       record {
         allowed = inr (inr refl, refl);
         unfit = λ e. refl;
         exact = λ o.
             absurd
-            (kept (block_in a.group-len a.«data».now) a.opened.n a.block-id _
-            (opened-legal _ _ _ (opens-facts-by a.group-len a.«data».now a.opened s.requires o)) e.if2.false
-            (g.get.ensures o) (sym c.before.numbers-bad.ensures ∙ c.if3.true));
+            (kept (block_in a.group_len a.«data».now) a.opened.n a.block_id _
+            (opened-legal _ _ _ (opens-facts-by a.group_len a.«data».now a.opened s.requires o)) e.if-block_id-opened.false
+            (g.get-block.ensures o) (sym c.numbers_bad.ensures ∙ c.if-numbers_bad.true));
       },
       omega arith,
     )
 
-returns-4 : tie.Need-returns-4
+returns-4 : tie.Need-returns
 returns-4 c =
     let g = c.before.before in
     let e = g.before in (
       record {
-        allowed = inl (refl, e.if2.false, numbers-ok _ (sym c.before.numbers-bad.ensures ∙ c.if3.false));
+        allowed = inl (refl, e.if-block_id-opened.false, numbers-ok _ (sym c.numbers_bad.ensures ∙ c.if-numbers_bad.false));
         unfit = λ u. absurd (bad-unfit _ _ _ u (fits e.before));
-        exact = λ o. inl (refl, e.if2.false, g.get.ensures o);
+        exact = λ o. inl (refl, e.if-block_id-opened.false, g.get-block.ensures o);
       },
       search rules,
     )
 
-pub get-block-spec : {M : Type 1} → statement M
-get-block-spec =
+pub get_block_spec : {M : Type 1} → statement M
+get_block_spec =
     tie.close
     (tie.spec opened-bad-requires returns returns-2 get-requires numbers-bad-requires returns-3 returns-4)

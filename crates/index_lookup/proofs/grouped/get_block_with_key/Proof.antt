@@ -18,50 +18,50 @@ use Rattle.index_lookup.proofs.grouped.get_block_with_key.Statement.{statement}
 use Rattle.index_lookup.proofs.grouped.get_block_with_key.Tie as tie
 
 -- the record passed its test
-fits : (c : tie.Else1) → let a = c.before.before.before.before.args in OpenedFits a.group-len a.opened (length a.«data».now)
-fits c = opened-fits _ _ _ (sym c.before.opened-bad.ensures ∙ c.if1.false)
+fits : (c : tie.Else-opened_bad) → let a = c.args in OpenedFits a.group_len a.opened (length a.«data».now)
+fits c = opened-fits _ _ _ (sym c.opened_bad.ensures ∙ c.if-opened_bad.false)
 
-opened-bad-requires : tie.Need-opened-bad-requires
+opened-bad-requires : tie.Need-opened_bad-requires
 opened-bad-requires c κs = search rules
 
-returns : tie.Need-returns
+returns : tie.Need-returns-then-opened_bad
 returns c =
-    let s = c.before.before.before.before in (
+    let s = c in (
       record {
         allowed = inr (inr refl, refl, refl);
         unfit = λ e. refl;
-        exact = λ o. absurd (bad-unopened _ _ _ s.requires (sym c.before.opened-bad.ensures ∙ c.if1.true) o);
+        exact = λ o. absurd (bad-unopened _ _ _ s.requires (sym c.opened_bad.ensures ∙ c.if-opened_bad.true) o);
       },
       omega arith,
     )
 
-part-requires : tie.Need-part-requires
+part-requires : tie.Need-part-keys-requires
 part-requires c κs = (fits c).directory
 
-locate-with-key-requires : tie.Need-locate-with-key-requires
+locate-with-key-requires : tie.Need-locate_with_key-found-requires
 locate-with-key-requires c κs = ((fits c.before).some, (fits c.before).few)
 
 -- what the directory finds, said of the file
-found : (c : tie.After-locate-with-key) → let a = c.before.before.before.before.before.before.args in
-    OpensBy a.group-len a.«data».now a.opened
-    → FoundAs (separator_in a.«data».now) a.opened.n a.key.now c.locate-with-key.result
+found : (c : tie.After-locate_with_key-found) → let a = c.args in
+    OpensBy a.group_len a.«data».now a.opened
+    → FoundAs (separator_in a.«data».now) a.opened.n a.key.now c.locate_with_key-found.result
 found c o =
-    let s = c.before.before.before.before.before.before in
+    let s = c in
     let a = s.args in
-    found_as a.group-len a.«data».now a.opened (opens-facts-by a.group-len a.«data».now a.opened s.requires o) _
-    c.before.part.ensures a.key.now _ c.locate-with-key.ensures.1
+    found_as a.group_len a.«data».now a.opened (opens-facts-by a.group_len a.«data».now a.opened s.requires o) _
+    c.part-keys.ensures a.key.now _ c.locate_with_key-found.ensures.1
 
-enum-known-found : tie.Need-enum-known-found
+enum-known-found : tie.Need-enum_known-found
 enum-known-found c = search rules
 
 refusal-requires : tie.Need-refusal-requires
 refusal-requires c κs = search rules
 
-returns-2 : tie.Need-returns-2
+returns-2 : tie.Need-returns-in_default
 returns-2 c =
-    let other = c.before.match.keys2 in
+    let other = c.in_default.in_default-own.keys2 in
     let b = c.before.before in
-    let r = b.locate-with-key.result in
+    let r = b.locate_with_key-found.result in
     let refused = key-refused r _ c.refusal.ensures other in (
       record {
         allowed = inr (refused, refl, refl);
@@ -72,52 +72,52 @@ returns-2 c =
     )
 
 -- the block found is one of n
-known : (c : tie.After-found) → c.found.given.0.0 < c.before.before.before.before.before.before.before.before.args.opened.n
+known : (c : tie.In-At) → c.in-At.id < c.args.opened.n
 unfolding FoundIn
-known c = rw c.found.given.1 at c.before.before.locate-with-key.ensures.0
+known c = rw c.in-At.is at c.locate_with_key-found.ensures.0
 
-get-requires : tie.Need-get-requires
+get-requires : tie.Need-get-block-requires
 get-requires c κs =
-    let e = c.before.before.before.before.before in
-    (e.before.before.before.before.requires, fits e, omega (arith, known c.before))
+    let e = c.before.before.before in
+    (e.requires, fits e, omega (arith, known c))
 
-numbers-bad-requires : tie.Need-numbers-bad-requires
+numbers-bad-requires : tie.Need-numbers_bad-requires
 numbers-bad-requires c κs = search rules
 
-returns-3 : tie.Need-returns-3
+returns-3 : tie.Need-returns-then-numbers_bad
 returns-3 c =
     let g = c.before.before in
-    let f = g.before.before in
-    let s = f.before.before.before.before.before.before.before.before in
+    let f = g.before in
+    let s = f in
     let a = s.args in (
       record {
         allowed = inr (inr refl, refl, refl);
         unfit = λ e. refl;
         exact = λ o.
             absurd
-            (kept (block_in a.group-len a.«data».now) a.opened.n _ _
-            (opened-legal _ _ _ (opens-facts-by a.group-len a.«data».now a.opened s.requires o)) (known f)
-            (g.get.ensures o) (sym c.before.numbers-bad.ensures ∙ c.if2.true));
+            (kept (block_in a.group_len a.«data».now) a.opened.n _ _
+            (opened-legal _ _ _ (opens-facts-by a.group_len a.«data».now a.opened s.requires o)) (known f)
+            (g.get-block.ensures o) (sym c.numbers_bad.ensures ∙ c.if-numbers_bad.true));
       },
       omega arith,
     )
 
-returns-4 : tie.Need-returns-4
+returns-4 : tie.Need-returns
 unfolding FoundAs
 returns-4 c =
     let g = c.before.before in
-    let f = g.before.before in
-    let b = f.before.before in (
+    let f = g.before in
+    let b = f.before in (
       record {
-        allowed = inl (refl, known f, numbers-ok _ (sym c.before.numbers-bad.ensures ∙ c.if2.false));
+        allowed = inl (refl, known f, numbers-ok _ (sym c.numbers_bad.ensures ∙ c.if-numbers_bad.false));
         unfit = λ e. absurd (bad-unfit _ _ _ e (fits b.before.before));
-        exact = λ o. inl (refl, rw f.found.given.1 at (found b o), g.get.ensures o);
+        exact = λ o. inl (refl, rw f.in-At.is at (found b o), g.get-block.ensures o);
       },
       search rules,
     )
 
-pub get-block-with-key-spec : {M : Type 1} → statement M
-get-block-with-key-spec =
+pub get_block_with_key_spec : {M : Type 1} → statement M
+get_block_with_key_spec =
     tie.close
     (tie.spec
     opened-bad-requires

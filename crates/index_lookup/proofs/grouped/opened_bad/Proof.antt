@@ -18,55 +18,55 @@ outside len end t e h fits = true≢false (sym h ∙ e ∙ le-ltb len end fits)
 within : (len end : ℕ) (t : Bool) → t ≡ ltb len end → t ≡ false → end ≤ len
 within len end t e h = ltb-false len end (sym e ∙ h)
 
-returns : tie.Need-returns
-returns c = sym (unfit-bad _ _ _ (λ fits. omega (arith, c.if1.true)))
+returns : tie.Need-returns-then-opened-lt1
+returns c = sym (unfit-bad _ _ _ (λ fits. omega (arith, c.if-opened-lt1.true)))
 
-returns-2 : tie.Need-returns-2
-returns-2 c = sym (unfit-bad _ _ _ (λ fits. omega (arith, c.if2.true)))
+returns-2 : tie.Need-returns-then-opened-gt-MAX_BLOCKS
+returns-2 c = sym (unfit-bad _ _ _ (λ fits. omega (arith, c.if-opened-gt-MAX_BLOCKS.true)))
 
-part-outside-requires : tie.Need-part-outside-requires
+part-outside-requires : tie.Need-part_outside-requires
 part-outside-requires c κs = search rules
 
-returns-3 : tie.Need-returns-3
-returns-3 c = sym (unfit-bad _ _ _ (λ fits. outside _ _ _ c.before.part-outside.ensures c.if3.true fits.directory))
+returns-3 : tie.Need-returns-then-part_outside
+returns-3 c = sym (unfit-bad _ _ _ (λ fits. outside _ _ _ c.part_outside.ensures c.if-part_outside.true fits.directory))
 
-part-outside-requires-2 : tie.Need-part-outside-requires-2
+part-outside-requires-2 : tie.Need-part_outside-requires-2
 part-outside-requires-2 c κs = search rules
 
-returns-4 : tie.Need-returns-4
-returns-4 c = sym (unfit-bad _ _ _ (λ fits. outside _ _ _ c.before.part-outside2.ensures c.if4.true fits.metas))
+returns-4 : tie.Need-returns-then-part_outside-2
+returns-4 c = sym (unfit-bad _ _ _ (λ fits. outside _ _ _ c.part_outside-2.ensures c.if-part_outside-2.true fits.metas))
 
-part-outside-requires-3 : tie.Need-part-outside-requires-3
+part-outside-requires-3 : tie.Need-part_outside-requires-3
 part-outside-requires-3 c κs = search rules
 
-returns-5 : tie.Need-returns-5
-returns-5 c = sym (unfit-bad _ _ _ (λ fits. outside _ _ _ c.before.part-outside3.ensures c.if5.true fits.addrs))
+returns-5 : tie.Need-returns-then-part_outside-3
+returns-5 c = sym (unfit-bad _ _ _ (λ fits. outside _ _ _ c.part_outside-3.ensures c.if-part_outside-3.true fits.addrs))
 
-group-count-requires : tie.Need-group-count-requires
+group-count-requires : tie.Need-group_count-requires
 group-count-requires c κs = search rules
 
-mul-result : tie.Need-overflow-mul-result
+mul-result : tie.Need-overflow_mul-result
 mul-result c =
-    let e = c.before.before.before.before.before.before.before in
-    let s = e.before.before.before.before in
-    omega (arith, c.group-count.ensures, group-count-le s.requires.some s.args.opened.n, e.if2.false)
+    let e = c in
+    let s = e in
+    omega (arith, c.group_count.ensures, group-count-le s.requires.some s.args.opened.n, e.if-opened-gt-MAX_BLOCKS.false)
 
-returns-6 : tie.Need-returns-6
+returns-6 : tie.Need-returns
 returns-6 c =
-    let e5 = c.before.before in
-    let e4 = e5.before.before in
-    let e3 = e4.before.before in
-    let e2 = e3.before.before in
-    let e1 = e2.before.before in
-    let a = e1.before.before.args in
-    ap (λ (x : ℕ). ltb a.opened.metas_len (36 * x)) c.before.group-count.ensures
-    ∙ sym (last-test a.group-len a.opened a.len e1.if1.false e2.if2.false
-    (within _ _ _ e3.before.part-outside.ensures e3.if3.false)
-    (within _ _ _ e4.before.part-outside2.ensures e4.if4.false)
-    (within _ _ _ e5.before.part-outside3.ensures e5.if5.false))
+    let e5 = c in
+    let e4 = e5 in
+    let e3 = e4 in
+    let e2 = e3 in
+    let e1 = e2 in
+    let a = e1.args in
+    ap (λ (x : ℕ). ltb a.opened.metas_len (36 * x)) c.group_count.ensures
+    ∙ sym (last-test a.group_len a.opened a.len e1.if-opened-lt1.false e2.if-opened-gt-MAX_BLOCKS.false
+    (within _ _ _ e3.part_outside.ensures e3.if-part_outside.false)
+    (within _ _ _ e4.part_outside-2.ensures e4.if-part_outside-2.false)
+    (within _ _ _ e5.part_outside-3.ensures e5.if-part_outside-3.false))
 
-pub opened-bad-spec : {M : Type 1} → statement M
-opened-bad-spec =
+pub opened_bad_spec : {M : Type 1} → statement M
+opened_bad_spec =
     tie.close
     (tie.spec
     returns

@@ -3,23 +3,23 @@ use borrow.Author.Rules.{rules}
 use Rattle.index_lookup.proofs.grouped.ord_refusal.Statement.{statement}
 use Rattle.index_lookup.proofs.grouped.ord_refusal.Tie as tie
 
-enum_told : tie.Need-enum-told
+enum_told : tie.Need-enum_told-1
 enum_told c = search rules
 
-enum-told-2 : tie.Need-enum-told-2
+enum-told-2 : tie.Need-enum_told-in-Below
 enum-told-2 c = search rules
 
-enum-told-3 : tie.Need-enum-told-3
+enum-told-3 : tie.Need-enum_told-in-Broken
 enum-told-3 c = search rules
 
-returns : tie.Need-returns
-returns c = rw c.enum_told.given.1
+returns : tie.Need-returns-in-At
+returns c = rw c.in-At.is
 
-returns-2 : tie.Need-returns-2
-returns-2 c = rw c.enum-told2.given.1
+returns-2 : tie.Need-returns-in-Below
+returns-2 c = rw c.in-Below.is
 
-returns-3 : tie.Need-returns-3
-returns-3 c = rw c.enum-told3.given.1
+returns-3 : tie.Need-returns-in-Broken
+returns-3 c = rw c.in-Broken.is
 
-pub ord-refusal-spec : {M : Type 1} → statement M
-ord-refusal-spec = tie.close (tie.spec enum_told enum-told-2 enum-told-3 returns returns-2 returns-3)
+pub ord_refusal_spec : {M : Type 1} → statement M
+ord_refusal_spec = tie.close (tie.spec enum_told enum-told-2 enum-told-3 returns returns-2 returns-3)

@@ -14,11 +14,11 @@ same_test offset size len h =
     (λ t. t ∙ sym (lt-ltb len (offset + size) (omega (arith, ltb-true (len - offset) size t))))
     (λ e. e ∙ sym (le-ltb len (offset + size) (omega (arith, ltb-false (len - offset) size e))))
 
-returns : tie.Need-returns
-returns c = let a = c.before.args in sym (lt-ltb a.len (a.offset + a.part-len) (omega arith))
+returns : tie.Need-returns-then-offset-len
+returns c = let a = c.args in sym (lt-ltb a.len (a.offset + a.part_len) (omega arith))
 
-returns-2 : tie.Need-returns-2
-returns-2 c = let a = c.before.args in same_test a.offset a.part-len a.len (omega arith)
+returns-2 : tie.Need-returns
+returns-2 c = let a = c.args in same_test a.offset a.part_len a.len (omega arith)
 
-pub part-outside-spec : {M : Type 1} → statement M
-part-outside-spec = tie.close (tie.spec returns returns-2)
+pub part_outside_spec : {M : Type 1} → statement M
+part_outside_spec = tie.close (tie.spec returns returns-2)

@@ -13,73 +13,73 @@ use Rattle.index_lookup.proofs.grouped.separator_place.Statement.{statement}
 use Rattle.index_lookup.proofs.grouped.separator_place.Tie as tie
 
 -- the record passed its test
-fits : (c : tie.Else1) → let a = c.before.before.before.args in OpenedFits a.group-len a.opened (length a.«data».now)
-fits c = opened-fits _ _ _ (sym c.before.opened-bad.ensures ∙ c.if1.false)
+fits : (c : tie.Else-opened_bad) → let a = c.args in OpenedFits a.group_len a.opened (length a.«data».now)
+fits c = opened-fits _ _ _ (sym c.opened_bad.ensures ∙ c.if-opened_bad.false)
 
-opened-bad-requires : tie.Need-opened-bad-requires
+opened-bad-requires : tie.Need-opened_bad-requires
 opened-bad-requires c κs = search rules
 
-returns : tie.Need-returns
+returns : tie.Need-returns-then-opened_bad
 returns c =
-    let a = c.before.before.before.args in
-    sym (place-bad a.group-len a.opened a.«data».now a.block-id (sym c.before.opened-bad.ensures ∙ c.if1.true))
+    let a = c.args in
+    sym (place-bad a.group_len a.opened a.«data».now a.block_id (sym c.opened_bad.ensures ∙ c.if-opened_bad.true))
 
-returns-2 : tie.Need-returns-2
+returns-2 : tie.Need-returns-then-block_id-opened
 returns-2 c =
-    let a = c.before.before.before.before.args in
-    sym (place-unknown a.group-len a.opened a.«data».now a.block-id c.if2.true)
+    let a = c.args in
+    sym (place-unknown a.group_len a.opened a.«data».now a.block_id c.if-block_id-opened.true)
 
-part-requires : tie.Need-part-requires
+part-requires : tie.Need-part-keys-requires
 part-requires c κs = (fits c.before).directory
 
-key-outside-requires : tie.Need-key-outside-requires
-key-outside-requires c κs = ((fits c.before.before).few, c.before.if2.false)
+key-outside-requires : tie.Need-key_outside-requires
+key-outside-requires c κs = ((fits c.before.before).few, c.if-block_id-opened.false)
 
-returns-3 : tie.Need-returns-3
+returns-3 : tie.Need-returns-then-key_outside
 returns-3 c =
-    let k = c.before in
-    let a = k.before.before.before.before.before.before.args in
-    sym (place-outside a.group-len a.opened a.«data».now a.block-id
-    (sym (rw k.before.part.ensures at k.key-outside.ensures) ∙ c.if3.true))
+    let k = c in
+    let a = k.args in
+    sym (place-outside a.group_len a.opened a.«data».now a.block_id
+    (sym (rw k.part-keys.ensures at k.key_outside.ensures) ∙ c.if-key_outside.true))
 
 -- the key is inside the directory
-inside : (c : tie.Else3) → let a = c.before.before.before.before.before.before.before.args in
-    key_outside c.before.before.part.result.now a.opened.n a.block-id ≡ false
-inside c = sym c.before.key-outside.ensures ∙ c.if3.false
+inside : (c : tie.Else-key_outside) → let a = c.args in
+    key_outside c.part-keys.result.now a.opened.n a.block_id ≡ false
+inside c = sym c.key_outside.ensures ∙ c.if-key_outside.false
 
-key-position-requires : tie.Need-key-position-requires
-key-position-requires c κs = ((fits c.before.before.before.before).few, c.before.before.before.if2.false, inside c)
+key-position-requires : tie.Need-key_position-requires
+key-position-requires c κs = ((fits c.before.before.before.before).few, c.if-block_id-opened.false, inside c)
 
-add-position : tie.Need-overflow-add-position
+add-position : tie.Need-overflow_add-position
 add-position c =
     let e = c.before.before in
     let p = e.before.before in
     let o = p.before.before in
-    let a = o.before.before.before.args in
+    let a = o.args in
     omega (
       arith,
       (fits o).directory,
       (is-inside _ _ _ (inside e)).bytes,
-      rw (← p.part.ensures) at (length-take a.opened.directory_len (drop a.opened.directory a.«data».now)),
+      rw (← p.part-keys.ensures) at (length-take a.opened.directory_len (drop a.opened.directory a.«data».now)),
     )
 
 key-requires : tie.Need-key-requires
 key-requires c κs =
     let e = c.before.before in
-    ((fits e.before.before.before.before).few, e.before.before.before.if2.false, inside e)
+    ((fits e.before.before.before.before).few, e.if-block_id-opened.false, inside e)
 
-returns-4 : tie.Need-returns-4
+returns-4 : tie.Need-returns
 returns-4 c =
     let k = c.before.before in
     let e = k.before in
     let p = e.before.before in
     let t = p.before in
-    let a = t.before.before.before.before.args in
-    place_read a.group-len a.opened a.«data».now a.block-id (fits t.before) t.if2.false _ p.part.ensures (inside e)
-    _ _ k.key-position.ensures (ap length c.key.ensures ∙ length-key_of _ _ _ (is-inside _ _ _ (inside e)))
+    let a = t.args in
+    place_read a.group_len a.opened a.«data».now a.block_id (fits t.before) t.if-block_id-opened.false _ p.part-keys.ensures (inside e)
+    _ _ k.key_position.ensures (ap length c.key.ensures ∙ length-key_of _ _ _ (is-inside _ _ _ (inside e)))
 
-pub separator-place-spec : {M : Type 1} → statement M
-separator-place-spec =
+pub separator_place_spec : {M : Type 1} → statement M
+separator_place_spec =
     tie.close
     (tie.spec
     opened-bad-requires

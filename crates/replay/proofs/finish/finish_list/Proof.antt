@@ -17,45 +17,45 @@ told f g answers answers' at e w =
 finish-requires : tie.Need-finish-requires
 finish-requires c κs = search rules
 
-enum-known-total : tie.Need-enum-known-total
+enum-known-total : tie.Need-enum_known-total
 enum-known-total c = search rules
 
 write-requires : tie.Need-write-requires
 write-requires c κs = search rules
 
-enum-known-no : tie.Need-enum-known-no
+enum-known-no : tie.Need-enum_known-no
 enum-known-no c = search rules
 
 number-requires : tie.Need-number-requires
 number-requires c κs = search rules
 
-write-requires-2 : tie.Need-write-requires-2
+write-requires-2 : tie.Need-write-requires-in-Unwritten
 write-requires-2 c κs = search rules
 
-same_length : tie.Need-same-length
+same_length : tie.Need-shape_of-out-in-Written
 same_length c = search rules
 
-same-length-2 : tie.Need-same-length-2
+same-length-2 : tie.Need-shape_of-answers-in-Written
 same-length-2 c = search rules
 
-returns : tie.Need-returns
+returns : tie.Need-returns-in-Written
 returns c =
-    let a = c.before.before.before.before.before.before.before.before.before.before.before.before.before.before.before.args in
-    told _ _ a.answers.now _ a.at (rw c.before.before.before.before.before.total.given.1 at c.before.before.before.before.before.before.before.before.before.finish.ensures.0) c.before.before.write.ensures
+    let a = c.args in
+    told _ _ a.answers.now _ a.at (rw c.in-Written.is at c.finish.ensures.0) c.write.ensures
 
-same-length-3 : tie.Need-same-length-3
+same-length-3 : tie.Need-shape_of-out-in-Unwritten
 same-length-3 c = search rules
 
-same-length-4 : tie.Need-same-length-4
+same-length-4 : tie.Need-shape_of-answers-in-Unwritten
 same-length-4 c = search rules
 
-returns-2 : tie.Need-returns-2
+returns-2 : tie.Need-returns-in-Unwritten
 returns-2 c =
-    let a = c.before.before.before.before.before.before.before.before.before.before.before.before.before.before.before.before.args in
-    told _ _ a.answers.now _ a.at (rw c.before.before.before.before.before.before.no.given.1 at c.before.before.before.before.before.before.before.before.before.before.finish.ensures.0) (c.before.before.write2.ensures ∙ ap (sets a.answers.now a.at) c.before.before.before.before.number.ensures)
+    let a = c.args in
+    told _ _ a.answers.now _ a.at (rw c.in-Unwritten.is at c.finish.ensures.0) (c.write-in-Unwritten.ensures ∙ ap (sets a.answers.now a.at) c.number.ensures)
 
-pub finish-list-spec : {M : Type 1} → statement M
-finish-list-spec =
+pub finish_list_spec : {M : Type 1} → statement M
+finish_list_spec =
     tie.close
     (tie.spec
     finish-requires

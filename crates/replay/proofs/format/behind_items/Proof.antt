@@ -8,39 +8,39 @@ use borrow.Author.Rules.{rules}
 use Rattle.replay.proofs.format.behind_items.Statement.{statement}
 use Rattle.replay.proofs.format.behind_items.Tie as tie
 
-abbrev invariant-loop : tie.invariant-loop
+abbrev invariant-loop : tie.invariant-loop-left
 invariant-loop list from count are-calls at₀ left₀ at left =
     behind (λ p. cond are-calls (call_len list p) (question_len list p)) from count ≡ behind (λ p. cond are-calls (call_len list p) (question_len list p)) at left
 
-abbrev decreases-loop : tie.decreases-loop
+abbrev decreases-loop : tie.decreases-loop-left
 decreases-loop list from count are-calls at₀ left₀ at left = left
 
-loop-holds : tie.Need-loop-init invariant-loop decreases-loop
+loop-holds : tie.Need-loop-left-init invariant-loop decreases-loop
 loop-holds c = refl
 
-item-len-requires : tie.Need-item-len-requires invariant-loop decreases-loop
+item-len-requires : tie.Need-item_len-len-requires invariant-loop decreases-loop
 item-len-requires c κs = search rules
 
-returns : tie.Need-returns invariant-loop decreases-loop
-returns c = let l = c.before.before.before in sym (l.loop.invariant ∙ behind-missing _ l.loop.at l.loop.left c.before.before.loop-test.true (sym c.before.item-len.ensures ∙ c.if1.true))
+returns : tie.Need-returns-then-len-eq0 invariant-loop decreases-loop
+returns c = let l = c in sym (l.loop-left.invariant ∙ behind-missing _ l.loop-left.at l.loop-left.left c.loop-left-test.true (sym c.item_len-len.ensures ∙ c.if-len-eq0.true))
 
-add_at : tie.Need-overflow-add-at invariant-loop decreases-loop
-add_at c = let l = c.before.before.before in let a = l.before.before.args in record { fits = omega (arith, item-fits a.list.now l.loop.at a.are-calls c.before.item-len.result c.before.item-len.ensures c.if1.false) }
+add_at : tie.Need-overflow_add-at invariant-loop decreases-loop
+add_at c = let l = c in let a = l.args in record { fits = omega (arith, item-fits a.list.now l.loop-left.at a.are_calls c.item_len-len.result c.item_len-len.ensures c.if-len-eq0.false) }
 
-sub-left : tie.Need-overflow-sub-left invariant-loop decreases-loop
+sub-left : tie.Need-overflow_sub-left invariant-loop decreases-loop
 sub-left c = search rules
 
-loop-less : tie.Need-loop-smaller invariant-loop decreases-loop
+loop-less : tie.Need-loop-left-smaller invariant-loop decreases-loop
 loop-less c = search rules
 
-loop-again : tie.Need-loop-preserved invariant-loop decreases-loop
-loop-again c = let l = c.before.before.before in l.loop.invariant ∙ behind-next _ l.loop.at l.loop.left c.before.item-len.result c.before.before.loop-test.true c.before.item-len.ensures c.if1.false
+loop-again : tie.Need-loop-left-preserved invariant-loop decreases-loop
+loop-again c = let l = c in l.loop-left.invariant ∙ behind-next _ l.loop-left.at l.loop-left.left c.item_len-len.result c.loop-left-test.true c.item_len-len.ensures c.if-len-eq0.false
 
-returns-2 : tie.Need-returns-2 invariant-loop decreases-loop
-returns-2 c = let l = c.before in let e : l.loop.left ≡ 0 = omega (arith, c.loop-test.false) in sym (l.loop.invariant ∙ rw e (behind-none _ l.loop.at))
+returns-2 : tie.Need-returns invariant-loop decreases-loop
+returns-2 c = let l = c in let e : l.loop-left.left ≡ 0 = omega (arith, c.loop-left-test.false) in sym (l.loop-left.invariant ∙ rw e (behind-none _ l.loop-left.at))
 
-pub behind-items-spec : {M : Type 1} → statement M
-behind-items-spec =
+pub behind_items_spec : {M : Type 1} → statement M
+behind_items_spec =
     tie.close
     (tie.spec
     invariant-loop

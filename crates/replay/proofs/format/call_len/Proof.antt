@@ -5,29 +5,29 @@ use borrow.Author.Rules.{rules}
 use Rattle.replay.proofs.format.call_len.Statement.{statement}
 use Rattle.replay.proofs.format.call_len.Tie as tie
 
-returns : tie.Need-returns
-returns c = sym (no_call _ _ c.if1.true)
+returns : tie.Need-returns-then-list-at
+returns c = sym (no_call _ _ c.if-list-at.true)
 
-shared-slice-read-tag : tie.Need-shared-slice-read-tag
+shared-slice-read-tag : tie.Need-bounds-list-at
 shared-slice-read-tag c = search rules
 
-with-string-requires : tie.Need-with-string-requires
+with-string-requires : tie.Need-with_string-requires
 with-string-requires c κs = search rules
 
-returns-2 : tie.Need-returns-2
-returns-2 c = c.with-string.ensures ∙ sym (add-len _ _ c.before.before.before.if1.false c.before.if2.true)
+returns-2 : tie.Need-returns-then-tag-eq-ADD
+returns-2 c = c.with_string.ensures ∙ sym (add-len _ _ c.if-list-at.false c.if-tag-eq-ADD.true)
 
-with-string-requires-2 : tie.Need-with-string-requires-2
+with-string-requires-2 : tie.Need-with_string-requires-then-tag-eq-SHORTEN
 with-string-requires-2 c κs = search rules
 
-returns-3 : tie.Need-returns-3
-returns-3 c = c.with-string2.ensures ∙ sym (shorten-len _ _ c.before.before.before.before.if1.false c.before.if3.true)
+returns-3 : tie.Need-returns-then-tag-eq-SHORTEN
+returns-3 c = c.with_string-then-tag-eq-SHORTEN.ensures ∙ sym (shorten-len _ _ c.if-list-at.false c.if-tag-eq-SHORTEN.true)
 
-returns-4 : tie.Need-returns-4
-returns-4 c = sym (other-call _ _ c.before.before.before.if1.false c.before.if2.false c.if3.false)
+returns-4 : tie.Need-returns
+returns-4 c = sym (other-call _ _ c.if-list-at.false c.if-tag-eq-ADD.false c.if-tag-eq-SHORTEN.false)
 
-pub call-len-spec : {M : Type 1} → statement M
-call-len-spec =
+pub call_len_spec : {M : Type 1} → statement M
+call_len_spec =
     tie.close
     (tie.spec
     returns

@@ -8,28 +8,28 @@ use Rattle.replay.proofs.Items.{no-settings-len, unknown-settings, head-by-count
 use Rattle.replay.proofs.format.head_bad.Statement.{statement}
 use Rattle.replay.proofs.format.head_bad.Tie as tie
 
-returns : tie.Need-returns
-returns c = sym (no-settings-len _ c.if1.true)
+returns : tie.Need-returns-then-list-lt-SETTINGS_LEN_LEN
+returns c = sym (no-settings-len _ c.if-list-lt-SETTINGS_LEN_LEN.true)
 
-small-number-requires : tie.Need-small-number-requires
+small-number-requires : tie.Need-small_number-requires
 small-number-requires c κs = search rules
 
-returns-2 : tie.Need-returns-2
-returns-2 c = sym (unknown-settings _ c.before.before.if1.false (λ z. c.if2.true (c.before.small-number.ensures.0 ∙ z)))
+returns-2 : tie.Need-returns-then-small_number-ne0
+returns-2 c = sym (unknown-settings _ c.if-list-lt-SETTINGS_LEN_LEN.false (λ z. c.if-small_number-ne0.true (c.small_number.ensures.0 ∙ z)))
 
-counts-at-requires : tie.Need-counts-at-requires
+counts-at-requires : tie.Need-counts_at-requires
 counts-at-requires c κs = search rules
 
-add-result : tie.Need-overflow-add-result
+add-result : tie.Need-overflow_add-result
 add-result c = search rules
 
-returns-3 : tie.Need-returns-3
+returns-3 : tie.Need-returns
 returns-3 c =
-    let list = c.before.before.before.before.before.args.list.now in
-    ap (λ (n : ℕ). ltb (length list) (n + 8)) c.counts-at.ensures.0
-    ∙ sym (head-by-counts list c.before.before.before.if1.false (sym c.before.before.small-number.ensures.0 ∙ c.before.if2.false))
+    let list = c.args.list.now in
+    ap (λ (n : ℕ). ltb (length list) (n + 8)) c.counts_at.ensures.0
+    ∙ sym (head-by-counts list c.if-list-lt-SETTINGS_LEN_LEN.false (sym c.small_number.ensures.0 ∙ c.if-small_number-ne0.false))
 
-pub head-bad-spec : {M : Type 1} → statement M
-head-bad-spec =
+pub head_bad_spec : {M : Type 1} → statement M
+head_bad_spec =
     tie.close
     (tie.spec returns small-number-requires returns-2 counts-at-requires add-result returns-3)

@@ -3,17 +3,17 @@ use borrow.Author.Rules.{rules}
 use Rattle.replay.proofs.format.item_len.Statement.{statement}
 use Rattle.replay.proofs.format.item_len.Tie as tie
 
-call-len-requires : tie.Need-call-len-requires
+call-len-requires : tie.Need-call_len-requires
 call-len-requires c κs = search rules
 
-question-len-requires : tie.Need-question-len-requires
+question-len-requires : tie.Need-question_len-requires
 question-len-requires c κs = search rules
 
-returns : tie.Need-returns
-returns c = rw c.before.if1.true c.call-len.ensures
+returns : tie.Need-returns-then-is_call
+returns c = rw c.if-is_call.true c.call_len.ensures
 
-returns-2 : tie.Need-returns-2
-returns-2 c = rw c.before.if1.false c.question-len.ensures
+returns-2 : tie.Need-returns-else-is_call
+returns-2 c = rw c.if-is_call.false c.question_len.ensures
 
-pub item-len-spec : {M : Type 1} → statement M
-item-len-spec = tie.close (tie.spec call-len-requires question-len-requires returns returns-2)
+pub item_len_spec : {M : Type 1} → statement M
+item_len_spec = tie.close (tie.spec call-len-requires question-len-requires returns returns-2)

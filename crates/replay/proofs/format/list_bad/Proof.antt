@@ -8,49 +8,49 @@ use borrow.Author.Rules.{rules}
 use Rattle.replay.proofs.format.list_bad.Statement.{statement}
 use Rattle.replay.proofs.format.list_bad.Tie as tie
 
-good : (c : tie.Else1) → head_bad c.before.before.before.args.list.now ≡ false
-good c = sym c.before.head-bad.ensures ∙ c.if1.false
+good : (c : tie.Else-head_bad) → head_bad c.args.list.now ≡ false
+good c = sym c.head_bad.ensures ∙ c.if-head_bad.false
 
 -- the walk over the calls begins where they do
-walked : (c : tie.After-behind-items) → let list = c.before.before.before.before.before.before.args.list.now in
-    c.behind-items.result ≡ behind (call_len list) (calls_from list) c.before.call-count.result
+walked : (c : tie.After-behind_items-questions) → let list = c.args.list.now in
+    c.behind_items-questions.result ≡ behind (call_len list) (calls_from list) c.call_count.result
 walked c =
-    let list = c.before.before.before.before.before.before.args.list.now in
-    c.behind-items.ensures ∙ ap (λ (from : ℕ). behind (call_len list) from c.before.call-count.result) c.before.before.calls-from.ensures
+    let list = c.args.list.now in
+    c.behind_items-questions.ensures ∙ ap (λ (from : ℕ). behind (call_len list) from c.call_count.result) c.calls_from.ensures
 
-head-bad-requires : tie.Need-head-bad-requires
+head-bad-requires : tie.Need-head_bad-requires
 head-bad-requires c κs = search rules
 
-returns : tie.Need-returns
-returns c = sym (bad-head _ (sym c.before.head-bad.ensures ∙ c.if1.true))
+returns : tie.Need-returns-then-head_bad
+returns c = sym (bad-head _ (sym c.head_bad.ensures ∙ c.if-head_bad.true))
 
-calls-from-requires : tie.Need-calls-from-requires
+calls-from-requires : tie.Need-calls_from-requires
 calls-from-requires c κs = good c
 
-call-count-requires : tie.Need-call-count-requires
+call-count-requires : tie.Need-call_count-requires
 call-count-requires c κs = good c.before
 
-behind-items-requires : tie.Need-behind-items-requires
+behind-items-requires : tie.Need-behind_items-questions-requires
 behind-items-requires c κs = search rules
 
-returns-2 : tie.Need-returns-2
+returns-2 : tie.Need-returns-then-questions-eq0
 returns-2 c =
     let b = c.before in
-    sym (call-missing _ (good b.before.before.before) _ _ b.before.call-count.ensures.0 (walked b) c.if2.true)
+    sym (call-missing _ (good b.before.before.before) _ _ b.call_count.ensures.0 (walked b) c.if-questions-eq0.true)
 
-question-count-requires : tie.Need-question-count-requires
+question-count-requires : tie.Need-question_count-requires
 question-count-requires c κs = good c.before.before.before.before
 
-behind-items-requires-2 : tie.Need-behind-items-requires-2
+behind-items-requires-2 : tie.Need-behind_items-requires
 behind-items-requires-2 c κs = search rules
 
-returns-3 : tie.Need-returns-3
+returns-3 : tie.Need-returns
 returns-3 c =
     let b = c.before.before.before in
-    sym (list-end _ (good b.before.before.before) _ _ b.before.call-count.ensures.0 (walked b) _ _ c.before.before.if2.false c.before.question-count.ensures.0 c.behind-items2.ensures)
+    sym (list-end _ (good b.before.before.before) _ _ b.call_count.ensures.0 (walked b) _ _ c.if-questions-eq0.false c.question_count.ensures.0 c.behind_items.ensures)
 
-pub list-bad-spec : {M : Type 1} → statement M
-list-bad-spec =
+pub list_bad_spec : {M : Type 1} → statement M
+list_bad_spec =
     tie.close
     (tie.spec
     head-bad-requires

@@ -11,115 +11,115 @@ use Rattle.replay.proofs.questions.answer.Statement.{statement}
 use Rattle.replay.proofs.questions.answer.Tie as tie
 
 -- the question is there, and its parts with it
-there : (c : tie.After-shared-slice-known3) → let a = c.before.before.before.args in QuestionThere a.list.now a.at
-there c = let s = c.before.before.before in question-there s.args.list.now s.args.at s.requires
+there : (c : tie.After-shared_slice_known-3-1) → let a = c.args in QuestionThere a.list.now a.at
+there c = let s = c in question-there s.args.list.now s.args.at s.requires
 
-whole-id : (c : tie.Then1) → let a = c.before.before.before.before.args in a.at + 9 ≤ length a.list.now
-whole-id c = (there c.before).number-whole (rw c.if1.true)
+whole-id : (c : tie.Then-tag-eq-BY_ID) → let a = c.args in a.at + 9 ≤ length a.list.now
+whole-id c = (there c.before).number-whole (rw c.if-tag-eq-BY_ID.true)
 
-whole-ordinal : (c : tie.Then2) → let a = c.before.before.before.before.before.args in a.at + 9 ≤ length a.list.now
-whole-ordinal c = (there c.before.before).number-whole (rw c.if2.true)
+whole-ordinal : (c : tie.Then-tag-eq-BY_ORDINAL) → let a = c.args in a.at + 9 ≤ length a.list.now
+whole-ordinal c = (there c.before.before).number-whole (rw c.if-tag-eq-BY_ORDINAL.true)
 
-whole-key : (c : tie.Then3) → let a = c.before.before.before.before.before.before.args in a.at + (5 + string_len a.list.now (a.at + 1)) ≤ length a.list.now
-whole-key c = (there c.before.before.before).key-whole (rw c.if3.true) (rw c.if3.true)
+whole-key : (c : tie.Then-tag-eq-BY_KEY) → let a = c.args in a.at + (5 + string_len a.list.now (a.at + 1)) ≤ length a.list.now
+whole-key c = (there c.before.before.before).key-whole (rw c.if-tag-eq-BY_KEY.true) (rw c.if-tag-eq-BY_KEY.true)
 
-whole-address : (c : tie.Then4) → let a = c.before.before.before.before.before.before.before.args in a.at + (5 + string_len a.list.now (a.at + 1)) ≤ length a.list.now
-whole-address c = (there c.before.before.before.before).key-whole (rw c.if4.true) (rw c.if4.true)
+whole-address : (c : tie.Then-tag-eq-ADDRESS_BY_KEY) → let a = c.args in a.at + (5 + string_len a.list.now (a.at + 1)) ≤ length a.list.now
+whole-address c = (there c.before.before.before.before).key-whole (rw c.if-tag-eq-ADDRESS_BY_KEY.true) (rw c.if-tag-eq-ADDRESS_BY_KEY.true)
 
-whole-separator : (c : tie.Then5) → let a = c.before.before.before.before.before.before.before.before.args in a.at + 9 ≤ length a.list.now
-whole-separator c = (there c.before.before.before.before.before).number-whole (rw c.if5.true)
+whole-separator : (c : tie.Then-tag-eq-SEPARATOR) → let a = c.args in a.at + 9 ≤ length a.list.now
+whole-separator c = (there c.before.before.before.before.before).number-whole (rw c.if-tag-eq-SEPARATOR.true)
 
-whole-mark : (c : tie.Else5) → let a = c.before.before.before.before.before.before.before.before.args in a.at + (13 + string_len a.list.now (a.at + 9)) ≤ length a.list.now
+whole-mark : (c : tie.Else-tag-eq-SEPARATOR) → let a = c.args in a.at + (13 + string_len a.list.now (a.at + 9)) ≤ length a.list.now
 whole-mark c =
     (there c.before.before.before.before.before).mark-whole
-    (rw (ne_eqb _ 2 c.before.before.before.before.if1.false, ne_eqb _ 3 c.before.before.before.if2.false, ne_eqb _ 6 c.if5.false))
-    (rw (ne_eqb _ 4 c.before.before.if3.false, ne_eqb _ 5 c.before.if4.false))
+    (rw (ne_eqb _ 2 c.if-tag-eq-BY_ID.false, ne_eqb _ 3 c.if-tag-eq-BY_ORDINAL.false, ne_eqb _ 6 c.if-tag-eq-SEPARATOR.false))
+    (rw (ne_eqb _ 4 c.if-tag-eq-BY_KEY.false, ne_eqb _ 5 c.if-tag-eq-ADDRESS_BY_KEY.false))
 
-shared-slice-read-tag : tie.Need-shared-slice-read-tag
-shared-slice-read-tag c = (there c).starts
+shared-slice-read-tag : tie.Need-bounds-list-at
+shared-slice-read-tag c = (question-there c.args.list.now c.args.at c.requires).starts
 
-add-number : tie.Need-overflow-add-number
+add-number : tie.Need-overflow_add-at
 add-number c = record { fits = omega (arith, whole-id c) }
 
 number-requires : tie.Need-number-requires
 number-requires c κs = omega (arith, whole-id c)
 
-by-id-requires : tie.Need-by-id-requires
+by-id-requires : tie.Need-by_id-requires
 by-id-requires c κs = search rules
 
-returns : tie.Need-returns
-returns c = λ S es x. rw (asks-id _ _ _ c.before.number.ensures c.before.before.if1.true) (c.by-id.ensures S es x)
+returns : tie.Need-returns-then-tag-eq-BY_ID
+returns c = λ S es x. rw (asks-id _ _ _ c.number.ensures c.if-tag-eq-BY_ID.true) (c.by_id.ensures S es x)
 
-add-number-2 : tie.Need-overflow-add-number-2
+add-number-2 : tie.Need-overflow_add-at-then-tag-eq-BY_ORDINAL
 add-number-2 c = record { fits = omega (arith, whole-ordinal c) }
 
-number-requires-2 : tie.Need-number-requires-2
+number-requires-2 : tie.Need-number-requires-then-tag-eq-BY_ORDINAL
 number-requires-2 c κs = omega (arith, whole-ordinal c)
 
-by-ordinal-requires : tie.Need-by-ordinal-requires
+by-ordinal-requires : tie.Need-by_ordinal-requires
 by-ordinal-requires c κs = search rules
 
-returns-2 : tie.Need-returns-2
-returns-2 c = λ S es x. rw (asks-ordinal _ _ _ c.before.number2.ensures c.before.before.if2.true) (c.by-ordinal.ensures S es x)
+returns-2 : tie.Need-returns-then-tag-eq-BY_ORDINAL
+returns-2 c = λ S es x. rw (asks-ordinal _ _ _ c.number-then-tag-eq-BY_ORDINAL.ensures c.if-tag-eq-BY_ORDINAL.true) (c.by_ordinal.ensures S es x)
 
-add-string : tie.Need-overflow-add-string
+add-string : tie.Need-overflow_add-at-then-tag-eq-BY_KEY
 add-string c = record { fits = omega (arith, whole-key c) }
 
 string-requires : tie.Need-string-requires
 string-requires c κs = omega (arith, whole-key c)
 
-by-key-requires : tie.Need-by-key-requires
+by-key-requires : tie.Need-by_key-requires
 by-key-requires c κs = search rules
 
-returns-3 : tie.Need-returns-3
-returns-3 c = λ S es x. rw (asks-key _ _ _ c.before.string.ensures c.before.before.if3.true) (c.by_key.ensures S es x)
+returns-3 : tie.Need-returns-then-tag-eq-BY_KEY
+returns-3 c = λ S es x. rw (asks-key _ _ _ c.string.ensures c.if-tag-eq-BY_KEY.true) (c.by_key.ensures S es x)
 
-add-string-2 : tie.Need-overflow-add-string-2
+add-string-2 : tie.Need-overflow_add-at-then-tag-eq-ADDRESS_BY_KEY
 add-string-2 c = record { fits = omega (arith, whole-address c) }
 
-string-requires-2 : tie.Need-string-requires-2
+string-requires-2 : tie.Need-string-requires-then-tag-eq-ADDRESS_BY_KEY
 string-requires-2 c κs = omega (arith, whole-address c)
 
-address-by-key-requires : tie.Need-address-by-key-requires
+address-by-key-requires : tie.Need-address_by_key-requires
 address-by-key-requires c κs = search rules
 
-returns-4 : tie.Need-returns-4
-returns-4 c = λ S es x. rw (asks-address _ _ _ c.before.string2.ensures c.before.before.if4.true) (c.address-by-key.ensures S es x)
+returns-4 : tie.Need-returns-then-tag-eq-ADDRESS_BY_KEY
+returns-4 c = λ S es x. rw (asks-address _ _ _ c.string-then-tag-eq-ADDRESS_BY_KEY.ensures c.if-tag-eq-ADDRESS_BY_KEY.true) (c.address_by_key.ensures S es x)
 
-add-number-3 : tie.Need-overflow-add-number-3
+add-number-3 : tie.Need-overflow_add-at-then-tag-eq-SEPARATOR
 add-number-3 c = record { fits = omega (arith, whole-separator c) }
 
-number-requires-3 : tie.Need-number-requires-3
+number-requires-3 : tie.Need-number-requires-then-tag-eq-SEPARATOR
 number-requires-3 c κs = omega (arith, whole-separator c)
 
 separator-requires : tie.Need-separator-requires
 separator-requires c κs = search rules
 
-returns-5 : tie.Need-returns-5
-returns-5 c = λ S es x. rw (asks-separator _ _ _ c.before.number3.ensures c.before.before.if5.true) (c.separator.ensures S es x)
+returns-5 : tie.Need-returns-then-tag-eq-SEPARATOR
+returns-5 c = λ S es x. rw (asks-separator _ _ _ c.number-then-tag-eq-SEPARATOR.ensures c.if-tag-eq-SEPARATOR.true) (c.separator.ensures S es x)
 
-add-number-4 : tie.Need-overflow-add-number-4
+add-number-4 : tie.Need-overflow_add-at-2
 add-number-4 c = record { fits = omega (arith, whole-mark c) }
 
-number-requires-4 : tie.Need-number-requires-4
+number-requires-4 : tie.Need-number-requires-2
 number-requires-4 c κs = omega (arith, whole-mark c)
 
-add-string-3 : tie.Need-overflow-add-string-3
+add-string-3 : tie.Need-overflow_add-at-3
 add-string-3 c = record { fits = omega (arith, whole-mark c.before) }
 
-string-requires-3 : tie.Need-string-requires-3
+string-requires-3 : tie.Need-string-requires-2
 string-requires-3 c κs = omega (arith, whole-mark c.before)
 
 mark-requires : tie.Need-mark-requires
 mark-requires c κs = search rules
 
-returns-6 : tie.Need-returns-6
+returns-6 : tie.Need-returns
 returns-6 c = λ S es x.
-    let e = c.before.before.before in
-    rw (asks-mark _ _ _ c.before.before.number4.ensures _ c.before.string3.ensures e.before.before.before.before.if1.false e.before.before.before.if2.false e.before.before.if3.false e.before.if4.false e.if5.false) (c.mark.ensures S es x)
+    let e = c in
+    rw (asks-mark _ _ _ c.number-2.ensures _ c.string-2.ensures e.if-tag-eq-BY_ID.false e.if-tag-eq-BY_ORDINAL.false e.if-tag-eq-BY_KEY.false e.if-tag-eq-ADDRESS_BY_KEY.false e.if-tag-eq-SEPARATOR.false) (c.mark.ensures S es x)
 
-pub answer-spec : {M : Type 1} → statement M
-answer-spec =
+pub answer_spec : {M : Type 1} → statement M
+answer_spec =
     tie.close
     (tie.spec
     shared-slice-read-tag

@@ -11,64 +11,64 @@ use borrow.Author.Rules.{rules}
 use Rattle.replay.proofs.questions.ask_questions.Statement.{statement}
 use Rattle.replay.proofs.questions.ask_questions.Tie as tie
 
-abbrev invariant-loop : tie.invariant-loop
+abbrev invariant-loop : tie.invariant-loop-i
 invariant-loop list from count loaded «data» answers₀ first at₀ i₀ answers at i =
     Asking list «data» from count loaded first answers₀ at i answers
 
-abbrev decreases-loop : tie.decreases-loop
+abbrev decreases-loop : tie.decreases-loop-i
 decreases-loop list from count loaded «data» answers₀ first at₀ i₀ answers at i = count - i
 
 -- the next question is there
-there : (c : tie.In-loop invariant-loop decreases-loop) → 0 < question_len c.before.before.before.before.before.args.list.now c.before.loop.at
-there c = question-left _ _ _ _ _ _ _ _ _ _ c.before.loop.invariant c.before.before.before.before.before.requires.0 c.loop-test.true
+there : (c : tie.In-loop-i invariant-loop decreases-loop) → 0 < question_len c.args.list.now c.loop-i.at
+there c = question-left _ _ _ _ _ _ _ _ _ _ c.loop-i.invariant c.requires.0 c.loop-i-test.true
 
 -- its five numbers have room
-room : (c : tie.In-loop invariant-loop decreases-loop) → 5 * (c.before.before.before.before.before.args.first + c.before.loop.i) + 5 ≤ length c.before.loop.answers
-room c = omega (arith, c.before.loop.invariant.long, c.before.before.before.before.before.requires.1)
+room : (c : tie.In-loop-i invariant-loop decreases-loop) → 5 * (c.args.first + c.loop-i.i) + 5 ≤ length c.loop-i.answers
+room c = omega (arith, c.loop-i.invariant.long, c.requires.1)
 
-loop-holds : tie.Need-loop-init invariant-loop decreases-loop
+loop-holds : tie.Need-loop-i-init invariant-loop decreases-loop
 loop-holds c = asking-start _ _ _ _ _ _ _
 
-answer-in-requires : tie.Need-answer-in-requires invariant-loop decreases-loop
+answer-in-requires : tie.Need-answer_in-requires invariant-loop decreases-loop
 answer-in-requires c κs = there c
 
-add-write : tie.Need-overflow-add-write invariant-loop decreases-loop
+add-write : tie.Need-overflow_add-first invariant-loop decreases-loop
 add-write c = record { fits = omega (arith, room c.before.before) }
 
-mul-write : tie.Need-overflow-mul-write invariant-loop decreases-loop
+mul-write : tie.Need-overflow_mul-first invariant-loop decreases-loop
 mul-write c = record { fits = omega (arith, room c.before.before) }
 
 write-requires : tie.Need-write-requires invariant-loop decreases-loop
 write-requires c κs = room c.before.before
 
-question-len-requires : tie.Need-question-len-requires invariant-loop decreases-loop
+question-len-requires : tie.Need-question_len-at-requires invariant-loop decreases-loop
 question-len-requires c κs = search rules
 
-add_at : tie.Need-overflow-add-at invariant-loop decreases-loop
+add_at : tie.Need-overflow_add-at invariant-loop decreases-loop
 add_at c =
     let t = c.before.before.before.before.before.before in
-    record { fits = omega (arith, (question-there t.before.before.before.before.before.args.list.now t.before.loop.at (there t)).ends, c.question-len.ensures) }
+    record { fits = omega (arith, (question-there t.args.list.now t.loop-i.at (there t)).ends, c.question_len-at.ensures) }
 
-add-i : tie.Need-overflow-add-i invariant-loop decreases-loop
+add-i : tie.Need-overflow_add-i invariant-loop decreases-loop
 add-i c = search rules
 
-loop-less : tie.Need-loop-smaller invariant-loop decreases-loop
+loop-less : tie.Need-loop-i-smaller invariant-loop decreases-loop
 loop-less c = search rules
 
-loop-again : tie.Need-loop-preserved invariant-loop decreases-loop
+loop-again : tie.Need-loop-i-preserved invariant-loop decreases-loop
 loop-again c =
     let t = c.before.before.before.before.before.before in
-    asking-turn _ _ _ _ _ _ _ _ _ _ t.before.loop.invariant t.loop-test.true (there t) (cells_of c.before.before.before.before.before.answer-in.result) _ _ c.question-len.ensures refl c.before.before.before.before.before.answer-in.ensures
-    c.before.before.before.write.ensures
+    asking-turn _ _ _ _ _ _ _ _ _ _ t.loop-i.invariant t.loop-i-test.true (there t) (cells_of c.answer_in.result) _ _ c.question_len-at.ensures refl c.answer_in.ensures
+    c.write.ensures
 
-same_length : tie.Need-same-length invariant-loop decreases-loop
+same_length : tie.Need-shape_of-answers invariant-loop decreases-loop
 same_length c = search rules
 
 returns : tie.Need-returns invariant-loop decreases-loop
-returns c = asking-none _ _ _ _ _ _ _ _ _ _ c.before.loop.invariant c.loop-test.false
+returns c = asking-none _ _ _ _ _ _ _ _ _ _ c.loop-i.invariant c.loop-i-test.false
 
-pub ask-questions-spec : {M : Type 1} → statement M
-ask-questions-spec =
+pub ask_questions_spec : {M : Type 1} → statement M
+ask_questions_spec =
     tie.close
     (tie.spec
     invariant-loop

@@ -6,26 +6,26 @@ use borrow.Author.Rules.{rules}
 use Rattle.replay.proofs.questions.by_key.Statement.{statement}
 use Rattle.replay.proofs.questions.by_key.Tie as tie
 
-locate-with-key-requires : tie.Need-locate-with-key-requires
+locate-with-key-requires : tie.Need-locate_with_key-requires
 locate-with-key-requires c κs = search rules
 
-enum-known-id : tie.Need-enum-known-id
+enum-known-id : tie.Need-enum_known-id
 enum-known-id c = search rules
 
-enum-known-no : tie.Need-enum-known-no
+enum-known-no : tie.Need-enum_known-no
 enum-known-no c = search rules
 
 number-requires : tie.Need-number-requires
 number-requires c κs = search rules
 
-returns : tie.Need-returns
-returns c = λ S es x. let g = c.before.before.before.locate-with-key in key-answer S es _ _ x _ (id_no g.result) (id_of g.result) _ g.ensures.0 (rw c.before.id.given.1)
+returns : tie.Need-returns-in-Id
+returns c = λ S es x. let g = c.locate_with_key in key-answer S es _ _ x _ (id_no g.result) (id_of g.result) _ g.ensures.0 (rw c.in-Id.is)
 
-returns-2 : tie.Need-returns-2
-returns-2 c = λ S es x. let g = c.before.before.before.before.locate-with-key in key-answer S es _ _ x _ (id_no g.result) (id_of g.result) _ g.ensures.0 (c.number.ensures ∙ rw c.before.before.no.given.1)
+returns-2 : tie.Need-returns-in-Refused
+returns-2 c = λ S es x. let g = c.locate_with_key in key-answer S es _ _ x _ (id_no g.result) (id_of g.result) _ g.ensures.0 (c.number.ensures ∙ rw c.in-Refused.is)
 
-pub by-key-spec : {M : Type 1} → statement M
-by-key-spec =
+pub by_key_spec : {M : Type 1} → statement M
+by_key_spec =
     tie.close
     (tie.spec
     locate-with-key-requires

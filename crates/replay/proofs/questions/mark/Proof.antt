@@ -4,10 +4,10 @@ use borrow.Author.Rules.{rules}
 use Rattle.replay.proofs.questions.mark.Statement.{statement}
 use Rattle.replay.proofs.questions.mark.Tie as tie
 
-slice-aggregate-mark-in : tie.Need-slice-aggregate-mark-in
+slice-aggregate-mark-in : tie.Need-slice_bounds-mark_in-end
 slice-aggregate-mark-in c = search rules
 
-mark-in-requires : tie.Need-mark-in-requires
+mark-in-requires : tie.Need-mark_in-requires
 mark-in-requires c κs = (zeros-long 65536, zeros-zero 65536)
 
 returns : tie.Need-returns

@@ -6,52 +6,52 @@ use borrow.Author.Rules.{rules}
 use Rattle.replay.proofs.cells.Cells.write.Statement.{statement}
 use Rattle.replay.proofs.cells.Cells.write.Tie as tie
 
-cast-answers : tie.Need-overflow-cast-answers
+cast-answers : tie.Need-overflow_cast-answers
 cast-answers c = search rules
 
-mul-answers : tie.Need-overflow-mul-answers
+mul-answers : tie.Need-offset_bounds-answers-at
 mul-answers c = search rules
 
-slice-write-answers : tie.Need-slice-write-answers
+slice-write-answers : tie.Need-bounds-answers-at
 slice-write-answers c = search rules
 
-add-answers : tie.Need-overflow-add-answers
+add-answers : tie.Need-overflow_add-answers
 add-answers c = search rules
 
-mul-answers-2 : tie.Need-overflow-mul-answers-2
+mul-answers-2 : tie.Need-offset_bounds-answers-at-2
 mul-answers-2 c = search rules
 
-slice-write-answers-2 : tie.Need-slice-write-answers-2
+slice-write-answers-2 : tie.Need-bounds-answers-at-2
 slice-write-answers-2 c = simp length-set (omega arith)
 
-add-answers-2 : tie.Need-overflow-add-answers-2
+add-answers-2 : tie.Need-overflow_add-answers-2
 add-answers-2 c = search rules
 
-mul-answers-3 : tie.Need-overflow-mul-answers-3
+mul-answers-3 : tie.Need-offset_bounds-answers-at-3
 mul-answers-3 c = search rules
 
-slice-write-answers-3 : tie.Need-slice-write-answers-3
+slice-write-answers-3 : tie.Need-bounds-answers-at-3
 slice-write-answers-3 c = simp length-set (omega arith)
 
-add-answers-3 : tie.Need-overflow-add-answers-3
+add-answers-3 : tie.Need-overflow_add-answers-3
 add-answers-3 c = search rules
 
-mul-answers-4 : tie.Need-overflow-mul-answers-4
+mul-answers-4 : tie.Need-offset_bounds-answers-at-4
 mul-answers-4 c = search rules
 
-slice-write-answers-4 : tie.Need-slice-write-answers-4
+slice-write-answers-4 : tie.Need-bounds-answers-at-4
 slice-write-answers-4 c = simp length-set (omega arith)
 
-add-answers-4 : tie.Need-overflow-add-answers-4
+add-answers-4 : tie.Need-overflow_add-answers-4
 add-answers-4 c = search rules
 
-mul-answers-5 : tie.Need-overflow-mul-answers-5
+mul-answers-5 : tie.Need-offset_bounds-answers-at-5
 mul-answers-5 c = search rules
 
-slice-write-answers-5 : tie.Need-slice-write-answers-5
+slice-write-answers-5 : tie.Need-bounds-answers-at-5
 slice-write-answers-5 c = simp length-set (omega arith)
 
-same_length : tie.Need-same-length
+same_length : tie.Need-shape_of-answers
 same_length c = search rules
 
 returns : tie.Need-returns
