@@ -1,6 +1,6 @@
 -- All that document 01's program `blocks` prints of the bytes f that it reads: pieces, one after the other.
 use Rattle.std.specs.Prelude.{ℕ, zero, suc, ◌≤◌, ◌≡◌, cond, ltb, length, get_or}
-use mathlib.Core.List.{List, [], ◌∷◌, ◌++◌, flatten}
+use mathlib.Core.List.{List, [], ◌∷◌, flatten}
 use Rattle.std.proofs.lemmas.List.Edits.{sets}
 use Rattle.index.specs.declared.SSTableIndexV3.{SSTableIndexV3}
 use Rattle.index.specs.declared.Loaded.{Loaded}

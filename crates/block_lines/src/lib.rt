@@ -1,4 +1,6 @@
 // What the program `blocks` prints: a line per block of an index, or one line that says why there is none.
+#![tactic(auto)]
+
 ghost use Rattle.std.specs.Prelude.{◌≡◌, ◌≤◌, ◌<◌, length};
 ghost use Rattle.std.proofs.lemmas.List.Edits.{sets};
 ghost use Rattle.group.specs.Legal.{NumbersOk};

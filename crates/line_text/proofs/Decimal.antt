@@ -26,6 +26,7 @@ pub digit-turn : (text : List ℕ) (first rest : ℕ) → first < length text �
     → decimal_before first rest (drop (first + 1) text)
     ≡ decimal_before (first - 1) (rest / 10) (drop (first - 1 + 1) (set text first (48 + rest % 10)))
 unfolding decimal_before
+digit-turn text zero rest h some many = elim some [ ]
 digit-turn text (suc k) rest h some many =
     rw (le-ltb rest 10 many, sub-one (suc k), add-one k, drop-stored text (suc k) (48 + rest % 10) h)
 

@@ -1,4 +1,6 @@
 // The parts of a line, each written from `at` on. Each writer returns where the next part goes.
+#![tactic(auto)]
+
 ghost use Rattle.std.specs.Prelude.{◌≡◌, [], ◌∷◌, ◌+◌, ◌*◌, ◌≤◌, ◌<◌, length, drop};
 ghost use Rattle.std.proofs.lemmas.List.Edits.{sets};
 ghost use Rattle.layout.specs.Layout.{max_blocks, max_key_len};
@@ -33,7 +35,7 @@ fn put_decimal(out: &mut [u8], at: usize, n: u64) -> usize
 {
     let mut text = [0u8; DIGITS];
     let first = digits(n, &mut text);
-    at + bytes::copy(&text[first..], &mut out[at..])
+    at + byte_copy::copy(&text[first..], &mut out[at..])
 }
 
 // A space, and a number behind it.
@@ -111,7 +113,7 @@ pub fn put_too_long(out: &mut [u8]) -> usize
     requires { line_len ≤ length out.old }
     ensures { (result ≡ length too_long_line) × (out.new ≡ sets out.old 0 too_long_line) }
 {
-    bytes::copy(b"too long\n", out)
+    byte_copy::copy(b"too long\n", out)
 }
 
 // Writes the line of a refusal to the front of `out`. Returns its length.
@@ -119,7 +121,7 @@ pub fn put_refusal(out: &mut [u8], row: u32) -> usize
     requires { line_len ≤ length out.old }
     ensures { (result ≡ length (refused_line row)) × (out.new ≡ sets out.old 0 (refused_line row)) }
 {
-    let mut at = bytes::copy(b"refused ", out);
+    let mut at = byte_copy::copy(b"refused ", out);
     at = put_decimal(out, at, row as u64);
     put_end(out, at)
 }

@@ -1,5 +1,7 @@
 // The exported functions, for programs in C and Rust. Each that can be refused returns the table's number; a refusal sets what
 // else it returns to 0.
+#![tactic(auto)]
+
 mod build;
 mod interface;
 mod lookup;

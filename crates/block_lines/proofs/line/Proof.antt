@@ -7,41 +7,41 @@ use Rattle.block_lines.proofs.line.Statement.{statement}
 use Rattle.block_lines.proofs.line.Tie as tie
 
 -- the separator is the index's
-found : (c : tie.After-separator) → let a = c.before.before.before.before.args in c.separator.result.now ≡ separator_in a.«data».now a.id
+found : (c : tie.After-separator-separator) → let a = c.args in c.separator-separator.result.now ≡ separator_in a.«data».now a.id
 found c =
-    let s = c.before.before.before.before in
-    c.separator.ensures ∙ separator-is s.args.«data».now s.args.opened s.requires.0 s.args.id s.requires.1
+    let s = c in
+    c.separator-separator.ensures ∙ separator-is s.args.«data».now s.args.opened s.requires.0 s.args.id s.requires.1
 
-block-requires : tie.Need-block-requires
+block-requires : tie.Need-block-addr-requires
 block-requires c κs = search rules
 
-separator-requires : tie.Need-separator-requires
+separator-requires : tie.Need-separator-separator-requires
 separator-requires c κs = search rules
 
-put-line-requires : tie.Need-put-line-requires
+put-line-requires : tie.Need-put_line-requires
 put-line-requires c κs =
     let k = c.before in
-    let b = k.before in
-    let s = b.before.before.before in
+    let b = k in
+    let s = b in
     let f = s.args.«data».now in
     let id = s.args.id in
     let o = s.requires.0 in
     let h = s.requires.1 in (
       id-small f s.args.opened o id h,
-      b.block.ensures.1,
+      b.block-addr.ensures.1,
       rw (found k) (separator-small f s.args.opened o id h),
       s.requires.2,
     )
 
-same_length : tie.Need-same-length
+same_length : tie.Need-shape_of-out
 same_length c = search rules
 
 returns : tie.Need-returns
 returns c =
     let p = c.before.before in
     let k = p.before.before in
-    rw (k.before.block.ensures.0, found k) at p.put-line.ensures
+    rw (k.block-addr.ensures.0, found k) at p.put_line.ensures
 
-pub line-spec : {M : Type 1} → statement M
-line-spec =
+pub line_spec : {M : Type 1} → statement M
+line_spec =
     tie.close (tie.spec block-requires separator-requires put-line-requires same_length returns)

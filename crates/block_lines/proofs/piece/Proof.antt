@@ -21,60 +21,60 @@ only pieces piece i e h =
     rw (e, z)
 
 -- ---- an opened index: its lines
-opens : (c : tie.After-loaded) → Opens c.before.before.before.before.before.args.«data».now c.loaded.given.0.0
-opens c = sym c.before.before.before.before.before.requires.0 ∙ c.loaded.given.1
+opens : (c : tie.In-Opened) → Opens c.args.«data».now c.in-Opened.opened
+opens c = sym c.requires.0 ∙ c.in-Opened.is
 
-opened-lines : (c : tie.After-loaded) → let s = c.before.before.before.before.before in
-    blocks_pieces s.args.«data».now ≡ lines_from c.loaded.given.0.0 s.args.«data».now 0 c.loaded.given.0.0.n
+opened-lines : (c : tie.In-Opened) → let s = c in
+    blocks_pieces s.args.«data».now ≡ lines_from c.in-Opened.opened s.args.«data».now 0 c.in-Opened.opened.n
 opened-lines c =
-    short-pieces c.before.before.before.before.before.args.«data».now c.before.before.if1.false (Opened c.loaded.given.0.0) (opens c)
+    short-pieces c.args.«data».now c.if-data-gt-MAX_LEN.false (Opened c.in-Opened.opened) (opens c)
 
-below : (c : tie.After-loaded) → c.before.before.before.before.before.args.i < c.loaded.given.0.0.n
+below : (c : tie.In-Opened) → c.args.i < c.in-Opened.opened.n
 below c =
-    let s = c.before.before.before.before.before in
-    omega (arith, ap length (opened-lines c), length-lines s.args.«data».now c.loaded.given.0.0 0 c.loaded.given.0.0.n, s.requires.1)
+    let s = c in
+    omega (arith, ap length (opened-lines c), length-lines s.args.«data».now c.in-Opened.opened 0 c.in-Opened.opened.n, s.requires.1)
 
-put-too-long-requires : tie.Need-put-too-long-requires
+put-too-long-requires : tie.Need-put_too_long-requires
 put-too-long-requires c κs = search rules
 
-same_length : tie.Need-same-length
+same_length : tie.Need-shape_of-out-then-data-gt-MAX_LEN
 same_length c = search rules
 
-returns : tie.Need-returns
+returns : tie.Need-returns-then-data-gt-MAX_LEN
 returns c =
-    let w = c.before.before in
-    let t = w.before.before in
-    let s = t.before.before.before in
+    let w = c in
+    let t = w in
+    let s = t in
     let f = s.args.«data».now in
-    let e = only (blocks_pieces f) too_long_line s.args.i (long-pieces f t.if1.true) s.requires.1 in
-    let p = w.put-too-long.ensures in
+    let e = only (blocks_pieces f) too_long_line s.args.i (long-pieces f t.if-data-gt-MAX_LEN.true) s.requires.1 in
+    let p = w.put_too_long.ensures in
     record { whole = rw e p.0; front = rw e p.1; short = omega (arith, p.0) }
 
-enum-known-loaded : tie.Need-enum-known-loaded
+enum-known-loaded : tie.Need-enum_known-loaded
 enum-known-loaded c = search rules
 
 line-requires : tie.Need-line-requires
 line-requires c κs =
-    let o = c.before.before in
-    let s = o.before.before.before.before.before in
+    let o = c.before in
+    let s = o in
     (opens o, omega (arith, below o), s.requires.2)
 
-enum-known-loaded-2 : tie.Need-enum-known-loaded-2
+enum-known-loaded-2 : tie.Need-enum_known-loaded-in-Refused-1
 enum-known-loaded-2 c = search rules
 
-put-refusal-requires : tie.Need-put-refusal-requires
+put-refusal-requires : tie.Need-put_refusal-requires
 put-refusal-requires c κs = search rules
 
-same-length-2 : tie.Need-same-length-2
+same-length-2 : tie.Need-shape_of-out-in-Opened
 same-length-2 c = search rules
 
-returns-2 : tie.Need-returns-2
+returns-2 : tie.Need-returns-in-Opened
 returns-2 c =
     let w = c.before.before in
-    let o = w.before.before.before in
-    let s = o.before.before.before.before.before in
+    let o = w.before.before in
+    let s = o in
     let f = s.args.«data».now in
-    let opened = o.loaded.given.0.0 in
+    let opened = o.in-Opened.opened in
     let e = line-is f opened opened.n s.args.i (below o) in
     let p = w.line.ensures in
     record {
@@ -83,23 +83,23 @@ returns-2 c =
       short = omega (arith, p.0, line-fits f opened (opens o) s.args.i (below o));
     }
 
-same-length-3 : tie.Need-same-length-3
+same-length-3 : tie.Need-shape_of-out-in-Refused
 same-length-3 c = search rules
 
-returns-3 : tie.Need-returns-3
+returns-3 : tie.Need-returns-in-Refused
 returns-3 c =
-    let w = c.before.before in
-    let o = w.before.before.before in
-    let k = o.loaded2.given in
-    let s = o.before.before.before.before.before in
+    let w = c in
+    let o = w in
+    let k = o.in-Refused in
+    let s = o in
     let f = s.args.«data».now in
-    let pieces = short-pieces f o.before.before.if1.false (Refused k.0.0) (sym s.requires.0 ∙ k.1) in
-    let e = only (blocks_pieces f) (refused_line k.0.0) s.args.i pieces s.requires.1 in
-    let p = w.put-refusal.ensures in
-    record { whole = rw e p.0; front = rw e p.1; short = omega (arith, p.0, refused-short k.0.0) }
+    let pieces = short-pieces f o.if-data-gt-MAX_LEN.false (Refused k.row) (sym s.requires.0 ∙ k.is) in
+    let e = only (blocks_pieces f) (refused_line k.row) s.args.i pieces s.requires.1 in
+    let p = w.put_refusal.ensures in
+    record { whole = rw e p.0; front = rw e p.1; short = omega (arith, p.0, refused-short k.row) }
 
-pub piece-spec : {M : Type 1} → statement M
-piece-spec =
+pub piece_spec : {M : Type 1} → statement M
+piece_spec =
     tie.close
     (tie.spec
     put-too-long-requires

@@ -6,27 +6,27 @@ use Rattle.block_lines.proofs.TextPieces.{long-pieces, short-pieces, length-line
 use Rattle.block_lines.proofs.pieces.Statement.{statement}
 use Rattle.block_lines.proofs.pieces.Tie as tie
 
-returns : tie.Need-returns
-returns c = rw (long-pieces c.before.args.«data».now c.if1.true)
+returns : tie.Need-returns-then-data-gt-MAX_LEN
+returns c = rw (long-pieces c.args.«data».now c.if-data-gt-MAX_LEN.true)
 
-enum-known-loaded : tie.Need-enum-known-loaded
+enum-known-loaded : tie.Need-enum_known-loaded
 enum-known-loaded c = search rules
 
-enum_told : tie.Need-enum-told
+enum_told : tie.Need-enum_told-1
 enum_told c = search rules
 
-returns-2 : tie.Need-returns-2
+returns-2 : tie.Need-returns-in-Opened
 returns-2 c =
-    let o = c.before.loaded.given in
-    let s = c.before.before.before.before in
+    let o = c.in-Opened in
+    let s = c in
     let f = s.args.«data».now in
-    rw (short-pieces f c.before.before.before.if1.false (Opened o.0.0) (sym s.requires ∙ o.1)) (sym (length-lines f o.0.0 0 o.0.0.n))
+    rw (short-pieces f c.if-data-gt-MAX_LEN.false (Opened o.opened) (sym s.requires ∙ o.is)) (sym (length-lines f o.opened 0 o.opened.n))
 
-returns-3 : tie.Need-returns-3
+returns-3 : tie.Need-returns-in-Refused
 returns-3 c =
-    let k = c.enum_told.given in
-    let s = c.before.before.before in
-    rw (short-pieces s.args.«data».now c.before.before.if1.false (Refused k.0.0) (sym s.requires ∙ k.1))
+    let k = c.in-Refused in
+    let s = c in
+    rw (short-pieces s.args.«data».now c.if-data-gt-MAX_LEN.false (Refused k.field-0) (sym s.requires ∙ k.is))
 
-pub pieces-spec : {M : Type 1} → statement M
-pieces-spec = tie.close (tie.spec returns enum-known-loaded enum_told returns-2 returns-3)
+pub pieces_spec : {M : Type 1} → statement M
+pieces_spec = tie.close (tie.spec returns enum-known-loaded enum_told returns-2 returns-3)

@@ -10,56 +10,54 @@ use Rattle.line_text.proofs.Written.{put-copied}
 use Rattle.line_text.proofs.put_decimal.Statement.{statement}
 use Rattle.line_text.proofs.put_decimal.Tie as tie
 
-slice-aggregate-digits : tie.Need-slice-aggregate-digits
+slice-aggregate-digits : tie.Need-slice_bounds-digits-end
 slice-aggregate-digits c = search rules
 
-digits-requires : tie.Need-digits-requires
+digits-requires : tie.Need-digits-first-requires
 digits-requires c κs = search rules
 
-sub-copy : tie.Need-overflow-sub-copy
+sub-copy : tie.Need-slice_bounds-copy-count
 sub-copy c = search rules
 
-part-copy-start : tie.Need-slice-bounds-copy-start
+part-copy-start : tie.Need-slice_bounds-copy-start
 part-copy-start c = search rules
 
-part-copy-end : tie.Need-slice-bounds-copy-end
+part-copy-end : tie.Need-slice_bounds-copy-end
 part-copy-end c = search rules
 
-sub-copy-2 : tie.Need-overflow-sub-copy-2
+sub-copy-2 : tie.Need-slice_bounds-copy-count-2
 sub-copy-2 c = search rules
 
-part-copy-start-2 : tie.Need-slice-bounds-copy-start-2
+part-copy-start-2 : tie.Need-slice_bounds-copy-start-2
 part-copy-start-2 c = search rules
 
-part-copy-end-2 : tie.Need-slice-bounds-copy-end-2
+part-copy-end-2 : tie.Need-slice_bounds-copy-end-2
 part-copy-end-2 c = search rules
 
 copy-requires : tie.Need-copy-requires
 copy-requires c κs = search rules
 
-add-result : tie.Need-overflow-add-result
+add-result : tie.Need-overflow_add-result
 add-result c = search rules
 
-same_length : tie.Need-same-length
+same_length : tie.Need-shape_of-out
 same_length c = search rules
 
 returns : tie.Need-returns
 returns c =
-    let copy = c.before.before in
-    let d = copy.before.before.before.before.before in
-    let a = d.before.before.before.args in
-    let text = d.digits.new.1.0 in
-    let first = d.digits.result in
+    let a = c.args in
+    let text = c.digits-first.new.text in
+    let first = c.digits-first.result in
     let all : take (20 - first) (drop first text) ≡ decimal a.n
-    = take_all (20 - first) (drop first text) (omega (arith, length-drop first text)) ∙ d.digits.ensures.1 in
-    let len : copy.copy.result ≡ length (decimal a.n) = rw all at copy.copy.ensures.0 in
-    let short : length (decimal a.n) ≤ 20 = omega (arith, ap length d.digits.ensures.1, length-drop first text) in (
+    = take_all (20 - first) (drop first text) (omega (arith, length-drop first text)) ∙ c.digits-first.ensures.1 in
+    let len : c.copy.result ≡ length (decimal a.n) = rw all at c.copy.ensures.0 in
+    let short : length (decimal a.n) ≤ 20 = omega (arith, ap length c.digits-first.ensures.1, length-drop first text) in (
       omega arith,
-      put-copied a.out.now (decimal a.n) copy.copy.new.1.0 a.at (omega arith) (rw all at copy.copy.ensures.1),
+      put-copied a.out.now (decimal a.n) c.copy.new.to a.at (omega arith) (rw all at c.copy.ensures.1),
     )
 
-pub put-decimal-spec : {M : Type 1} → statement M
-put-decimal-spec =
+pub put_decimal_spec : {M : Type 1} → statement M
+put_decimal_spec =
     tie.close
     (tie.spec
     slice-aggregate-digits

@@ -7,24 +7,23 @@ use Rattle.line_text.proofs.Written.{put-behind}
 use Rattle.line_text.proofs.put_number.Statement.{statement}
 use Rattle.line_text.proofs.put_number.Tie as tie
 
-slice-write-out : tie.Need-slice-write-out
+slice-write-out : tie.Need-bounds-out-at
 slice-write-out c = search rules
 
-add-put-decimal : tie.Need-overflow-add-put-decimal
+add-put-decimal : tie.Need-overflow_add-at
 add-put-decimal c = search rules
 
-put-decimal-requires : tie.Need-put-decimal-requires
+put-decimal-requires : tie.Need-put_decimal-requires
 put-decimal-requires c κs = simp length-set (omega arith)
 
-same_length : tie.Need-same-length
-same_length c = let a = c.before.before.before.before.before.args in omega (arith, c.before.before.put-decimal.auto.0, length-set a.out.now a.at 32)
+same_length : tie.Need-shape_of-out
+same_length c = let a = c.args in omega (arith, c.put_decimal.auto.out, length-set a.out.now a.at 32)
 
 returns : tie.Need-returns
 returns c =
-    let p = c.before.before in
-    let a = p.before.before.before.args in
-    put-behind a.out.now p.put-decimal.new.0 (decimal a.n) a.at 32 p.put-decimal.result p.put-decimal.ensures
+    let a = c.args in
+    put-behind a.out.now c.put_decimal.new.out (decimal a.n) a.at 32 c.put_decimal.result c.put_decimal.ensures
 
-pub put-number-spec : {M : Type 1} → statement M
-put-number-spec =
+pub put_number_spec : {M : Type 1} → statement M
+put_number_spec =
     tie.close (tie.spec slice-write-out add-put-decimal put-decimal-requires same_length returns)

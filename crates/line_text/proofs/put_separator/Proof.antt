@@ -18,48 +18,45 @@ full-text : (bytes : List ℕ) → (length bytes ≡ 0 → ⊥) → hex bytes �
 full-text [] h = absurd (h refl)
 full-text (x ∷ bytes) h = refl
 
-slice-write-out : tie.Need-slice-write-out
+slice-write-out : tie.Need-bounds-out-at
 slice-write-out c = search rules
 
-add-out : tie.Need-overflow-add-out
+add-out : tie.Need-overflow_add-out
 add-out c = search rules
 
-slice-write-out-2 : tie.Need-slice-write-out-2
+slice-write-out-2 : tie.Need-bounds-out-at-then-bytes-eq0
 slice-write-out-2 c = simp length-set (omega arith)
 
-add-result : tie.Need-overflow-add-result
+add-result : tie.Need-overflow_add-result
 add-result c = search rules
 
-same_length : tie.Need-same-length
+same_length : tie.Need-shape_of-out-then-bytes-eq0
 same_length c = search rules
 
-returns : tie.Need-returns
+returns : tie.Need-returns-then-bytes-eq0
 returns c =
-    let a = c.before.before.before.args in
-    rw (empty-text a.bytes.now c.if1.true) (put-behind a.out.now _ (45 ∷ []) a.at 32 _ (omega arith, refl))
+    let a = c.args in
+    rw (empty-text a.bytes.now c.if-bytes-eq0.true) (put-behind a.out.now _ (45 ∷ []) a.at 32 _ (omega arith, refl))
 
-add-put-hex : tie.Need-overflow-add-put-hex
+add-put-hex : tie.Need-overflow_add-at
 add-put-hex c = search rules
 
-put-hex-requires : tie.Need-put-hex-requires
+put-hex-requires : tie.Need-put_hex-requires
 put-hex-requires c κs = simp length-set (omega arith)
 
-same-length-2 : tie.Need-same-length-2
+same-length-2 : tie.Need-shape_of-out
 same-length-2 c =
-    let p = c.before.before in
-    let a = p.before.before.before.before.before.args in
-    omega (arith, p.put-hex.auto.0, length-set a.out.now a.at 32)
+    let a = c.args in
+    omega (arith, c.put_hex.auto.out, length-set a.out.now a.at 32)
 
-returns-2 : tie.Need-returns-2
+returns-2 : tie.Need-returns
 returns-2 c =
-    let p = c.before.before in
-    let e = p.before.before in
-    let a = e.before.before.before.args in
-    rw (← (full-text a.bytes.now e.if1.false))
-    (put-behind a.out.now p.put-hex.new.0 (hex a.bytes.now) a.at 32 p.put-hex.result p.put-hex.ensures)
+    let a = c.args in
+    rw (← (full-text a.bytes.now c.if-bytes-eq0.false))
+    (put-behind a.out.now c.put_hex.new.out (hex a.bytes.now) a.at 32 c.put_hex.result c.put_hex.ensures)
 
-pub put-separator-spec : {M : Type 1} → statement M
-put-separator-spec =
+pub put_separator_spec : {M : Type 1} → statement M
+put_separator_spec =
     tie.close
     (tie.spec
     slice-write-out

@@ -4,39 +4,39 @@ use Rattle.rosmarel.proofs.Kept.{shorten-with}
 use Rattle.rosmarel.proofs.build.rosmarel_shorten.Statement.{statement}
 use Rattle.rosmarel.proofs.build.rosmarel_shorten.Tie as tie
 
-new-requires : tie.Need-new-requires
+new-requires : tie.Need-new-builder-requires
 new-requires c κs = search rules
 
 shorten-last-block-key-given-next-key-requires :
-    tie.Need-shorten-last-block-key-given-next-key-requires
+    tie.Need-shorten_last_block_key_given_next_key-requires
 shorten-last-block-key-given-next-key-requires c κs = search rules
 
-enum_told : tie.Need-enum-told
+enum_told : tie.Need-enum_told-1
 enum_told c = search rules
 
-enum-known-no : tie.Need-enum-known-no
+enum-known-no : tie.Need-enum_known-no
 enum-known-no c = search rules
 
-same_length : tie.Need-same-length
+same_length : tie.Need-shape_of-blocks-in-Taken
 same_length c = search rules
 
-same-length-2 : tie.Need-same-length-2
+same-length-2 : tie.Need-shape_of-keys-in-Taken
 same-length-2 c = search rules
 
-returns : tie.Need-returns
-returns c = shorten-with _ _ _ _ _ _ _ _ (rw (c.enum_told.given.1, c.before.before.before.before.before.before.before.before.before.new.ensures) at c.before.before.before.before.before.before.shorten-last-block-key-given-next-key.ensures.0)
+returns : tie.Need-returns-in-Taken
+returns c = shorten-with _ _ _ _ _ _ _ _ (rw (c.in-Taken.is, c.new-builder.ensures) at c.shorten_last_block_key_given_next_key.ensures.0)
 
-same-length-3 : tie.Need-same-length-3
+same-length-3 : tie.Need-shape_of-blocks-in-Refused
 same-length-3 c = search rules
 
-same-length-4 : tie.Need-same-length-4
+same-length-4 : tie.Need-shape_of-keys-in-Refused
 same-length-4 c = search rules
 
-returns-2 : tie.Need-returns-2
-returns-2 c = shorten-with _ _ _ _ _ _ _ _ (rw (c.before.no.given.1, c.before.before.before.before.before.before.before.before.before.before.new.ensures) at c.before.before.before.before.before.before.before.shorten-last-block-key-given-next-key.ensures.0)
+returns-2 : tie.Need-returns-in-Refused
+returns-2 c = shorten-with _ _ _ _ _ _ _ _ (rw (c.in-Refused.is, c.new-builder.ensures) at c.shorten_last_block_key_given_next_key.ensures.0)
 
-pub rosmarel-shorten-spec : {M : Type 1} → statement M
-rosmarel-shorten-spec =
+pub rosmarel_shorten_spec : {M : Type 1} → statement M
+rosmarel_shorten_spec =
     tie.close
     (tie.spec
     new-requires

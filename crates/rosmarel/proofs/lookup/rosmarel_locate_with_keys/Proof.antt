@@ -3,17 +3,17 @@ use borrow.Author.Rules.{rules}
 use Rattle.rosmarel.proofs.lookup.rosmarel_locate_with_keys.Statement.{statement}
 use Rattle.rosmarel.proofs.lookup.rosmarel_locate_with_keys.Tie as tie
 
-opened-at-requires : tie.Need-opened-at-requires
+opened-at-requires : tie.Need-opened_at-requires
 opened-at-requires c κs = search rules
 
-locate-with-keys-requires : tie.Need-locate-with-keys-requires
+locate-with-keys-requires : tie.Need-locate_with_keys-requires
 locate-with-keys-requires c κs = search rules
 
-same_length : tie.Need-same-length
+same_length : tie.Need-shape_of-ids
 same_length c = search rules
 
 returns : tie.Need-returns
-returns c = let b = c.before.before in rw b.before.before.opened-at.ensures at b.locate-with-keys.ensures
+returns c = let b = c in rw b.opened_at.ensures at b.locate_with_keys.ensures
 
-pub rosmarel-locate-with-keys-spec : {M : Type 1} → statement M
-rosmarel-locate-with-keys-spec = tie.close (tie.spec opened-at-requires locate-with-keys-requires same_length returns)
+pub rosmarel_locate_with_keys_spec : {M : Type 1} → statement M
+rosmarel_locate_with_keys_spec = tie.close (tie.spec opened-at-requires locate-with-keys-requires same_length returns)

@@ -9,30 +9,30 @@ use Rattle.rosmarel.proofs.lookup.rosmarel_separator.Tie as tie
 parts : {a d : Place} → a ≡ d → (place_offset a ≡ place_offset d) × (place_len a ≡ place_len d)
 parts e = (ap place_offset e, ap place_len e)
 
-opened-at-requires : tie.Need-opened-at-requires
+opened-at-requires : tie.Need-opened_at-requires
 opened-at-requires c κs = search rules
 
-separator-place-requires : tie.Need-separator-place-requires
+separator-place-requires : tie.Need-separator_place-requires
 separator-place-requires c κs = search rules
 
-enum-known-from : tie.Need-enum-known-from
+enum-known-from : tie.Need-enum_known-from
 enum-known-from c = search rules
 
-enum_told : tie.Need-enum-told
+enum_told : tie.Need-enum_told-1
 enum_told c = search rules
 
-returns : tie.Need-returns
+returns : tie.Need-returns-in-Part
 returns c =
-    let g = c.before.before.before in
-    parts (rw (g.before.opened-at.ensures, c.before.from.given.1) at g.separator-place.ensures)
+    let g = c in
+    parts (rw (g.opened_at.ensures, c.in-Part.is) at g.separator_place.ensures)
 
-returns-2 : tie.Need-returns-2
+returns-2 : tie.Need-returns-in-Missing
 returns-2 c =
-    let g = c.before.before in
-    parts (rw (g.before.opened-at.ensures, c.enum_told.given.1) at g.separator-place.ensures)
+    let g = c in
+    parts (rw (g.opened_at.ensures, c.in-Missing.is) at g.separator_place.ensures)
 
-pub rosmarel-separator-spec : {M : Type 1} → statement M
-rosmarel-separator-spec =
+pub rosmarel_separator_spec : {M : Type 1} → statement M
+rosmarel_separator_spec =
     tie.close
     (tie.spec
     opened-at-requires

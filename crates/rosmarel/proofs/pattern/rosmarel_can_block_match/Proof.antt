@@ -5,30 +5,30 @@ use Rattle.rosmarel.proofs.Question.{byte-back, byte_le}
 use Rattle.rosmarel.proofs.pattern.rosmarel_can_block_match.Statement.{statement}
 use Rattle.rosmarel.proofs.pattern.rosmarel_can_block_match.Tie as tie
 
-can-block-match-automaton-requires : tie.Need-can-block-match-automaton-requires
+can-block-match-automaton-requires : tie.Need-can_block_match_automaton-requires
 can-block-match-automaton-requires c κs = search rules
 
-enum-known-can : tie.Need-enum-known-can
+enum-known-can : tie.Need-enum_known-can
 enum-known-can c = search rules
 
-cast-matches : tie.Need-overflow-cast-matches
+cast-matches : tie.Need-overflow_cast-matches
 cast-matches c = search rules
 
-enum-known-no : tie.Need-enum-known-no
+enum-known-no : tie.Need-enum_known-no
 enum-known-no c = search rules
 
-returns : tie.Need-returns
+returns : tie.Need-returns-in-Matches
 returns c =
-    let e = rw c.before.can.given.1 at c.before.before.before.can-block-match-automaton.ensures in
-    (rw (byte-back c.before.can.given.0.0) e.0, byte_le c.before.can.given.0.0)
+    let e = rw c.in-Matches.is at c.can_block_match_automaton.ensures in
+    (rw (byte-back c.in-Matches.can) e.0, byte_le c.in-Matches.can)
 
-returns-2 : tie.Need-returns-2
+returns-2 : tie.Need-returns-in-Refused
 returns-2 c =
-    let e = rw c.before.no.given.1 at c.before.before.before.can-block-match-automaton.ensures in
+    let e = rw c.in-Refused.is at c.can_block_match_automaton.ensures in
     (e.0, omega arith)
 
-pub rosmarel-can-block-match-spec : {M : Type 1} → statement M
-rosmarel-can-block-match-spec =
+pub rosmarel_can_block_match_spec : {M : Type 1} → statement M
+rosmarel_can_block_match_spec =
     tie.close
     (tie.spec
     can-block-match-automaton-requires

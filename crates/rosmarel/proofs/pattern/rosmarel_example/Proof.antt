@@ -6,26 +6,26 @@ use Rattle.rosmarel.proofs.pattern.rosmarel_example.Tie as tie
 example-requires : tie.Need-example-requires
 example-requires c κs = search rules
 
-enum-known-long : tie.Need-enum-known-long
+enum-known-long : tie.Need-enum_known-long
 enum-known-long c = search rules
 
-enum-known-no : tie.Need-enum-known-no
+enum-known-no : tie.Need-enum_known-no
 enum-known-no c = search rules
 
-same_length : tie.Need-same-length
+same_length : tie.Need-shape_of-out-in-Written
 same_length c = search rules
 
-returns : tie.Need-returns
-returns c = rw c.before.long.given.1 at c.before.before.before.before.before.example.ensures.0
+returns : tie.Need-returns-in-Written
+returns c = rw c.in-Written.is at c.example.ensures.0
 
-same-length-2 : tie.Need-same-length-2
+same-length-2 : tie.Need-shape_of-out-in-Refused
 same-length-2 c = search rules
 
-returns-2 : tie.Need-returns-2
-returns-2 c = rw c.before.no.given.1 at c.before.before.before.before.before.example.ensures.0
+returns-2 : tie.Need-returns-in-Refused
+returns-2 c = rw c.in-Refused.is at c.example.ensures.0
 
-pub rosmarel-example-spec : {M : Type 1} → statement M
-rosmarel-example-spec =
+pub rosmarel_example_spec : {M : Type 1} → statement M
+rosmarel_example_spec =
     tie.close
     (tie.spec
     example-requires
