@@ -1,4 +1,8 @@
 // Program `blocks` of document 01, run on its index of 85 bytes.
-fn main() {
-    blocks_io::run();
+#![tactic(auto)]
+
+use std::io;
+
+fn main(rt: HostRuntime) -> io::Result<()> {
+    blocks_io::run(&rt)
 }

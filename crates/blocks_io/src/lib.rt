@@ -1,21 +1,31 @@
 // What the program `blocks` does: it reads an index and prints a line for each block.
-use block_lines::{LINE_LEN, MAX_LEN};
-use libc::{STDIN_FILENO, STDOUT_FILENO};
+#![tactic(auto)]
 
-// Prints the text for these bytes, piece by piece.
-fn print(data: &[u8]) {
+ghost use Rattle.std.specs.Prelude.{OnOk};
+ghost use Rattle.std.specs.Io.KnownBytes.{Appends};
+ghost use Rattle.block_lines.specs.Text.{blocks_text};
+
+use block_lines::{LINE_LEN, MAX_LEN};
+use std::io;
+use std::io::{Read, Write};
+
+// Writes the text for these bytes, piece by piece.
+fn print<W: Write>(out: &mut W, data: &[u8]) -> io::Result<()>
+    ensures { OnOk result (Appends (W.contents out.old) (W.contents out.new) (blocks_text «data».now)) }
+{
     let loaded = index_load::load(data);
     let mut text = [0u8; LINE_LEN];
     for i in 0..block_lines::pieces(loaded, data) {
         let len = block_lines::piece(loaded, data, i, &mut text);
-        io::write_all(STDOUT_FILENO, &text[..len]);
+        out.write_all(&text[..len])?;
     }
+    Ok(())
 }
 
 // Reads standard input, writes standard output.
-pub fn run() {
+pub fn run(rt: &(impl Input + Print + AllocGlobal)) -> io::Result<()> {
     // One byte more than is taken tells that the input is too long.
-    let mut file = [0u8; MAX_LEN + 1];
-    let len = io::read_full(STDIN_FILENO, &mut file);
-    print(&file[..len]);
+    let mut file = Vec::new(rt.alloc());
+    rt.reader().take(MAX_LEN as u64 + 1).read_to_end(&mut file)?;
+    print(&mut io::writer(rt), file.as_slice())
 }

@@ -1,4 +1,8 @@
 // Program `blocks` on an empty input, which opening refuses by row 10.
-fn main() {
-    blocks_io::run();
+#![tactic(auto)]
+
+use std::io;
+
+fn main(rt: HostRuntime) -> io::Result<()> {
+    blocks_io::run(&rt)
 }

@@ -12,7 +12,7 @@ const LONGEST_KEYS: usize = 4096;
 const LONGEST_OUT: usize = 4096;
 
 // The builder's count, how much of the areas is lent to it, and whether the last line's answers were those of the list.
-#[derive(Drop)]
+#[derive(Clone, Copy)]
 pub struct State {
     pub n: usize,
     pub blocks: usize,
@@ -46,7 +46,7 @@ pub fn start() -> State {
 }
 
 // A call's number and the count of the builder that it hands back.
-#[derive(Drop)]
+#[derive(Clone, Copy)]
 pub struct Told {
     pub no: u64,
     pub n: usize,
@@ -369,7 +369,7 @@ pub fn holds(state: State, given: &[u64], content: &[u8], blocks: &[u64], keys: 
 }
 
 // A finish's number, the count of the builder that it hands back, and both lengths.
-#[derive(Drop)]
+#[derive(Clone, Copy)]
 struct Ended {
     no: u64,
     n: usize,

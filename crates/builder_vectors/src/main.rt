@@ -1,10 +1,13 @@
 // Replays a list of calls, with numbers from a plain model of document 01 and bytes from the Rust, against the proved builder, and
 // counts the calls whose answers differ.
+#![tactic(auto)]
+
 mod areas;
 mod cases;
 mod large;
 
 use cases::State;
+use std::io;
 use vectors::driver;
 use vectors::driver::{Case, Run};
 
@@ -76,7 +79,7 @@ fn step(case: Case, state: State, blocks: &mut [u64; 1024], keys: &mut [u8; 4096
     take(case.kind, given, text, state, blocks, keys)
 }
 
-fn replay(text: &[u8]) {
+fn replay(rt: &impl Print, text: &[u8]) -> io::Result<()> {
     let mut blocks = [0u64; 1024];
     let mut keys = [0u8; 4096];
     let mut state = cases::start();
@@ -86,13 +89,14 @@ fn replay(text: &[u8]) {
         state = step(case, state, &mut blocks, &mut keys);
         run = run.counted(case, state.same);
     }
-    run.print(b"adds,shortens,states,finishes");
+    run.print(rt, b"adds,shortens,states,finishes")
 }
 
-fn main() {
+fn main(rt: HostRuntime) -> io::Result<()> {
     let mut text = [0u8; driver::TEXT_LEN];
-    let n = driver::read(&mut text);
+    let n = driver::read(&rt, &mut text)?;
     if n < driver::TEXT_LEN {
-        replay(driver::front(&text, n));
+        replay(&rt, driver::front(&text, n))?;
     }
+    Ok(())
 }

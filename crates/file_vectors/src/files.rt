@@ -1,6 +1,12 @@
 // Files by name.
-ghost use Rattle.std.specs.Prelude.{◌≤◌, length};
-ghost use Rattle.io.specs.Counts.{IsPrefixLen};
+ghost use Rattle.std.specs.Prelude.{◌≡◌, ◌≤◌, length, take};
+
+use std::rt::Files;
+use std::{fs, str};
+use vectors::driver;
+
+// No file that is replayed is longer.
+pub const FILE_LEN: usize = 65536;
 
 // No path is longer.
 const PATH_LEN: usize = 64;
@@ -14,16 +20,19 @@ pub fn ends_with(name: &[u8], end: &[u8]) -> bool {
 }
 
 // Reads the file to the front of the area and returns its length; the
-// area's length where there is no such file, or no byte of room behind it.
-pub fn read(path: &[u8], area: &mut [u8]) -> usize
-    ensures { IsPrefixLen result area.new }
+// area's length where it can't be read, or no byte of room is behind it.
+pub fn read(rt: &impl Files, path: &[u8], area: &mut [u8]) -> usize
+    ensures { (result ≤ length area.new) × (result ≡ length (take result area.new)) }
 {
-    let fd = os::open_read(path);
-    if fd < 0 {
+    let Ok(name) = str::from_utf8(path) else {
         return area.len();
-    }
-    let len = io::read_full(fd, area);
-    libc::close(fd);
+    };
+    let Ok(mut file) = fs::open(rt, name) else {
+        return area.len();
+    };
+    let Ok(len) = driver::fill(&mut file, area) else {
+        return area.len();
+    };
     len
 }
 
@@ -52,16 +61,16 @@ fn put_path(name: &[u8], end: &[u8], path: &mut [u8]) -> usize
     if end.len() > path.len() - stem {
         return 0;
     }
-    bytes::copy(&name[0..stem], path);
-    bytes::copy(end, &mut path[stem..]);
+    byte_copy::copy(&name[0..stem], path);
+    byte_copy::copy(end, &mut path[stem..]);
     stem + end.len()
 }
 
 // As `read`, of the file of that name with another ending.
-pub fn read_beside(name: &[u8], end: &[u8], area: &mut [u8]) -> usize
-    ensures { IsPrefixLen result area.new }
+pub fn read_beside(rt: &impl Files, name: &[u8], end: &[u8], area: &mut [u8]) -> usize
+    ensures { (result ≤ length area.new) × (result ≡ length (take result area.new)) }
 {
     let mut path = [0u8; PATH_LEN];
     let len = put_path(name, end, &mut path);
-    read(&path[0..len], area)
+    read(rt, &path[0..len], area)
 }

@@ -2,9 +2,11 @@
 ghost use Rattle.index.specs.Opening.{Opens};
 
 use crate::files;
+use crate::files::FILE_LEN;
 use crate::text::{behind, is_refusal};
 use block_lines::LINE_LEN;
 use index::{Loaded, SSTableIndexV3};
+use std::rt::Files;
 
 // Whether the text is the lines of the blocks.
 fn same_blocks(opened: SSTableIndexV3, data: &[u8], expected: &[u8]) -> bool
@@ -37,14 +39,14 @@ fn same_answer(data: &[u8], expected: &[u8]) -> bool {
 }
 
 // Whether NAME.index opens as NAME.expected says.
-pub fn same(name: &[u8]) -> bool {
-    let mut file = io::large_buffer();
-    let mut expected = io::large_buffer();
-    let len = files::read(name, &mut file);
+pub fn same(rt: &impl Files, name: &[u8]) -> bool {
+    let mut file = [0u8; FILE_LEN];
+    let mut expected = [0u8; FILE_LEN];
+    let len = files::read(rt, name, &mut file);
     if len == file.len() {
         return false;
     }
-    let expected_len = files::read_beside(name, b".expected", &mut expected);
+    let expected_len = files::read_beside(rt, name, b".expected", &mut expected);
     if expected_len == expected.len() {
         return false;
     }

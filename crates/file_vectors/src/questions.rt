@@ -2,7 +2,9 @@
 ghost use Rattle.std.specs.Prelude.{◌≤◌, ◌<◌, length};
 
 use crate::files;
+use crate::files::FILE_LEN;
 use index::{BlockById, Loaded, Located, LocatedId, SSTableIndexV3};
+use std::rt::Files;
 use vectors::tally::{ROWS, Tally};
 use vectors::{Line, tally};
 
@@ -93,7 +95,7 @@ fn is_answered(line: Line, numbers: &[u64], key: &[u8], opened: SSTableIndexV3, 
 }
 
 // Whether the line at `at` has the answer, and where the next one begins.
-#[derive(Drop)]
+#[derive(Clone, Copy)]
 struct Turn {
     same: bool,
     next: usize,
@@ -138,17 +140,17 @@ fn counted_answers(data: &[u8], text: &[u8], tallies: [Tally; ROWS], row: usize)
 }
 
 // The tallies with one case for each line of NAME.questions, asked of NAME.index. No line at all differs.
-pub fn counted(name: &[u8], tallies: [Tally; ROWS], row: usize) -> [Tally; ROWS] {
-    let mut file = io::large_buffer();
-    let mut text = io::large_buffer();
-    let text_len = files::read(name, &mut text);
+pub fn counted(rt: &impl Files, name: &[u8], tallies: [Tally; ROWS], row: usize) -> [Tally; ROWS] {
+    let mut file = [0u8; FILE_LEN];
+    let mut text = [0u8; FILE_LEN];
+    let text_len = files::read(rt, name, &mut text);
     if text_len == text.len() {
         return tally::counted(tallies, row, false);
     }
     if text_len == 0 {
         return tally::counted(tallies, row, false);
     }
-    let len = files::read_beside(name, b".index", &mut file);
+    let len = files::read_beside(rt, name, b".index", &mut file);
     if len == file.len() {
         return tally::counted(tallies, row, false);
     }

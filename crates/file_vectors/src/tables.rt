@@ -1,9 +1,14 @@
 // Automata: the marks of the blocks of worked.index.
+use crate::files::FILE_LEN;
 use crate::{files, text};
 use index::{Loaded, SSTableIndexV3};
 use listing::Listed;
+use std::rt::Files;
 
 const MOST_MARKS: usize = 8;
+
+// The index of the blocks, and no list of marks, is longer.
+const SMALL_LEN: usize = 4096;
 
 // A mark's digit; no digit where it is neither 0 nor 1.
 fn digit(mark: u8) -> u8 {
@@ -52,13 +57,13 @@ fn same_answer(data: &[u8], table: &[u8], expected: &[u8]) -> bool {
 }
 
 // Whether NAME.automaton marks the blocks as NAME.expected says.
-pub fn same(name: &[u8]) -> bool {
-    let mut file = io::buffer();
-    let mut table = io::large_buffer();
-    let mut expected = io::buffer();
-    let len = files::read(b"worked.index", &mut file);
-    let table_len = files::read(name, &mut table);
-    let expected_len = files::read_beside(name, b".expected", &mut expected);
+pub fn same(rt: &impl Files, name: &[u8]) -> bool {
+    let mut file = [0u8; SMALL_LEN];
+    let mut table = [0u8; FILE_LEN];
+    let mut expected = [0u8; SMALL_LEN];
+    let len = files::read(rt, b"worked.index", &mut file);
+    let table_len = files::read(rt, name, &mut table);
+    let expected_len = files::read_beside(rt, name, b".expected", &mut expected);
     if len == file.len() {
         return false;
     }

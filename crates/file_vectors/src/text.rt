@@ -1,4 +1,5 @@
 // Expected text, compared part by part.
+use itoa::Buffer;
 
 // Where the part that should stand at `at` ends; a place beyond every text where it doesn't stand there.
 pub fn behind(text: &[u8], at: usize, part: &[u8]) -> usize {
@@ -18,9 +19,8 @@ pub fn behind(text: &[u8], at: usize, part: &[u8]) -> usize {
 
 // As `behind`, of a number's digits.
 pub fn behind_number(text: &[u8], at: usize, n: u64) -> usize {
-    let mut digits = [0u8; 20];
-    let count = io::decimal(n, &mut digits);
-    behind(text, at, &digits[..count])
+    let mut digits = Buffer::new();
+    behind(text, at, digits.format(n).as_bytes())
 }
 
 // Whether the text is the line of a refusal.

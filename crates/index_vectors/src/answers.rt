@@ -3,7 +3,7 @@ use index::{BlockById, Located, LocatedId, Place};
 
 const LIMIT: u64 = 1 << 48;
 
-#[derive(Drop)]
+#[derive(Clone, Copy)]
 pub struct Answer {
     pub no: u64,
     pub id: u64,

@@ -13,7 +13,7 @@ pub fn open(state: State, given: &[u64], content: &[u8], file: &mut [u8]) -> Sta
     if len > file.len() {
         return state.with(false);
     }
-    bytes::copy(content, file);
+    byte_copy::copy(content, file);
     records::told(index_load::load(&file[0..len]), len, given)
 }
 
@@ -39,10 +39,10 @@ fn opens_with(part: &[u8], at: usize, given: &[u64], data: &mut [u8]) -> bool
     }
     let end = at + count;
     let mut old = [0u8; LONGEST];
-    bytes::copy(&data[at..end], &mut old);
-    bytes::copy(part, &mut data[at..end]);
+    byte_copy::copy(&data[at..end], &mut old);
+    byte_copy::copy(part, &mut data[at..end]);
     let same = records::is_told(index_load::load(data), given);
-    bytes::copy(&old[0..count], &mut data[at..end]);
+    byte_copy::copy(&old[0..count], &mut data[at..end]);
     same
 }
 

@@ -1,5 +1,7 @@
 // Replays a list of files and lookups, with answers of the Rust and of a plain model of document 01, against the proved opening and
 // lookups, and counts the lines whose answers differ.
+#![tactic(auto)]
+
 mod answers;
 mod batches;
 mod exact;
@@ -9,6 +11,7 @@ mod records;
 mod rule;
 
 use records::State;
+use std::io;
 use vectors::driver;
 use vectors::driver::{Case, Run};
 
@@ -64,7 +67,7 @@ fn step(case: Case, state: State, file: &mut [u8; FILE_LEN]) -> State {
     )
 }
 
-fn replay(text: &[u8]) {
+fn replay(rt: &impl Print, text: &[u8]) -> io::Result<()> {
     let mut file = [0u8; FILE_LEN];
     let mut state = records::start();
     let mut run = Run::start();
@@ -78,14 +81,16 @@ fn replay(text: &[u8]) {
         run = run.counted(case, state.same);
     }
     run.print(
+        rt,
         b"files,changed files,large files,ids,ordinals,keys,addresses by key,separators,left free,batches",
-    );
+    )
 }
 
-fn main() {
+fn main(rt: HostRuntime) -> io::Result<()> {
     let mut text = [0u8; driver::TEXT_LEN];
-    let n = driver::read(&mut text);
+    let n = driver::read(&rt, &mut text)?;
     if n < driver::TEXT_LEN {
-        replay(driver::front(&text, n));
+        replay(&rt, driver::front(&text, n))?;
     }
+    Ok(())
 }

@@ -2,7 +2,7 @@
 use index::{Loaded, SSTableIndexV3};
 
 // The file's length, the record that lookups use, and whether the last line's answers were those of the list.
-#[derive(Drop)]
+#[derive(Clone, Copy)]
 pub struct State {
     pub len: usize,
     pub opened: SSTableIndexV3,

@@ -1,7 +1,10 @@
 // Replays a list of answers, made by running the Rust, against the proved functions, and counts the cases that differ.
+#![tactic(auto)]
+
 mod cases;
 mod pack;
 
+use std::io;
 use vectors::driver;
 use vectors::driver::{Case, Run};
 
@@ -33,19 +36,23 @@ fn same(case: Case) -> bool {
     )
 }
 
-fn replay(text: &[u8]) {
+fn replay(rt: &impl Print, text: &[u8]) -> io::Result<()> {
     let mut run = Run::start();
     while run.at < text.len() {
         let case = driver::case_at(text, run.at, b"n00 l11 p20 b31 x41 g51 s63 c72");
         run = run.counted(case, same(case));
     }
-    run.print(b"widths,numbers,slopes,fields,reads,groups,shortened keys,common prefixes");
+    run.print(
+        rt,
+        b"widths,numbers,slopes,fields,reads,groups,shortened keys,common prefixes",
+    )
 }
 
-fn main() {
+fn main(rt: HostRuntime) -> io::Result<()> {
     let mut text = [0u8; driver::TEXT_LEN];
-    let n = driver::read(&mut text);
+    let n = driver::read(&rt, &mut text)?;
     if n < driver::TEXT_LEN {
-        replay(driver::front(&text, n));
+        replay(&rt, driver::front(&text, n))?;
     }
+    Ok(())
 }

@@ -4,7 +4,7 @@ use crate::{examples, listings};
 use pruning::Matched;
 
 // A call's number, and its mark.
-#[derive(Drop)]
+#[derive(Clone, Copy)]
 struct Decided {
     no: u64,
     mark: u64,

@@ -59,7 +59,7 @@ fn is_example(has_start: bool, start: &[u8], end: &[u8], table: &[u8], word: &[u
 }
 
 // A call's number, and how many bytes it writes.
-#[derive(Drop)]
+#[derive(Clone, Copy)]
 struct Told {
     no: u64,
     len: usize,

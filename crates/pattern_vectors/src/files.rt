@@ -2,7 +2,7 @@
 use index::{Loaded, SSTableIndexV3};
 
 // The lengths of automaton and file, the record, and whether the last line's answers were those of the list.
-#[derive(Drop)]
+#[derive(Clone, Copy)]
 pub struct State {
     pub table: usize,
     pub file: usize,
@@ -68,7 +68,7 @@ pub fn open(state: State, given: &[u64], content: &[u8], file: &mut [u8]) -> Sta
     if len > file.len() {
         return state.with(false);
     }
-    bytes::copy(content, file);
+    byte_copy::copy(content, file);
     let opened = match index_load::load(&file[0..len]) {
         Loaded::Opened(opened) => opened,
         Loaded::Refused(_) => nothing(),

@@ -7,7 +7,7 @@ use index::SSTableIndexV3;
 use listing::Listed;
 
 // A listing's number and count.
-#[derive(Drop)]
+#[derive(Clone, Copy)]
 struct Told {
     no: u64,
     count: u64,

@@ -1,5 +1,7 @@
 // Replays a list of automata, intervals of keys and index files, with answers of the Rust and of a plain model of document 01, against the
 // proved pruning, listing and example, and counts the lines whose answers differ.
+#![tactic(auto)]
+
 mod areas;
 mod calls;
 mod examples;
@@ -8,6 +10,7 @@ mod listings;
 mod tables;
 
 use files::State;
+use std::io;
 use vectors::driver;
 use vectors::driver::{Case, Run};
 
@@ -47,7 +50,7 @@ fn step(case: Case, state: State, table: &mut [u8; TABLE_LEN], file: &mut [u8; F
     take(case.kind, given, one, other, state, table, file)
 }
 
-fn replay(text: &[u8]) {
+fn replay(rt: &impl Print, text: &[u8]) -> io::Result<()> {
     let mut table = [0u8; TABLE_LEN];
     let mut file = [0u8; FILE_LEN];
     let mut state = files::start();
@@ -61,13 +64,14 @@ fn replay(text: &[u8]) {
         state = step(case, state, &mut table, &mut file);
         run = run.counted(case, state.same);
     }
-    run.print(b"blocks,examples,files,listings,listings left free");
+    run.print(rt, b"blocks,examples,files,listings,listings left free")
 }
 
-fn main() {
+fn main(rt: HostRuntime) -> io::Result<()> {
     let mut text = [0u8; driver::TEXT_LEN];
-    let n = driver::read(&mut text);
+    let n = driver::read(&rt, &mut text)?;
     if n < driver::TEXT_LEN {
-        replay(driver::front(&text, n));
+        replay(&rt, driver::front(&text, n))?;
     }
+    Ok(())
 }

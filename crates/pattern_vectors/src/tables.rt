@@ -164,7 +164,7 @@ fn with_flags(kind: u8, given: &[u64], flags: &[u8], runs: &[u8], table: &mut [u
     if len > table.len() {
         return BAD;
     }
-    bytes::copy(flags, &mut table[1..]);
+    byte_copy::copy(flags, &mut table[1..]);
     put_run(table, 0, 0, m as u8);
     if !put_next(kind, given, runs, table, m as u8) {
         return BAD;
@@ -179,7 +179,7 @@ fn plain(given: &[u64], bytes: &[u8], table: &mut [u8]) -> usize {
     if bytes.len() > table.len() {
         return BAD;
     }
-    bytes::copy(bytes, table)
+    byte_copy::copy(bytes, table)
 }
 
 // AT: the bytes in place of the table's own from there on, beyond its end too.
@@ -198,7 +198,7 @@ fn change(old: usize, given: &[u64], part: &[u8], table: &mut [u8]) -> usize {
     if count > table.len() - at {
         return BAD;
     }
-    bytes::copy(part, &mut table[at..]);
+    byte_copy::copy(part, &mut table[at..]);
     if at + count > old { at + count } else { old }
 }
 

@@ -9,7 +9,7 @@ fn put(part: &[u8], list: &mut [u8], at: usize) -> usize
     if part.len() > list.len() - at {
         return list.len();
     }
-    at + bytes::copy(part, &mut list[at..])
+    at + byte_copy::copy(part, &mut list[at..])
 }
 
 // Puts a part `count` times, from `from` on.

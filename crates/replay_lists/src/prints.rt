@@ -1,21 +1,21 @@
 // What is printed for a list.
 ghost use Rattle.std.specs.Prelude.{◌<◌};
 
-use libc::STDOUT_FILENO;
 use replay::cells::WIDTH;
 use replay::format;
+use std::io;
 
 // The base and the modulus of an area's remainder.
 const BASE: u64 = 65599;
 
 const MODULUS: u64 = 4294967291;
 
-fn text(bytes: &[u8]) {
-    io::write_all(STDOUT_FILENO, bytes);
+fn text(rt: &impl Print, bytes: &[u8]) -> io::Result<()> {
+    rt.write_all(bytes)
 }
 
-fn decimal(n: u64) {
-    io::print_decimal(STDOUT_FILENO, n);
+fn decimal(rt: &impl Print, n: u64) -> io::Result<()> {
+    rt.print(n)
 }
 
 fn wide(byte: u8) -> u64 {
@@ -23,67 +23,69 @@ fn wide(byte: u8) -> u64 {
 }
 
 // A list's place in the text.
-pub fn place(place: u64) {
-    text(b"list ");
-    decimal(place);
-    text(b": ");
+pub fn place(rt: &impl Print, place: u64) -> io::Result<()> {
+    text(rt, b"list ")?;
+    decimal(rt, place)?;
+    text(rt, b": ")
 }
 
-pub fn bad_line() {
-    text(b"bad line\n");
+pub fn bad_line(rt: &impl Print) -> io::Result<()> {
+    text(rt, b"bad line\n")
 }
 
 // A list's number.
-pub fn number(no: u64) {
-    decimal(no);
-    text(b"\n");
+pub fn number(rt: &impl Print, no: u64) -> io::Result<()> {
+    decimal(rt, no)?;
+    text(rt, b"\n")
 }
 
 // Five numbers a line.
-fn print_cells(answers: &[u64]) {
+fn print_cells(rt: &impl Print, answers: &[u64]) -> io::Result<()> {
     let mut i: usize = 0;
     while i < answers.len() {
-        decimal(answers[i]);
+        decimal(rt, answers[i])?;
         if i % WIDTH == WIDTH - 1 {
-            text(b"\n");
+            text(rt, b"\n")?;
         } else {
-            text(b" ");
+            text(rt, b" ")?;
         }
         i += 1;
     }
+    Ok(())
 }
 
-fn print_hex(bytes: &[u8]) {
+fn print_hex(rt: &impl Print, bytes: &[u8]) -> io::Result<()> {
     let mut i: usize = 0;
     while i < bytes.len() {
-        io::print_hex(STDOUT_FILENO, wide(bytes[i]), 2);
+        print!(rt; "{:02x}", wide(bytes[i]))?;
         i += 1;
     }
+    Ok(())
 }
 
 // The front of the output, as far as it goes.
-fn print_index(out: &[u8], total: u64) {
-    text(b"x");
+fn print_index(rt: &impl Print, out: &[u8], total: u64) -> io::Result<()> {
+    text(rt, b"x")?;
     if total <= out.len() as u64 {
         let end = total as usize;
-        print_hex(&out[0..end]);
+        print_hex(rt, &out[0..end])?;
     }
-    text(b"\n");
+    text(rt, b"\n")
 }
 
 // The answers to a list, and its index.
-pub fn answers(list: &[u8], out: &[u8], answers: &[u64]) {
+pub fn answers(rt: &impl Print, list: &[u8], out: &[u8], answers: &[u64]) -> io::Result<()> {
     if format::head_bad(list) {
-        return bad_line();
+        return bad_line(rt);
     }
     let calls = format::call_count(list);
     let needed = WIDTH * (calls + 2 + format::question_count(list));
     if needed > answers.len() {
-        return bad_line();
+        return bad_line(rt);
     }
-    print_cells(&answers[0..needed]);
+    print_cells(rt, &answers[0..needed])?;
     // finish's answer stands behind the calls', its total behind its number
-    print_index(out, vectors::number(answers, WIDTH * calls + 1));
+    print_index(rt, out, vectors::number(answers, WIDTH * calls + 1))
 }
 
 // A remainder with one digit more.
@@ -115,14 +117,20 @@ fn numbers_remainder(numbers: &[u64]) -> u64 {
 }
 
 // A remainder of each area, so that any other byte shows.
-pub fn areas(blocks: &[u64], keys: &[u8], out: &[u8], answers: &[u64]) {
-    text(b"areas ");
-    decimal(numbers_remainder(blocks));
-    text(b" ");
-    decimal(bytes_remainder(keys));
-    text(b" ");
-    decimal(bytes_remainder(out));
-    text(b" ");
-    decimal(numbers_remainder(answers));
-    text(b"\n");
+pub fn areas(
+    rt: &impl Print,
+    blocks: &[u64],
+    keys: &[u8],
+    out: &[u8],
+    answers: &[u64],
+) -> io::Result<()> {
+    text(rt, b"areas ")?;
+    decimal(rt, numbers_remainder(blocks))?;
+    text(rt, b" ")?;
+    decimal(rt, bytes_remainder(keys))?;
+    text(rt, b" ")?;
+    decimal(rt, bytes_remainder(out))?;
+    text(rt, b" ")?;
+    decimal(rt, numbers_remainder(answers))?;
+    text(rt, b"\n")
 }

@@ -1,9 +1,12 @@
 // Replays a list of answers, made by running the Rust, against the proved address store, and counts the cases that differ.
+#![tactic(auto)]
+
 mod blocks;
 mod cases;
 mod hash;
 mod structs;
 
+use std::io;
 use vectors::driver;
 use vectors::driver::{Case, Run};
 
@@ -30,19 +33,20 @@ fn same(case: Case) -> bool {
     )
 }
 
-fn replay(text: &[u8]) {
+fn replay(rt: &impl Print, text: &[u8]) -> io::Result<()> {
     let mut run = Run::start();
     while run.at < text.len() {
         let case = driver::case_at(text, run.at, b"s01 h10 i21 u31 o41");
         run = run.counted(case, same(case));
     }
-    run.print(b"stores,large stores,ids,unknown ids,ordinals");
+    run.print(rt, b"stores,large stores,ids,unknown ids,ordinals")
 }
 
-fn main() {
+fn main(rt: HostRuntime) -> io::Result<()> {
     let mut text = [0u8; driver::TEXT_LEN];
-    let n = driver::read(&mut text);
+    let n = driver::read(&rt, &mut text)?;
     if n < driver::TEXT_LEN {
-        replay(driver::front(&text, n));
+        replay(&rt, driver::front(&text, n))?;
     }
+    Ok(())
 }

@@ -1,9 +1,12 @@
 // What the programs that replay a list share: its text, a case from each line, and the count of the cases that differ.
-ghost use Rattle.std.specs.Prelude.{◌≡◌, ◌<◌, length};
+ghost use Rattle.std.specs.Prelude.{◌≡◌, ◌<◌, IfOk, length, take};
+ghost use Rattle.std.specs.Io.{ReadsAtMost};
+ghost use Rattle.std.specs.Io.KnownBytes.{Consumes, IsAtEnd};
 
 use crate::tally::{ROWS, Tally};
 use crate::{Line, tally};
-use libc::{STDIN_FILENO, STDOUT_FILENO};
+use std::io;
+use std::io::Read;
 
 // One byte more than the longest text.
 pub const TEXT_LEN: usize = 327680;
@@ -12,7 +15,7 @@ pub const TEXT_LEN: usize = 327680;
 const QUIET: u8 = 16;
 
 // A kind's row among the tallies, and how many byte strings its lines have.
-#[derive(Drop)]
+#[derive(Clone, Copy)]
 struct Kind {
     row: u8,
     strings: u8,
@@ -20,7 +23,7 @@ struct Kind {
 
 // A line's parts: so many numbers, and byte strings one behind the other, which end at `first`, `second` and `third`.
 // The kind is 0 where the line is bad.
-#[derive(Drop)]
+#[derive(Clone, Copy)]
 pub struct Case {
     pub kind: u8,
     pub row: u8,
@@ -34,19 +37,38 @@ pub struct Case {
 }
 
 // Where the next line begins, and the tallies of those before it.
-#[derive(Drop)]
+#[derive(Clone, Copy)]
 pub struct Run {
     pub at: usize,
     pub tallies: [Tally; ROWS],
 }
 
-// Reads the text. One that fills the area is too long, and said to be.
-pub fn read(text: &mut [u8; TEXT_LEN]) -> usize {
-    let n = io::read_full(STDIN_FILENO, text);
-    if n == TEXT_LEN {
-        io::write_all(STDOUT_FILENO, b"too long\n");
+// Reads until the area is full or the input ends, and returns how many bytes were read to the front of the area.
+pub fn fill<R: Read>(reader: &mut R, area: &mut [u8]) -> io::Result<usize>
+    ensures bound { ReadsAtMost result area.new }
+    ensures bytes { IfOk result (λ n. Consumes (R.remaining reader.old) (R.remaining reader.new) (take n area.new)) }
+    ensures end { IfOk result (λ n. n < length area.new → IsAtEnd (R.remaining reader.new)) }
+{
+    let mut done = 0;
+    while done < area.len() {
+        let n = reader.read(&mut area[done..])?;
+        if n == 0 {
+            break;
+        }
+        done += n;
     }
-    n
+    Ok(done)
+}
+
+// Reads the text. One that fills the area is too long, and said to be.
+pub fn read(rt: &(impl Input + Print), text: &mut [u8; TEXT_LEN]) -> io::Result<usize>
+    ensures { ReadsAtMost result text.new }
+{
+    let n = fill(&mut rt.reader(), text)?;
+    if n == TEXT_LEN {
+        println!(rt; "too long")?;
+    }
+    Ok(n)
 }
 
 // What was read.
@@ -153,16 +175,16 @@ impl Run {
     }
 
     // Prints a line for each row, the names separated by commas, and the line of all cases.
-    pub fn print(self, names: &[u8]) {
+    pub fn print(self, rt: &impl Print, names: &[u8]) -> io::Result<()> {
         let tallies = self.tallies;
         let mut row: usize = 0;
         let mut at: usize = 0;
         while at < names.len() {
             let end = crate::place_of(names, at, names.len(), b',');
-            tally::print_row(&names[at..end], tallies, row);
+            tally::print_row(rt, &names[at..end], tallies, row)?;
             at = end + 1;
             row += 1;
         }
-        tally::print_all(tallies);
+        tally::print_all(rt, tallies)
     }
 }

@@ -1,5 +1,7 @@
 // Lists of cases as text. One case a line: a kind letter, then tokens, each behind one space. A token that begins with `x` is a
 // byte string in lower-case hex, any other a decimal number. A line that begins with `#` is a comment.
+#![tactic(auto)]
+
 pub mod driver;
 pub mod tally;
 
@@ -7,7 +9,7 @@ ghost use Rattle.std.specs.Prelude.{◌≡◌, ◌+◌, ◌*◌, ◌≤◌, ◌<
 
 // What a line holds: so many numbers and byte strings. `next` is the place behind its end.
 // A comment has kind `#` and holds nothing. `good` is false where the line isn't of the form above or an area is too small.
-#[derive(Drop)]
+#[derive(Clone, Copy)]
 pub struct Line {
     pub kind: u8,
     pub numbers: usize,
@@ -31,7 +33,7 @@ impl Line {
 }
 
 // What the tokens so far filled: cells of the numbers, byte strings, and bytes of these.
-#[derive(Drop)]
+#[derive(Clone, Copy)]
 struct Taken {
     numbers: usize,
     strings: usize,
@@ -48,7 +50,7 @@ impl Taken {
     }
 }
 
-#[derive(Drop)]
+#[derive(Clone, Copy)]
 struct Decimal {
     value: u64,
     good: bool,
@@ -254,7 +256,7 @@ fn behind(place: usize, end: usize) -> usize
 }
 
 // A line's kind, the places of its tokens, if it may have any, and the place behind its end.
-#[derive(Drop)]
+#[derive(Clone, Copy)]
 struct Bounds {
     kind: u8,
     from: usize,

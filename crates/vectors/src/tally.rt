@@ -1,7 +1,7 @@
 // How many cases of each kind were compared, and how many of them differ.
-use libc::STDOUT_FILENO;
+use std::io;
 
-#[derive(Drop)]
+#[derive(Clone, Copy)]
 pub struct Tally {
     pub compared: u64,
     pub differ: u64,
@@ -52,23 +52,28 @@ pub fn counted(tallies: [Tally; ROWS], row: usize, is_same: bool) -> [Tally; ROW
     rows
 }
 
-fn print_tally(tally: Tally) {
-    io::print_decimal(STDOUT_FILENO, tally.compared);
-    io::write_all(STDOUT_FILENO, b" compared, ");
-    io::print_decimal(STDOUT_FILENO, tally.differ);
-    io::write_all(STDOUT_FILENO, b" differ\n");
+fn print_tally(rt: &impl Print, tally: Tally) -> io::Result<()> {
+    let compared = tally.compared;
+    let differ = tally.differ;
+    println!(rt; "{compared} compared, {differ} differ")
 }
 
 // The line of one kind.
-pub fn print_row(name: &[u8], tallies: [Tally; ROWS], row: usize) {
+pub fn print_row(
+    rt: &impl Print,
+    name: &[u8],
+    tallies: [Tally; ROWS],
+    row: usize,
+) -> io::Result<()> {
     if row < ROWS {
-        io::write_all(STDOUT_FILENO, name);
-        io::write_all(STDOUT_FILENO, b": ");
-        print_tally(tallies[row]);
+        rt.write_all(name)?;
+        rt.print(": ")?;
+        print_tally(rt, tallies[row])?;
     }
+    Ok(())
 }
 
 // The line of all cases.
-pub fn print_all(tallies: [Tally; ROWS]) {
-    print_tally(tallies[ROWS - 1]);
+pub fn print_all(rt: &impl Print, tallies: [Tally; ROWS]) -> io::Result<()> {
+    print_tally(rt, tallies[ROWS - 1])
 }

@@ -10,87 +10,87 @@ use Rattle.leaf_vectors.proofs.Groups.{Pairs, Small, pairs-none, range-room, ran
 use Rattle.leaf_vectors.proofs.pack.pack_group.Statement.{statement}
 use Rattle.leaf_vectors.proofs.pack.pack_group.Tie as tie
 
-abbrev invariant-loop : tie.invariant-loop
+abbrev invariant-loop : tie.invariant-loop-i
 invariant-loop out₀ fields r o count packer₀ i₀ out packer i = (i ≤ count) × Pairs r o fields out₀ out packer i
 
-abbrev decreases-loop : tie.decreases-loop
+abbrev decreases-loop : tie.decreases-loop-i
 decreases-loop out₀ fields r o count packer₀ i₀ out packer i = count - i
 
 small : (s : tie.Start invariant-loop decreases-loop) → Small s.args.r s.args.o s.args.fields.now
 small s = record { range = s.requires.1.0.0; ordinal = s.requires.1.0.1 }
 
-new-requires : tie.Need-new-requires invariant-loop decreases-loop
+new-requires : tie.Need-new-packer-requires invariant-loop decreases-loop
 new-requires c κs = search rules
 
-loop-holds : tie.Need-loop-init invariant-loop decreases-loop
+loop-holds : tie.Need-loop-i-init invariant-loop decreases-loop
 loop-holds c =
     let s = c.before.before.before in
-    (omega arith, pairs-none (small s) s.args.out.now c.new.ensures)
+    (omega arith, pairs-none (small s) s.args.out.now c.new-packer.ensures)
 
-mul-range : tie.Need-overflow-mul-range invariant-loop decreases-loop
+mul-range : tie.Need-overflow_mul-range invariant-loop decreases-loop
 mul-range c = search rules
 
-mul-range-2 : tie.Need-overflow-mul-range-2 invariant-loop decreases-loop
+mul-range-2 : tie.Need-offset_bounds-fields-i invariant-loop decreases-loop
 mul-range-2 c = search rules
 
-shared-slice-read-range : tie.Need-shared-slice-read-range invariant-loop decreases-loop
+shared-slice-read-range : tie.Need-bounds-fields-i invariant-loop decreases-loop
 shared-slice-read-range c = search rules
 
-mul-ordinal : tie.Need-overflow-mul-ordinal invariant-loop decreases-loop
+mul-ordinal : tie.Need-overflow_mul-ordinal invariant-loop decreases-loop
 mul-ordinal c = search rules
 
-add-ordinal : tie.Need-overflow-add-ordinal invariant-loop decreases-loop
+add-ordinal : tie.Need-overflow_add-ordinal invariant-loop decreases-loop
 add-ordinal c = search rules
 
-mul-ordinal-2 : tie.Need-overflow-mul-ordinal-2 invariant-loop decreases-loop
+mul-ordinal-2 : tie.Need-offset_bounds-fields-i-in-loop-i invariant-loop decreases-loop
 mul-ordinal-2 c = search rules
 
-shared-slice-read-ordinal : tie.Need-shared-slice-read-ordinal invariant-loop decreases-loop
+shared-slice-read-ordinal : tie.Need-bounds-fields-i-in-loop-i invariant-loop decreases-loop
 shared-slice-read-ordinal c = search rules
 
 write-requires : tie.Need-write-requires invariant-loop decreases-loop
 write-requires c κs =
     let s = c.before.before.before.before.before.before.before.before in
-    let here = c.before.before.before.before.loop in
+    let here = c.loop-i in
     range-room (small s) here.i here.invariant.1 s.args.count here.invariant.0 s.requires.0.0 s.requires.1.1
 
-write-requires-2 : tie.Need-write-requires-2 invariant-loop decreases-loop
+write-requires-2 : tie.Need-write-packer-requires invariant-loop decreases-loop
 write-requires-2 c κs =
     let s = c.before.before.before.before.before.before.before.before.before.before.before.before in
-    let here = c.before.before.before.before.before.before.before.before.loop in
-    let half = range-wrote (small s) here.i here.invariant.1 c.before.before.before.write.ensures in
-    ordinal-room (small s) here.i half s.args.count c.before.before.before.before.before.before.before.loop-test.true s.requires.0.1 s.requires.1.1
+    let here = c.loop-i in
+    let half = range-wrote (small s) here.i here.invariant.1 c.write.ensures in
+    ordinal-room (small s) here.i half s.args.count c.loop-i-test.true s.requires.0.1 s.requires.1.1
 
-add-i : tie.Need-overflow-add-i invariant-loop decreases-loop
+add-i : tie.Need-overflow_add-i invariant-loop decreases-loop
 add-i c = search rules
 
-loop-less : tie.Need-loop-smaller invariant-loop decreases-loop
+loop-less : tie.Need-loop-i-smaller invariant-loop decreases-loop
 loop-less c = search rules
 
-loop-again : tie.Need-loop-preserved invariant-loop decreases-loop
+loop-again : tie.Need-loop-i-preserved invariant-loop decreases-loop
 loop-again c =
     let s = c.before.before.before.before.before.before.before.before.before.before.before.before.before.before.before in
-    let here = c.before.before.before.before.before.before.before.before.before.before.before.loop in
-    let half = range-wrote (small s) here.i here.invariant.1 c.before.before.before.before.before.before.write.ensures in
-    (omega arith, ordinal-wrote (small s) here.i half c.before.before.write2.ensures)
+    let here = c.loop-i in
+    let half = range-wrote (small s) here.i here.invariant.1 c.write.ensures in
+    (omega arith, ordinal-wrote (small s) here.i half c.write-packer.ensures)
 
-mul-write : tie.Need-overflow-mul-write invariant-loop decreases-loop
+mul-write : tie.Need-overflow_mul-count invariant-loop decreases-loop
 mul-write c = search rules
 
-mul-write-2 : tie.Need-overflow-mul-write-2 invariant-loop decreases-loop
+mul-write-2 : tie.Need-offset_bounds-fields-count invariant-loop decreases-loop
 mul-write-2 c = search rules
 
-shared-slice-read-write : tie.Need-shared-slice-read-write invariant-loop decreases-loop
+shared-slice-read-write : tie.Need-bounds-fields-count invariant-loop decreases-loop
 shared-slice-read-write c = search rules
 
 -- all pairs
-pairs : (c : tie.After-loop invariant-loop decreases-loop)
-    → Pairs c.before.before.before.before.before.args.r c.before.before.before.before.before.args.o c.before.before.before.before.before.args.fields.now c.before.before.before.before.before.args.out.now c.before.loop.out c.before.loop.packer c.before.before.before.before.before.args.count
+pairs : (c : tie.After-loop-i invariant-loop decreases-loop)
+    → Pairs c.args.r c.args.o c.args.fields.now c.args.out.now c.loop-i.out c.loop-i.packer c.args.count
 pairs c =
-    let e : c.before.loop.i ≡ c.before.before.before.before.before.args.count = omega arith in
-    rw e at c.before.loop.invariant.1
+    let e : c.loop-i.i ≡ c.args.count = omega arith in
+    rw e at c.loop-i.invariant.1
 
-write-requires-3 : tie.Need-write-requires-3 invariant-loop decreases-loop
+write-requires-3 : tie.Need-write-requires-2 invariant-loop decreases-loop
 write-requires-3 c κs =
     let s = c.before.before.before.before.before.before.before in
     range-room (small s) s.args.count (pairs c.before.before) s.args.count (omega arith) s.requires.0.0 s.requires.1.1
@@ -98,18 +98,18 @@ write-requires-3 c κs =
 flush-requires : tie.Need-flush-requires invariant-loop decreases-loop
 flush-requires c κs =
     let s = c.before.before.before.before.before.before.before.before.before.before.before in
-    packed-room-flush (range-wrote (small s) s.args.count (pairs c.before.before.before.before.before.before) c.before.before.before.write3.ensures) s.requires.1.1
+    packed-room-flush (range-wrote (small s) s.args.count (pairs c.before.before.before.before.before.before) c.write-2.ensures) s.requires.1.1
 
 returns : tie.Need-returns invariant-loop decreases-loop
 returns c =
     let s = c.before.before.before.before.before.before.before.before.before.before.before.before.before.before in
-    group-flushed (small s) s.args.count (range-wrote (small s) s.args.count (pairs c.before.before.before.before.before.before.before.before.before) c.before.before.before.before.before.before.write3.ensures) s.requires.0.2 c.before.before.flush.ensures
+    group-flushed (small s) s.args.count (range-wrote (small s) s.args.count (pairs c.before.before.before.before.before.before.before.before.before) c.write-2.ensures) s.requires.0.2 c.flush.ensures
 
-same_length : tie.Need-same-length invariant-loop decreases-loop
+same_length : tie.Need-shape_of-out invariant-loop decreases-loop
 same_length c = ap length (returns c).1 ∙ simp length-sets
 
-pub pack-group-spec : {M : Type 1} → statement M
-pack-group-spec =
+pub pack_group_spec : {M : Type 1} → statement M
+pack_group_spec =
     tie.close
     (tie.spec
     invariant-loop

@@ -3,11 +3,11 @@ use borrow.Author.Tests.{eq-eqb, ne_eqb}
 use Rattle.leaf_vectors.proofs.pack.width_at.Statement.{statement}
 use Rattle.leaf_vectors.proofs.pack.width_at.Tie as tie
 
-returns : tie.Need-returns
-returns c = simp (eq-eqb _ _ c.if1.true)
+returns : tie.Need-returns-then-i-eq0
+returns c = simp (eq-eqb _ _ c.if-i-eq0.true)
 
-returns-2 : tie.Need-returns-2
-returns-2 c = simp (ne_eqb _ _ c.if1.false)
+returns-2 : tie.Need-returns-else-i-eq0
+returns-2 c = simp (ne_eqb _ _ c.if-i-eq0.false)
 
-pub width-at-spec : {M : Type 1} → statement M
-width-at-spec = tie.close (tie.spec returns returns-2)
+pub width_at_spec : {M : Type 1} → statement M
+width_at_spec = tie.close (tie.spec returns returns-2)

@@ -1,5 +1,5 @@
 -- `store_vectors::blocks::generate` is safe and ends: the area keeps its length, and both shifts are below 23.
-use Prim.Native.Nat.{◌≤◌, ◌<◌, ◌*◌, ◌-◌}
+use Prim.Native.Nat.{◌≤◌, ◌-◌}
 use mathlib.Core.Path.{◌≡◌}
 use native.Mathlib.Omega.{arith}
 use lib.ListN.{length, length-set}
@@ -7,107 +7,107 @@ use borrow.Author.Rules.{rules}
 use Rattle.store_vectors.proofs.blocks.generate.Statement.{statement}
 use Rattle.store_vectors.proofs.blocks.generate.Tie as tie
 
-abbrev invariant-loop : tie.invariant-loop
+abbrev invariant-loop : tie.invariant-loop-i
 invariant-loop area₀ seed count k j first x₀ start₀ ordinal₀ i₀ area x start ordinal i = (i ≤ count) × (length area ≡ length area₀)
 
-abbrev decreases-loop : tie.decreases-loop
+abbrev decreases-loop : tie.decreases-loop-i
 decreases-loop area₀ seed count k j first x₀ start₀ ordinal₀ i₀ area x start ordinal i = count - i
 
-next-requires : tie.Need-next-requires invariant-loop decreases-loop
+next-requires : tie.Need-next-first-requires invariant-loop decreases-loop
 next-requires c κs = search rules
 
-next-requires-2 : tie.Need-next-requires-2 invariant-loop decreases-loop
+next-requires-2 : tie.Need-next-x-requires invariant-loop decreases-loop
 next-requires-2 c κs = search rules
 
 drawn-requires : tie.Need-drawn-requires invariant-loop decreases-loop
 drawn-requires c κs = search rules
 
-shl-start : tie.Need-overflow-shl-start invariant-loop decreases-loop
+shl-start : tie.Need-overflow_shl-start invariant-loop decreases-loop
 shl-start c = search rules
 
-drawn-requires-2 : tie.Need-drawn-requires-2 invariant-loop decreases-loop
+drawn-requires-2 : tie.Need-drawn-ordinal-requires invariant-loop decreases-loop
 drawn-requires-2 c κs = search rules
 
-loop-holds : tie.Need-loop-init invariant-loop decreases-loop
+loop-holds : tie.Need-loop-i-init invariant-loop decreases-loop
 loop-holds c = search rules
 
-next-requires-3 : tie.Need-next-requires-3 invariant-loop decreases-loop
+next-requires-3 : tie.Need-next-y-requires invariant-loop decreases-loop
 next-requires-3 c κs = search rules
 
-drawn-requires-3 : tie.Need-drawn-requires-3 invariant-loop decreases-loop
+drawn-requires-3 : tie.Need-drawn-requires-in-loop-i invariant-loop decreases-loop
 drawn-requires-3 c κs = search rules
 
 size-requires : tie.Need-size-requires invariant-loop decreases-loop
 size-requires c κs = search rules
 
-sum-requires : tie.Need-sum-requires invariant-loop decreases-loop
+sum-requires : tie.Need-sum-end-requires invariant-loop decreases-loop
 sum-requires c κs = search rules
 
-mul-area : tie.Need-overflow-mul-area invariant-loop decreases-loop
+mul-area : tie.Need-overflow_mul-area invariant-loop decreases-loop
 mul-area c = search rules
 
-mul-area-2 : tie.Need-overflow-mul-area-2 invariant-loop decreases-loop
+mul-area-2 : tie.Need-offset_bounds-area-i invariant-loop decreases-loop
 mul-area-2 c = search rules
 
-slice-write-area : tie.Need-slice-write-area invariant-loop decreases-loop
+slice-write-area : tie.Need-bounds-area-i invariant-loop decreases-loop
 slice-write-area c = search rules
 
-mul-area-3 : tie.Need-overflow-mul-area-3 invariant-loop decreases-loop
+mul-area-3 : tie.Need-overflow_mul-area-in-loop-i invariant-loop decreases-loop
 mul-area-3 c = search rules
 
-add-area : tie.Need-overflow-add-area invariant-loop decreases-loop
+add-area : tie.Need-overflow_add-area invariant-loop decreases-loop
 add-area c = search rules
 
-mul-area-4 : tie.Need-overflow-mul-area-4 invariant-loop decreases-loop
+mul-area-4 : tie.Need-offset_bounds-area-i-in-loop-i invariant-loop decreases-loop
 mul-area-4 c = search rules
 
-slice-write-area-2 : tie.Need-slice-write-area-2 invariant-loop decreases-loop
+slice-write-area-2 : tie.Need-bounds-area-i-in-loop-i invariant-loop decreases-loop
 slice-write-area-2 c = simp length-set (omega arith)
 
-mul-area-5 : tie.Need-overflow-mul-area-5 invariant-loop decreases-loop
+mul-area-5 : tie.Need-overflow_mul-area-in-loop-i-2 invariant-loop decreases-loop
 mul-area-5 c = search rules
 
-add-area-2 : tie.Need-overflow-add-area-2 invariant-loop decreases-loop
+add-area-2 : tie.Need-overflow_add-area-in-loop-i invariant-loop decreases-loop
 add-area-2 c = search rules
 
-mul-area-6 : tie.Need-overflow-mul-area-6 invariant-loop decreases-loop
+mul-area-6 : tie.Need-offset_bounds-area-i-in-loop-i-2 invariant-loop decreases-loop
 mul-area-6 c = search rules
 
-slice-write-area-3 : tie.Need-slice-write-area-3 invariant-loop decreases-loop
+slice-write-area-3 : tie.Need-bounds-area-i-in-loop-i-2 invariant-loop decreases-loop
 slice-write-area-3 c = simp length-set (omega arith)
 
-next-requires-4 : tie.Need-next-requires-4 invariant-loop decreases-loop
+next-requires-4 : tie.Need-next-x-requires-in-loop-i invariant-loop decreases-loop
 next-requires-4 c κs = search rules
 
-sum-requires-2 : tie.Need-sum-requires-2 invariant-loop decreases-loop
+sum-requires-2 : tie.Need-sum-requires invariant-loop decreases-loop
 sum-requires-2 c κs = search rules
 
-drawn-requires-4 : tie.Need-drawn-requires-4 invariant-loop decreases-loop
+drawn-requires-4 : tie.Need-drawn-requires-in-loop-i-2 invariant-loop decreases-loop
 drawn-requires-4 c κs = search rules
 
-shl-sum : tie.Need-overflow-shl-sum invariant-loop decreases-loop
+shl-sum : tie.Need-overflow_shl-drawn invariant-loop decreases-loop
 shl-sum c = search rules
 
-sum-requires-3 : tie.Need-sum-requires-3 invariant-loop decreases-loop
+sum-requires-3 : tie.Need-sum-ordinal-requires invariant-loop decreases-loop
 sum-requires-3 c κs = search rules
 
-add-i : tie.Need-overflow-add-i invariant-loop decreases-loop
+add-i : tie.Need-overflow_add-i invariant-loop decreases-loop
 add-i c = search rules
 
-loop-less : tie.Need-loop-smaller invariant-loop decreases-loop
+loop-less : tie.Need-loop-i-smaller invariant-loop decreases-loop
 loop-less c = search rules
 
-loop-again : tie.Need-loop-preserved invariant-loop decreases-loop
+loop-again : tie.Need-loop-i-preserved invariant-loop decreases-loop
 loop-again c = search rules
 
-same_length : tie.Need-same-length invariant-loop decreases-loop
+same_length : tie.Need-shape_of-area invariant-loop decreases-loop
 same_length c = search rules
 
 returns : tie.Need-returns invariant-loop decreases-loop
 returns c = search rules
 
-pub generate-spec : {M : Type 1} → statement M
-generate-spec =
+pub generate_spec : {M : Type 1} → statement M
+generate_spec =
     tie.close
     (tie.spec
     invariant-loop

@@ -1,49 +1,48 @@
 -- `store_vectors::blocks::legal` meets its contract: its tests are what `StoreArea` asks.
 use native.Mathlib.Omega.{arith}
-use borrow.Author.Tests.{not-false}
 use Rattle.store_vectors.proofs.Tests.{never}
 use borrow.Author.Rules.{rules}
 use Rattle.store_vectors.proofs.blocks.legal.Statement.{statement}
 use Rattle.store_vectors.proofs.blocks.legal.Tie as tie
 
-returns : tie.Need-returns
+returns : tie.Need-returns-then-n-gt65536
 returns c = never
 
-mul-if2 : tie.Need-overflow-mul-if2
+mul-if2 : tie.Need-overflow_mul-n
 mul-if2 c = search rules
 
-returns-2 : tie.Need-returns-2
+returns-2 : tie.Need-returns-then-n-area
 returns-2 c = never
 
-numbers-legal-requires : tie.Need-numbers-legal-requires
+numbers-legal-requires : tie.Need-numbers_legal-requires
 numbers-legal-requires c κs = search rules
 
-returns-3 : tie.Need-returns-3
+returns-3 : tie.Need-returns-then-not-numbers_legal
 returns-3 c = never
 
-returns-4 : tie.Need-returns-4
+returns-4 : tie.Need-returns-then-n-eq0
 returns-4 c e =
     record {
       few = omega arith;
       wide = omega arith;
       inside = omega arith;
-      legal = record { numbers = c.before.before.numbers-legal.ensures (not-false _ c.before.if3.false); follows = λ i h. absurd (omega arith) };
+      legal = record { numbers = c.numbers_legal.ensures c.if-not-numbers_legal.false; follows = λ i h. absurd (omega arith) };
     }
 
-all-follow-requires : tie.Need-all-follow-requires
+all-follow-requires : tie.Need-all_follow-requires
 all-follow-requires c κs = search rules
 
-returns-5 : tie.Need-returns-5
+returns-5 : tie.Need-returns
 returns-5 c e =
     record {
       few = omega arith;
       wide = omega arith;
       inside = omega arith;
-      legal = record { numbers = c.before.before.before.numbers-legal.ensures (not-false _ c.before.before.if3.false); follows = c.all-follow.ensures e };
+      legal = record { numbers = c.numbers_legal.ensures c.if-not-numbers_legal.false; follows = c.all_follow.ensures e };
     }
 
-pub legal-spec : {M : Type 1} → statement M
-legal-spec =
+pub legal_spec : {M : Type 1} → statement M
+legal_spec =
     tie.close
     (tie.spec
     returns

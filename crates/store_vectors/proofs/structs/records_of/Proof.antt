@@ -4,38 +4,38 @@ use Prim.Native.Nat.{◌-◌}
 use Rattle.store_vectors.proofs.structs.records_of.Statement.{statement}
 use Rattle.store_vectors.proofs.structs.records_of.Tie as tie
 
-abbrev invariant-loop : tie.invariant-loop
+abbrev invariant-loop : tie.invariant-loop-i
 invariant-loop area n records₀ i₀ records i = Unit {0}
 
-abbrev decreases-loop : tie.decreases-loop
+abbrev decreases-loop : tie.decreases-loop-i
 decreases-loop area n records₀ i₀ records i = n - i
 
-loop-holds : tie.Need-loop-init invariant-loop decreases-loop
+loop-holds : tie.Need-loop-i-init invariant-loop decreases-loop
 loop-holds c = search rules
 
-block-at-requires : tie.Need-block-at-requires invariant-loop decreases-loop
+block-at-requires : tie.Need-block_at-requires invariant-loop decreases-loop
 block-at-requires c κs = search rules
 
-mul-records : tie.Need-overflow-mul-records invariant-loop decreases-loop
+mul-records : tie.Need-offset_bounds-records-i invariant-loop decreases-loop
 mul-records c = search rules
 
-array-set-from-records : tie.Need-array-set-from-records invariant-loop decreases-loop
+array-set-from-records : tie.Need-bounds-records-i invariant-loop decreases-loop
 array-set-from-records c = search rules
 
-add-i : tie.Need-overflow-add-i invariant-loop decreases-loop
+add-i : tie.Need-overflow_add-i invariant-loop decreases-loop
 add-i c = search rules
 
-loop-less : tie.Need-loop-smaller invariant-loop decreases-loop
+loop-less : tie.Need-loop-i-smaller invariant-loop decreases-loop
 loop-less c = search rules
 
-loop-again : tie.Need-loop-preserved invariant-loop decreases-loop
+loop-again : tie.Need-loop-i-preserved invariant-loop decreases-loop
 loop-again c = search rules
 
 returns : tie.Need-returns invariant-loop decreases-loop
 returns c = search rules
 
-pub records-of-spec : {M : Type 1} → statement M
-records-of-spec =
+pub records_of_spec : {M : Type 1} → statement M
+records_of_spec =
     tie.close
     (tie.spec
     invariant-loop
