@@ -33,8 +33,8 @@ pub const METHOD: &str = "\
 ## How it was measured
 
 - Both sides stand in one program and get the same inputs. Before a row is timed, their answers are compared.
-- The archive is what `rt staticlib rosmarel` writes: for x86-64 without extensions. The Rust is built for the same, with
-  `opt-level = 3`, `codegen-units = 1` and `lto = \"fat\"`: its calls may be inlined into the driver, those of the archive can't. Its
+- The archive is what `rt lib --cpu x86-64` in crates/rosmarel writes: for x86-64 without extensions. The Rust is built for the same,
+  with `opt-level = 3`, `codegen-units = 1` and `lto = \"fat\"`: its calls may be inlined into the driver, those of the archive can't. Its
   comparisons of keys are calls of the C library's `memcmp`, which at run time takes the widest vectors that the processor has.
 - Buffers that are lent aren't cleared: they are used again and again, and warm. `Builder::add_block`, `Builder::finish` and a
   listing with addresses allocate what they need, as their users see it.

@@ -13,6 +13,12 @@ use interface::INTERFACE;
 
 const ARCHIVE: &str = "librosmarel.a";
 
+/// The folder, seen from the repository, in which `rt` proves and builds the archive; it stands in `out` there.
+const FOLDER: &str = "crates/rosmarel";
+
+/// The archive is for every x86-64; where no processor is named, `rt` makes code for newer ones alone.
+const WORDS: [&str; 3] = ["lib", "--cpu", "x86-64"];
+
 /// What the archive's number is asked with.
 const PROBE: &str = "
 unsafe extern \"C\" {
@@ -95,7 +101,7 @@ fn built() -> Result<PathBuf, String> {
                 package.display()
             )
         })?;
-    let dir = root.join("target/staticlib");
+    let dir = root.join(FOLDER).join("out");
     let archive = dir.join(ARCHIVE);
     let sources = sources(root);
     for path in sources.iter().chain([&archive]) {
@@ -132,11 +138,12 @@ fn newest(path: &Path) -> Option<SystemTime> {
         .max()
 }
 
-/// Runs `rt staticlib rosmarel` at the repository's root.
+/// Has `rt` prove and build the archive.
 fn prove(root: &Path) -> Result<(), String> {
+    let folder = root.join(FOLDER);
     let ran = Command::new("rt")
-        .args(["staticlib", "rosmarel"])
-        .current_dir(root)
+        .args(WORDS)
+        .current_dir(&folder)
         .output()
         .map_err(|why| {
             format!(
@@ -148,8 +155,9 @@ fn prove(root: &Path) -> Result<(), String> {
         return Ok(());
     }
     let mut why = format!(
-        "`rt staticlib rosmarel` in {} failed ({})",
-        root.display(),
+        "`rt {}` in {} failed ({})",
+        WORDS.join(" "),
+        folder.display(),
         ran.status
     );
     for text in [&ran.stdout, &ran.stderr] {
@@ -169,8 +177,11 @@ fn last_lines(text: &[u8]) -> String {
 /// Asks the archive for the number of its interface, which has to be this crate's.
 fn same_interface(dir: &Path) -> Result<(), String> {
     let archive = dir.join(ARCHIVE);
-    let mend = "take crate and archive from one revision of Rosmarel: `rt staticlib rosmarel` at its root \
-                makes the archive, and ROSMAREL_LIB_DIR may name the folder of one that is made";
+    let mend = format!(
+        "take crate and archive from one revision of Rosmarel: `rt {}` in its {FOLDER} \
+         makes the archive, and ROSMAREL_LIB_DIR may name the folder of one that is made",
+        WORDS.join(" ")
+    );
     let probe = linked_probe(dir)?.map_err(|said| {
         format!(
             "{} doesn't say its interface, and this crate is written for interface {INTERFACE}: {mend}{said}",

@@ -53,6 +53,7 @@ impl Repository {
         let _ = fs::remove_dir_all(&root);
         let this = Repository { root };
         write(&this.path("crates.txt"), "one:\n");
+        write(&this.path("crates/rosmarel/src/lib.rt"), "");
         for part in [
             "src/lib.rt",
             "src/more.rt",
@@ -65,8 +66,8 @@ impl Repository {
         archive(&this.path("ready"), &answers(number));
         write(
             &this.path("bin/rt"),
-            "#!/bin/sh\n[ \"$*\" = 'staticlib rosmarel' ] || exit 2\necho ran >>ran\n\
-             mkdir -p target/staticlib && cat ready/librosmarel.a >target/staticlib/librosmarel.a\n",
+            "#!/bin/sh\n[ \"$*\" = 'lib --cpu x86-64' ] || exit 2\ncd ../.. && echo ran >>ran\n\
+             mkdir -p crates/rosmarel/out && cat ready/librosmarel.a >crates/rosmarel/out/librosmarel.a\n",
         );
         run(Command::new("chmod").arg("+x").arg(this.path("bin/rt")));
         fs::create_dir_all(this.path("bindings/rust")).unwrap();
@@ -140,10 +141,11 @@ fn rt_runs_only_where_something_is_newer_than_the_archive() {
 fn an_archive_that_is_gone_is_made_anew() {
     let repository = Repository::new("gone", rosmarel::INTERFACE);
     assert_eq!(repository.runs_of_rt(), 1);
+    let out = repository.path("crates/rosmarel/out");
     for _ in 0..2 {
-        fs::remove_dir_all(repository.path("target")).unwrap();
+        fs::remove_dir_all(&out).unwrap();
         assert_eq!(repository.runs_of_rt(), 1);
-        assert!(repository.path("target/staticlib/librosmarel.a").is_file());
+        assert!(out.join("librosmarel.a").is_file());
     }
 }
 
