@@ -11,7 +11,7 @@ ghost use Rattle.bitpacker.specs.Packer.{Waiting, leaving, packed_with};
 pub fn compute_num_bits(value: u64) -> u8
     ensures { result ≡ num_bits_of value }
 {
-    let amplitude = 64 - u64::leading_zeros(value);
+    let amplitude = 64 - value.leading_zeros();
     if amplitude <= 56 { amplitude as u8 } else { 64 }
 }
 
@@ -120,7 +120,7 @@ impl BitPacker {
             × (out.new ≡ sets out.old self.written (le_bytes (bytes_of self.filled) self.buffer)) }
     {
         let written = self.written;
-        let num_bytes = (self.filled + 7) / 8;
+        let num_bytes = self.filled.div_ceil(8);
         serialize::serialize_le(out, written, num_bytes, self.buffer);
         written + num_bytes
     }

@@ -1,12 +1,13 @@
 -- Laws of the shortened separator: it lies between left and right, and differs from left in at most one byte and the length.
 use Prim.Native.Nat.{ℕ, zero, suc, ◌+◌, ◌-◌, ◌^◌, ◌≤◌, ◌<◌}
-use mathlib.Core.Path.{◌≡◌, refl, ap, ◌∙◌}
+use mathlib.Core.Path.{◌≡◌, refl, sym, ap, ◌∙◌}
 use mathlib.Core.Logic.{◌⊎◌, inl, inr, ⊎_elim}
 use mathlib.Core.List.{List, [], ◌∷◌, ◌++◌, append_assoc}
+use native.Mathlib.Nat.{zero-add}
 use native.Mathlib.Omega.{arith}
 use lib.Dec.{eqb}
 use lib.ListN.{length, take, drop, get_or, set, length-append, length-take, length-drop, take-append-drop}
-use lib.Seq.{get_or-drop, take-add, set_split, sets, sets-eq}
+use lib.Seq.{take-length, get_or-drop, take-add, set_split, sets, sets-eq}
 use borrow.Author.Tests.{eq-eqb, ne_eqb, eqb-true, eqb-false, le-ltb}
 use Rattle.keys.specs.Order.{less, ◌≺◌, ◌≼◌, common_prefix_len}
 use Rattle.keys.specs.Shorten.{raise, shorten}
@@ -193,3 +194,20 @@ sets-part-one K at p v h =
     let w : at + length (take p (drop at K) ++ (v ∷ [])) ≡ suc (at + p) = simp (length-append, length-take, length-drop) (omega arith) in
     sets-eq (take p (drop at K) ++ (v ∷ [])) K at (omega arith)
     ∙ rw (w, set_split K (at + p) v h, take-add at p K) (simp append_assoc)
+
+-- a key K shortened in place: its new length n, and what stands there
+abbrev pub Shortened : List ℕ → List ℕ → ℕ → List ℕ → Type 0
+Shortened K right n E = (n ≡ length (shorten K right)) × (E ≡ sets K 0 (shorten K right))
+
+pub shortened-unchanged : (K right : List ℕ) → shorten K right ≡ K → Shortened K right (length K) K
+shortened-unchanged K right e =
+    let whole : sets K 0 K ≡ K = rw (take-length K) at (sets-part K 0 (length K) (omega arith)) in
+    rw e (refl, sym whole)
+
+pub shortened-raised : (K right : List ℕ) (p : ℕ) → common_prefix_len K right < p → p < length K
+    → ((i : ℕ) → common_prefix_len K right < i → i < p → get_or K i 0 ≡ 255) → (get_or K p 0 ≡ 255 → ⊥)
+    → Shortened K right (p + 1) (set K p (get_or K p 0 + 1))
+shortened-raised K right p m l h f =
+    let one : sets K 0 (take p K ++ ((get_or K p 0 + 1) ∷ [])) ≡ set K p (get_or K p 0 + 1) =
+    rw (zero-add p) at (sets-part-one K 0 p (get_or K p 0 + 1) (omega arith)) in
+    rw (shorten-at K right p m l h f) (simp (length-append, length-take) (omega arith), sym one)

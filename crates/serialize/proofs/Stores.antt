@@ -4,9 +4,10 @@ use mathlib.Core.List.{List, [], ◌∷◌, ◌++◌, append_assoc, append-nil}
 use Prim.Native.Nat.{ℕ, suc, ◌+◌, ◌-◌, ◌*◌, ◌^◌, ◌≤◌, ◌<◌}
 use native.Mathlib.Nat.{add-zero, zero-add, add-suc, suc-add}
 use native.Mathlib.Omega.{arith}
-use lib.ListN.{length, take, drop, set, length-drop, take-append-drop, drop_of_length-le}
+use lib.ListN.{length, take, drop, set, length-set, length-take, length-drop, take-append-drop, drop_of_length-le}
 use lib.Seq.{sets, sets-eq, take-length, take_at, drop_at, length-take-le, take_all, drop-set-add, take-set-le, drop-set-lt}
 use borrow.Rule.Slice.PartMut.{put_mid}
+use Rattle.std.proofs.lemmas.List.{set-append_left}
 use Rattle.serialize.specs.Digits.{le_val, le_bytes}
 use Rattle.serialize.proofs.Digits.{length-digits_of, of_digits-digits_of-lt}
 
@@ -43,6 +44,22 @@ pub sets-in-part : (d w : List ℕ) (a at : ℕ)
 sets-in-part d w a at =
     let all : length (drop a d) ≤ length d - a = omega (arith, length-drop a d) in
     rw (take_all (length d - a) (drop a d) all, drop_of_length-le (drop a d) all, append-nil (sets (drop a d) at w)) (sets_behind d w a at)
+
+-- stores into the first of two runs
+sets-first : (xs ys w : List ℕ) (i : ℕ) → i + length w ≤ length xs → sets (xs ++ ys) i w ≡ sets xs i w ++ ys
+sets-first xs ys [] i h = refl
+sets-first xs ys (x ∷ w) i h =
+    let within : i < length xs = omega arith in
+    let rest : suc i + length w ≤ length (set xs i x) = simp length-set (omega arith) in
+    rw set-append_left (sets-first (set xs i x) ys w (suc i) rest)
+
+-- a callee that was lent the k bytes `&mut out[a..a + k]` and stored at their front: the whole
+pub sets_within : (d w : List ℕ) (a k : ℕ) → a + k ≤ length d → length w ≤ k
+    → put_mid a k d (sets (take k (drop a d)) 0 w) ≡ sets d a w
+sets_within d w a k h l =
+    let room : 0 + length w ≤ length (take k (drop a d)) = simp (length-take, length-drop) (omega arith) in
+    rw (← (sets-first (take k (drop a d)) (drop k (drop a d)) w 0 room), take-append-drop k (drop a d))
+    (sets_behind d w a 0 ∙ rw (add-zero a) refl)
 
 -- what `copy` leaves is a run of stores at the front
 pub copied : (d w : List ℕ) → length w ≤ length d → take (length w) w ++ drop (length w) d ≡ sets d 0 w

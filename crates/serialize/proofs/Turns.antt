@@ -1,9 +1,9 @@
 -- One turn of the loops that read and write a number: one byte more.
 use mathlib.Core.Path.{◌≡◌, refl, ap, ◌∙◌}
 use mathlib.Core.List.{List}
-use Prim.Native.Nat.{zero, ℕ, suc, ◌+◌, ◌-◌, ◌*◌, ◌/◌, ◌%◌, ◌^◌, ◌<◌}
+use Prim.Native.Nat.{ℕ, suc, ◌+◌, ◌*◌, ◌/◌, ◌%◌, ◌^◌, ◌<◌}
 use native.Mathlib.Omega.{arith}
-use native.Mathlib.Numerals.{add-one, sub-one}
+use native.Mathlib.Numerals.{add-one}
 use lib.ListN.{take, drop, get_or, set}
 use lib.Seq.{get_or-drop, sets}
 use lib.Bits.{bit_or, or_shifted_r}
@@ -18,7 +18,7 @@ or-next-byte s at i r h l q =
     ∙ or_shifted_r (get_or s (at + i) 0) (8 * i) r (rw q (of_digits-take-lt 8 i (drop at s) (below-drop 8 at s h)))
     ∙ rw (add-one i, of_digits-suc, get_or-drop, q) refl
 
-pub store-next-byte : (out : List ℕ) (p left x : ℕ) → 0 < left → sets out p (le_bytes left x) ≡ sets (set out p (x % 256)) (p + 1) (le_bytes (left - 1) (x / 256))
+pub store-next-byte : (out : List ℕ) (p left rest x : ℕ) → left ≡ suc rest
+    → sets out p (le_bytes left x) ≡ sets (set out p (x % 256)) (p + 1) (le_bytes rest (x / 256))
 unfolding digits_of
-store-next-byte out p zero x h = elim h [ ]
-store-next-byte out p (suc k) x h = rw (add-one p, sub-one (suc k)) refl
+store-next-byte out p left rest x e = rw (e, add-one p) refl

@@ -12,10 +12,8 @@ pub fn deserialize_le(bytes: &[u8], at: usize, width: usize) -> u64
     ensures upper_bound { result < 2 ^ (8 * width) }
 {
     let mut value: u64 = 0;
-    let mut i: usize = 0;
-    while i < width {
-        value = value | ((bytes[at + i] as u64) << (8 * i));
-        i += 1;
+    for i in 0..width {
+        value |= (bytes[at + i] as u64) << (8 * i);
     }
     value
 }
@@ -26,16 +24,13 @@ pub fn serialize_le(out: &mut [u8], at: usize, width: usize, value: u64)
     ensures { out.new ≡ sets out.old at (le_bytes width value) }
 {
     let mut rest = value;
-    let mut p = at;
-    let mut left = width;
-    while 0 < left {
+    for p in at..at + width {
         out[p] = (rest & 255) as u8;
-        rest = rest >> 8;
-        p += 1;
-        left -= 1;
+        rest >>= 8;
     }
 }
 
+// Twins by a type, kept: each is one line, the type's name with its width, and a trait would repeat these lines in three impls.
 pub fn deserialize_u64(bytes: &[u8], at: usize) -> u64
     requires { at + 8 ≤ length bytes.now }
     ensures { result ≡ number_at bytes.now at 8 }
