@@ -5,5 +5,6 @@ pub mod Blocks
 pub mod Metadata
 pub mod Written
 pub mod Reading
+pub mod Records
 pub mod Places
 pub mod Back

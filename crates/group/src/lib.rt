@@ -3,12 +3,13 @@
 
 pub mod area;
 pub mod bits;
+pub mod line;
 pub mod meta;
 pub mod rows;
 
 // A block: where it starts and ends in the file, and its first term's ordinal.
 #[repr(C)]
-#[derive(Clone, Copy)]
+#[derive(Clone, Copy, Debug, PartialEq, Eq)]
 pub struct BlockAddr {
     pub start: u64,
     pub end: u64,
@@ -16,7 +17,7 @@ pub struct BlockAddr {
 }
 
 // A group's record: where its bits stand, its first block's start and ordinal, and the slopes and widths of its fields.
-#[derive(Clone, Copy)]
+#[derive(Clone, Copy, Debug, PartialEq, Eq)]
 pub struct BlockAddrBlockMetadata {
     pub offset: u64,
     pub range_start: u64,

@@ -7,29 +7,28 @@ use crate::BlockAddr;
 // Ends and ordinals are below it.
 pub const LIMIT: u64 = 0x1_0000_0000_0000;
 
-// Whether a block's own numbers break row 3.
-pub fn numbers_bad(block: BlockAddr) -> bool
-    ensures { result ≡ are_numbers_bad block }
-{
-    if block.end < block.start {
-        return true;
+impl BlockAddr {
+    // Whether its own numbers break row 3.
+    #[tactic(auto, unfolding(crate::specs::Rows::are_numbers_bad, crate::specs::Legal::limit))]
+    pub fn numbers_bad(self) -> bool
+        ensures { result ≡ are_numbers_bad self }
+    {
+        self.end < self.start || self.end >= LIMIT || self.first_ordinal >= LIMIT
     }
-    if block.end >= LIMIT {
-        return true;
+
+    // Whether it doesn't start where the block before it ends (row 4).
+    #[tactic(auto, unfolding(crate::specs::Rows::is_join_bad))]
+    pub fn join_bad(self, before: BlockAddr) -> bool
+        ensures { result ≡ is_join_bad before self }
+    {
+        self.start != before.end
     }
-    block.first_ordinal >= LIMIT
-}
 
-// Whether a block doesn't start where the one before it ends (row 4).
-pub fn join_bad(before: BlockAddr, block: BlockAddr) -> bool
-    ensures { result ≡ is_join_bad before block }
-{
-    block.start != before.end
-}
-
-// Whether a block's first ordinal isn't above the one before (row 5).
-pub fn ordinal_bad(before: BlockAddr, block: BlockAddr) -> bool
-    ensures { result ≡ is_ordinal_bad before block }
-{
-    block.first_ordinal <= before.first_ordinal
+    // Whether its first ordinal isn't above that of the block before it (row 5).
+    #[tactic(auto, unfolding(crate::specs::Rows::is_ordinal_bad))]
+    pub fn ordinal_bad(self, before: BlockAddr) -> bool
+        ensures { result ≡ is_ordinal_bad before self }
+    {
+        self.first_ordinal <= before.first_ordinal
+    }
 }

@@ -1,93 +1,70 @@
 // Reading a group: its rule, its numbers, the search by ordinal inside it.
 #![tactic(auto)]
 
-ghost use Rattle.std.specs.Prelude.{◌≡◌, ◌+◌, ◌-◌, ◌*◌, ◌/◌, ◌^◌, ◌≤◌, ◌<◌, length};
+ghost use Rattle.std.specs.Prelude.{◌≡◌, ℕ, true, false, ◌+◌, ◌-◌, ◌*◌, ◌/◌, ◌^◌, ◌≤◌, ◌<◌, length};
 ghost use Rattle.layout.specs.Layout.{max_blocks, max_group_len};
 ghost use Rattle.serialize.specs.Digits.{le_val};
-ghost use Rattle.group.specs.Legal.{limit};
 ghost use Rattle.group.specs.Read.{width_bad, group_bad, value_read, range_read, ordinal_read, block_read};
 ghost use Rattle.group.specs.Facts.{Readable};
 
+use group::line::Line;
 use group::rows::LIMIT;
-use group::{BlockAddr, BlockAddrBlockMetadata, bits};
+use group::{BlockAddr, BlockAddrBlockMetadata};
 
+// The last number below `end` at which `holds` is true, where it is true at 0, which isn't asked, and false from some number on.
+#[inline(always)]
+pub fn last_where<F: Fn(usize) -> bool>(end: usize, holds: F) -> usize
+    requires some { 0 < end }
+    requires may { (i : ℕ) → 0 < i → i < end → F.pre holds i }
+    ensures within { result < end }
+    ensures here { 0 < result → F.post holds result true }
+    ensures next { result + 1 < end → F.post holds (result + 1) false }
+{
+    let mut left: usize = 0;
+    let mut right = end;
+    // std's partition_point goes over a slice, and here there is none.
+    while left + 1 < right {
+        let mid = left + (right - left) / 2;
+        if holds(mid) {
+            left = mid;
+        } else {
+            right = mid;
+        }
+    }
+    left
+}
+
+#[tactic(auto, unfolding(group::specs::Read::width_bad))]
 fn width_bad(nbits: u8) -> bool
     ensures { result ≡ width_bad nbits }
 {
-    if nbits < 1 {
-        return true;
-    }
-    nbits > 56
+    nbits < 1 || nbits > 56
 }
 
 // Whether a group that is to have `count` blocks breaks its rule in a store with `addr_len` address bytes. Widths and block count
 // come first: with others the place where the last field ends needn't fit 16 bits.
+#[tactic(auto, unfolding(group::specs::Read::group_bad, group::specs::Read::width_bad))]
 pub fn group_bad(meta: BlockAddrBlockMetadata, count: usize, addr_len: usize) -> bool
     requires { count ≤ max_group_len }
     ensures { result ≡ group_bad meta count addr_len }
 {
-    if width_bad(meta.first_ordinal_nbits) {
+    if width_bad(meta.first_ordinal_nbits) || width_bad(meta.range_start_nbits) {
         return true;
     }
-    if width_bad(meta.range_start_nbits) {
+    if usize::from(meta.block_len) + 1 != count || meta.offset > addr_len as u64 {
         return true;
     }
-    let block_len = meta.block_len as usize;
-    if block_len + 1 != count {
-        return true;
-    }
-    let bits = bits::group_bits(meta.range_start_nbits, meta.first_ordinal_nbits, block_len);
-    if meta.offset > addr_len as u64 {
-        return true;
-    }
-    ((bits + 7) / 8) as usize > addr_len - meta.offset as usize
+    meta.addr_len() > addr_len - meta.offset as usize
 }
 
-// The value of a field: first + field + slope × i - 2^(nbits-1), or the limit where that is below 0.
-fn value(first: u64, field: u64, slope: u32, i: usize, nbits: u8) -> u64
-    requires { (first < limit) × (field < 2 ^ 56) × (i ≤ max_blocks) × (1 ≤ nbits) × (nbits ≤ 56) }
-    ensures { result ≡ value_read first field slope i nbits }
+// The value of field i: first + field + slope × i - 2^(nbits-1), or the limit where that is below 0.
+fn value(line: Line, field: u64, i: usize) -> u64
+    requires { (field < 2 ^ 56) × (i ≤ max_blocks) }
+    ensures { result ≡ value_read line.first field line.slope i line.nbits }
 {
-    let sum = first + field + (slope as u64) * (i as u64);
-    let shift = 1u64 << (nbits - 1);
-    if sum < shift {
-        return LIMIT;
-    }
-    sum - shift
-}
-
-// The start of block i, or, behind the last block, its end.
-pub fn range_start(meta: BlockAddrBlockMetadata, data: &[u8], i: usize) -> u64
-    requires { Readable meta (length «data».now) × (i ≤ meta.block_len + 1) }
-    ensures { result ≡ range_read meta (le_val «data».now) i }
-{
-    if i == 0 {
-        return meta.range_start;
-    }
-    let nbits = meta.range_start_nbits;
-    let bit = bits::range_bit(nbits, meta.first_ordinal_nbits, i - 1);
-    let field = bitpacker::extract_bits(data, bit, nbits);
-    value(meta.range_start, field, meta.range_start_slope, i, nbits)
-}
-
-// The first ordinal of block i.
-pub fn first_ordinal(meta: BlockAddrBlockMetadata, data: &[u8], i: usize) -> u64
-    requires { Readable meta (length «data».now) × (i ≤ meta.block_len) }
-    ensures { result ≡ ordinal_read meta (le_val «data».now) i }
-{
-    if i == 0 {
-        return meta.first_ordinal;
-    }
-    let nbits = meta.first_ordinal_nbits;
-    let bit = bits::ordinal_bit(meta.range_start_nbits, nbits, i - 1);
-    let field = bitpacker::extract_bits(data, bit, nbits);
-    value(
-        meta.first_ordinal,
-        field,
-        meta.first_ordinal_slope,
-        i,
-        nbits,
-    )
+    let sum = line.first + field + (line.slope as u64) * (i as u64);
+    let shift = 1u64 << (line.nbits - 1);
+    sum.checked_sub(shift).unwrap_or(LIMIT)
 }
 
 // A block's start and first ordinal.
@@ -97,69 +74,82 @@ pub struct BlockStartAddr {
     pub first_ordinal: u64,
 }
 
-// The start and the first ordinal of block i, which isn't the group's first, where their fields have at most 56 bits together: the
-// fields touch, so that one read gives both.
-pub fn block_start(meta: BlockAddrBlockMetadata, data: &[u8], i: usize) -> BlockStartAddr
-    requires { Readable meta (length «data».now) × (0 < i) × (i ≤ meta.block_len)
-        × (meta.range_start_nbits + meta.first_ordinal_nbits ≤ 56) }
-    ensures { (result.range_start ≡ range_read meta (le_val «data».now) i)
-        × (result.first_ordinal ≡ ordinal_read meta (le_val «data».now) i) }
-{
-    let range_nbits = meta.range_start_nbits;
-    let ordinal_nbits = meta.first_ordinal_nbits;
-    let bit = bits::range_bit(range_nbits, ordinal_nbits, i - 1);
-    let both = bitpacker::extract_bits(data, bit, range_nbits + ordinal_nbits);
-    let range = both & ((1u64 << range_nbits) - 1);
-    let ordinal = both >> range_nbits;
-    BlockStartAddr {
-        range_start: value(
-            meta.range_start,
-            range,
-            meta.range_start_slope,
-            i,
-            range_nbits,
-        ),
-        first_ordinal: value(
-            meta.first_ordinal,
-            ordinal,
-            meta.first_ordinal_slope,
-            i,
-            ordinal_nbits,
-        ),
-    }
+// A group that keeps its rule: its record, and the address bytes from the record's offset on.
+#[derive(Clone, Copy)]
+pub struct Group<'a> {
+    pub meta: BlockAddrBlockMetadata,
+    pub data: &'a [u8],
+    pub ghost readable: { Readable meta (length «data».now) },
 }
 
-// Block i of the group. `data` is the address bytes from the group's offset on.
-pub fn deserialize_block_addr(
-    meta: BlockAddrBlockMetadata,
-    data: &[u8],
-    inner_offset: usize,
-) -> BlockAddr
-    requires { Readable meta (length «data».now) × (inner_offset ≤ meta.block_len) }
-    ensures { result ≡ block_read meta (le_val «data».now) inner_offset }
-{
-    BlockAddr {
-        start: range_start(meta, data, inner_offset),
-        end: range_start(meta, data, inner_offset + 1),
-        first_ordinal: first_ordinal(meta, data, inner_offset),
+impl<'a> Group<'a> {
+    // The start of block i, or, behind the last block, its end.
+    pub fn range_start(&self, i: usize) -> u64
+        requires { i ≤ self.now.meta.block_len + 1 }
+        ensures { result ≡ range_read self.now.meta (le_val self.now.«data».now) i }
+    {
+        if i == 0 {
+            return self.meta.range_start;
+        }
+        let bit = self.meta.widths().range_bit(i - 1);
+        let field = bitpacker::extract_bits(self.data, bit, self.meta.range_start_nbits);
+        value(self.meta.ranges(), field, i)
     }
-}
 
-// The last block of the group whose first ordinal is at or below `target`, if ordinals rise.
-pub fn bisect_for_ord(meta: BlockAddrBlockMetadata, data: &[u8], target: u64) -> usize
-    requires { Readable meta (length «data».now) × (meta.first_ordinal ≤ target) }
-    ensures { (result ≤ meta.block_len) × (ordinal_read meta (le_val «data».now) result ≤ target)
-        × (result < meta.block_len → target < ordinal_read meta (le_val «data».now) (result + 1)) }
-{
-    let mut left: usize = 0;
-    let mut right = meta.block_len as usize + 1;
-    while left + 1 < right {
-        let mid = left + (right - left) / 2;
-        if first_ordinal(meta, data, mid) <= target {
-            left = mid;
-        } else {
-            right = mid;
+    // The first ordinal of block i.
+    pub fn first_ordinal(&self, i: usize) -> u64
+        requires { i ≤ self.now.meta.block_len }
+        ensures { result ≡ ordinal_read self.now.meta (le_val self.now.«data».now) i }
+    {
+        if i == 0 {
+            return self.meta.first_ordinal;
+        }
+        let bit = self.meta.widths().ordinal_bit(i - 1);
+        let field = bitpacker::extract_bits(self.data, bit, self.meta.first_ordinal_nbits);
+        value(self.meta.ordinals(), field, i)
+    }
+
+    // The start and the first ordinal of block i, which isn't the group's first, where their fields have at most 56 bits together: the
+    // fields touch, so that one read gives both.
+    pub fn block_start(&self, i: usize) -> BlockStartAddr
+        requires { (0 < i) × (i ≤ self.now.meta.block_len)
+            × (self.now.meta.range_start_nbits + self.now.meta.first_ordinal_nbits ≤ 56) }
+        ensures { (result.range_start ≡ range_read self.now.meta (le_val self.now.«data».now) i)
+            × (result.first_ordinal ≡ ordinal_read self.now.meta (le_val self.now.«data».now) i) }
+    {
+        let widths = self.meta.widths();
+        let bit = widths.range_bit(i - 1);
+        let both = bitpacker::extract_bits(self.data, bit, widths.range + widths.ordinal);
+        let range = both & ((1u64 << widths.range) - 1);
+        let ordinal = both >> widths.range;
+        BlockStartAddr {
+            range_start: value(self.meta.ranges(), range, i),
+            first_ordinal: value(self.meta.ordinals(), ordinal, i),
         }
     }
-    left
+
+    // Block i of the group.
+    #[tactic(auto, unfolding(group::specs::Read::block_read))]
+    pub fn deserialize_block_addr(&self, inner_offset: usize) -> BlockAddr
+        requires { inner_offset ≤ self.now.meta.block_len }
+        ensures { result ≡ block_read self.now.meta (le_val self.now.«data».now) inner_offset }
+    {
+        BlockAddr {
+            start: self.range_start(inner_offset),
+            end: self.range_start(inner_offset + 1),
+            first_ordinal: self.first_ordinal(inner_offset),
+        }
+    }
+
+    // The last block of the group whose first ordinal is at or below `target`, if ordinals rise.
+    #[tactic(auto, unfolding(group::specs::Read::ordinal_read))]
+    pub fn bisect_for_ord(&self, target: u64) -> usize
+        requires { self.now.meta.first_ordinal ≤ target }
+        ensures { (result ≤ self.now.meta.block_len)
+            × (ordinal_read self.now.meta (le_val self.now.«data».now) result ≤ target)
+            × (result < self.now.meta.block_len → target < ordinal_read self.now.meta (le_val self.now.«data».now) (result + 1)) }
+    {
+        let blocks = usize::from(self.meta.block_len) + 1;
+        last_where(blocks, |i| self.first_ordinal(i) <= target)
+    }
 }

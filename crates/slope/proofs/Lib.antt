@@ -1,4 +1,5 @@
-pub mod Column
+pub mod Columns
+mod Derivations
 mod Points
 mod Step
 pub mod Widths

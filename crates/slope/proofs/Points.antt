@@ -7,11 +7,11 @@ use native.Mathlib.Nat.{add-zero, mul-zero, sub-zero}
 use native.Mathlib.Numerals.{add-one}
 use borrow.Author.Tests.{le-leb, lt-leb}
 use lib.ListN.{get_or}
-use Rattle.slope.specs.Column.{column, ColumnOk, ValueOk}
+use Rattle.slope.specs.Column.{column}
 use Rattle.slope.specs.Extremes.{New, point_of, Sloped, slope_left, ExtremesAt}
 use Rattle.slope.specs.Slope.{Point, points_from, slope_at, lower_point, higher_point, lowest, highest, slope_between, best_slope}
 use Rattle.slope.specs.declared.Point as code
-use Rattle.slope.proofs.Column.{column-step}
+use Rattle.slope.proofs.Columns.{column-step}
 
 new-good : (n i v : ℕ) (p : code.Point) → New i v p → 1 ≤ i → i ≤ n → v < 2 ^ 62 → Sloped n p
 new-good n i v p e first last small =
@@ -42,9 +42,6 @@ module _ (n : ℕ) (p q : code.Point) (g : Sloped n p) (h : Sloped n q) where
   higher-stays l = simp (lt-leb (slope_at (point_of p)) (slope_at (point_of q)) (rw (g.sloped, h.sloped) at l))
 
 module _ (area : List ℕ) (at stride base count : ℕ) where
-  pub first-value : ColumnOk area at stride base count → 0 < count → ValueOk area base at
-  first-value ok h = rw (mul-zero, add-zero) at (ok.values 0 h)
-
   left-start : 0 < count → slope_left area at stride base count (record { i = 1; v = get_or area at 0 - base }) (record { i = 1; v = get_or area at 0 - base }) 1 ≡ best_slope (column area at stride base count)
   unfolding best_slope
   left-start h = rw (rw (mul-zero, add-zero, sub-zero) at (column-step area at stride base count 0 h))
@@ -59,15 +56,16 @@ module _ (area : List ℕ) (at stride base count : ℕ) where
       let e : count - j ≡ 0 = omega arith in
       rw e
 
-  pub kept-start : (p : code.Point) → 0 < count → ValueOk area base at → New 1 (get_or area at 0 - base) p → ExtremesAt area at stride base count p p 1
-  kept-start p h ok e =
-      let good = new-good count 1 (get_or area at 0 - base) p e (omega arith) h (omega arith) in
+  pub kept-start : (p : code.Point) (v : ℕ) → 0 < count → (v ≡ get_or area (at + stride * 0) 0 - base) × (v < 2 ^ 62) → New 1 v p → ExtremesAt area at stride base count p p 1
+  kept-start p v h value e =
+      let is : v ≡ get_or area at 0 - base = rw (mul-zero, add-zero) at value.0 in
+      let good = new-good count 1 v p e (omega arith) h value.1 in
       record {
         within = h;
         lows = good;
         highs = good;
         ordered = omega arith;
-        same = rw (new-point 1 (get_or area at 0 - base) p e) (left-start h);
+        same = rw (new-point 1 v p e, is) (left-start h);
       }
 
   -- the slope as the code works it out
@@ -75,10 +73,10 @@ module _ (area : List ℕ) (at stride base count : ℕ) where
   unfolding slope_between
   kept-stop low high j h k = sym (left-stop (point_of low) (point_of high) j h) ∙ k.same
 
--- one more point q, at place j: what is kept, by how its slope compares
-module _ (area : List ℕ) (at stride base count : ℕ) (low high q : code.Point) (j : ℕ) (h : j < count) (k : ExtremesAt area at stride base count low high j) (ok : ValueOk area base (at + stride * j)) (e : New (j + 1) (get_or area (at + stride * j) 0 - base) q) where
+-- one more point q, of the value v at place j: what is kept, by how its slope compares
+module _ (area : List ℕ) (at stride base count : ℕ) (low high q : code.Point) (j v : ℕ) (h : j < count) (k : ExtremesAt area at stride base count low high j) (value : (v ≡ get_or area (at + stride * j) 0 - base) × (v < 2 ^ 62)) (e : New (j + 1) v q) where
   good : Sloped count q
-  good = new-good count (j + 1) (get_or area (at + stride * j) 0 - base) q e (omega arith) (omega arith) (omega arith)
+  good = new-good count (j + 1) v q e (omega arith) (omega arith) value.1
 
   kept_step : (low' high' : code.Point) → Sloped count low' → Sloped count high' → low'.slope ≤ high'.slope → point_of low' ≡ lower_point (point_of low) (point_of q) → point_of high' ≡ higher_point (point_of high) (point_of q) → ExtremesAt area at stride base count low' high' (j + 1)
   kept_step low' high' lows highs ordered l g =
@@ -88,7 +86,7 @@ module _ (area : List ℕ) (at stride base count : ℕ) (low high q : code.Point
         highs = highs;
         ordered = ordered;
         same =
-            rw (l, g, new-point (j + 1) (get_or area (at + stride * j) 0 - base) q e)
+            rw (l, g, new-point (j + 1) v q e, value.0)
             (left_step area at stride base count (point_of low) (point_of high) j h ∙ k.same);
       }
 

@@ -1,3 +1,5 @@
 pub mod Slope
 pub mod Column
 pub mod Extremes
+pub mod Values
+pub mod ExtremesOf

@@ -1,10 +1,9 @@
 // `find_best_slope` of src/index/v3.rs, over values taken from a lent area.
 #![tactic(auto)]
 
-ghost use Rattle.std.specs.Prelude.{◌≡◌, ◌+◌, ◌-◌, ◌*◌, ◌/◌, ◌%◌, ◌^◌, ◌≤◌, ◌<◌, max};
-ghost use Rattle.slope.specs.Slope.{best_slope, max_derivation, width_of};
-ghost use Rattle.slope.specs.Extremes.{New, ExtremesAt};
-ghost use Rattle.slope.specs.Column.{column, ColumnOk};
+ghost use Rattle.std.specs.Prelude.{◌≡◌, ◌+◌, ◌-◌, ◌*◌, ◌/◌, ◌%◌, ◌^◌, ◌≤◌, ◌<◌, get_or};
+ghost use Rattle.slope.specs.Column.{ColumnOk};
+ghost use Rattle.slope.specs.Extremes.{New};
 
 // A point with its slope.
 #[derive(Clone, Copy)]
@@ -25,20 +24,18 @@ impl Point {
             slope: v / i % 0x1_0000_0000,
         }
     }
-}
 
-// The point (i, v). Slopes that are s lie from s × i on, below s × i + i: there no division is needed.
-fn near(i: u64, v: u64, s: u64) -> Point
-    requires { (0 < i) × (i ≤ 2 ^ 31) × (s < 2 ^ 32) }
-    ensures { New i v result }
-{
-    let at = s * i;
-    if v >= at {
-        if v - at < i {
+    // The point (i, v). Slopes that are s lie from s × i on, below s × i + i: there no division is needed.
+    fn near(i: u64, v: u64, s: u64) -> Point
+        requires { (0 < i) × (i ≤ 2 ^ 31) × (s < 2 ^ 32) }
+        ensures { New i v result }
+    {
+        let at = s * i;
+        if v >= at && v - at < i {
             return Point { i, v, slope: s };
         }
+        Point::new(i, v)
     }
-    Point::new(i, v)
 }
 
 // The lowest and the highest of the points before place j; a tie goes to the later one.
@@ -47,78 +44,6 @@ struct Extremes {
     low: Point,
     high: Point,
     j: usize,
-}
-
-// Up to the first point whose slope takes more than 32 bits; it lies above the highest. Most of the others need no division.
-fn uncut_extremes(
-    area: &[u64],
-    at: usize,
-    stride: usize,
-    base: u64,
-    count: usize,
-    start: Extremes,
-) -> Extremes
-    requires { ColumnOk area.now at stride base count
-        × ExtremesAt area.now at stride base count start.low start.high start.j }
-    ensures { ExtremesAt area.now at stride base count result.low result.high result.j }
-{
-    let mut low = start.low;
-    let mut high = start.high;
-    let mut j = start.j;
-    while j < count {
-        let p = at + stride * j;
-        let v = area[p] - base;
-        let i = j as u64 + 1;
-        let lo = low.slope * i;
-        if v < lo {
-            low = Point::new(i, v);
-        } else if v - lo < i {
-            if low.slope == high.slope {
-                high.i = i;
-                high.v = v;
-            }
-            low.i = i;
-            low.v = v;
-        } else if v >= high.slope * i {
-            if i <= v / 0x1_0000_0000 {
-                return Extremes { low, high, j };
-            }
-            high = near(i, v, high.slope);
-        }
-        j += 1;
-    }
-    Extremes { low, high, j }
-}
-
-// Up to the end, with each slope worked out and cut to 32 bits.
-fn cut_extremes(
-    area: &[u64],
-    at: usize,
-    stride: usize,
-    base: u64,
-    count: usize,
-    start: Extremes,
-) -> Extremes
-    requires { ColumnOk area.now at stride base count
-        × ExtremesAt area.now at stride base count start.low start.high start.j }
-    ensures { ExtremesAt area.now at stride base count result.low result.high result.j × (count ≤ result.j) }
-{
-    let mut low = start.low;
-    let mut high = start.high;
-    let mut j = start.j;
-    while j < count {
-        let p = at + stride * j;
-        let v = area[p] - base;
-        let later = Point::new(j as u64 + 1, v);
-        if later.slope <= low.slope {
-            low = later;
-        }
-        if later.slope >= high.slope {
-            high = later;
-        }
-        j += 1;
-    }
-    Extremes { low, high, j }
 }
 
 // The slope between the lowest and the highest point, rounded.
@@ -130,82 +55,159 @@ fn between(low: Point, high: Point) -> u32
     ((low.v + high.v + denominator / 2) / denominator % 0x1_0000_0000) as u32
 }
 
-// The slope of the values.
-pub fn best_slope(area: &[u64], at: usize, stride: usize, base: u64, count: usize) -> u32
-    requires { ColumnOk area.now at stride base count }
-    ensures { result ≡ best_slope (column area.now at stride base count) }
-{
-    if count == 0 {
-        return 0;
-    }
-    let first = Point::new(1, area[at] - base);
-    let start = Extremes {
-        low: first,
-        high: first,
-        j: 1,
-    };
-    let uncut = uncut_extremes(area, at, stride, base, count, start);
-    let all = cut_extremes(area, at, stride, base, count, uncut);
-    between(all.low, all.high)
-}
-
-fn abs_diff(a: u64, b: u64) -> u64
-    ensures { result ≡ (a - b) + (b - a) }
-{
-    if a < b { b - a } else { a - b }
-}
-
-fn larger(a: u64, b: u64) -> u64
-    ensures { result ≡ max a b }
-{
-    if a < b { b } else { a }
-}
-
-// The largest |v - slope × i|.
-pub fn max_derivation(
-    area: &[u64],
-    at: usize,
-    stride: usize,
-    base: u64,
-    count: usize,
-    slope: u32,
-) -> u64
-    requires { ColumnOk area.now at stride base count }
-    ensures { result ≡ max_derivation slope 1 (column area.now at stride base count) }
-{
-    let mut max: u64 = 0;
-    let mut j: usize = 0;
-    while j < count {
-        let p = at + stride * j;
-        let predicted = (slope as u64) * (j as u64 + 1);
-        max = larger(max, abs_diff(area[p] - base, predicted));
-        j += 1;
-    }
-    max
-}
-
-// The width that the values need with this slope.
-pub fn width_of(area: &[u64], at: usize, stride: usize, base: u64, count: usize, slope: u32) -> u8
-    requires { ColumnOk area.now at stride base count }
-    ensures { result ≡ width_of slope (column area.now at stride base count) }
-{
-    bitpacker::compute_num_bits(max_derivation(area, at, stride, base, count, slope)) + 1
-}
-
+// A slope, and the width that values need with it.
 #[derive(Clone, Copy)]
 pub struct Slope {
     pub slope: u32,
     pub nbits: u8,
 }
 
-// The slope of the values and the width that they need with it.
-pub fn find_best_slope(area: &[u64], at: usize, stride: usize, base: u64, count: usize) -> Slope
-    requires { ColumnOk area.now at stride base count }
-    ensures { (result.slope ≡ best_slope (column area.now at stride base count))
-        × (result.nbits ≡ width_of (best_slope (column area.now at stride base count))
-        (column area.now at stride base count)) }
-{
-    let slope = best_slope(area, at, stride, base, count);
-    let nbits = width_of(area, at, stride, base, count, slope);
-    Slope { slope, nbits }
+impl Slope {
+    // Both as one number of 40 bits.
+    pub fn packed(self) -> u64
+        ensures { result ≡ 256 * self.slope + self.nbits }
+    {
+        256 * u64::from(self.slope) + u64::from(self.nbits)
+    }
+
+    // Both back from it.
+    pub fn unpacked(number: u64) -> Slope
+        requires { number < 2 ^ 40 }
+        ensures { (result.slope ≡ number / 256) × (result.nbits ≡ number % 256) }
+    {
+        Slope {
+            slope: (number / 256) as u32,
+            nbits: (number % 256) as u8,
+        }
+    }
+}
+
+// Values that stand in a lent area: `count` of them, every stride-th from place `at` on, less the base.
+#[derive(Clone, Copy)]
+pub struct Column<'a> {
+    pub area: &'a [u64],
+    pub at: usize,
+    pub stride: usize,
+    pub base: u64,
+    pub count: usize,
+    pub ghost ok: { ColumnOk area.now at stride base count },
+}
+
+impl<'a> Column<'a> {
+    ghost use Rattle.slope.specs.Slope.{best_slope, max_derivation, width_of};
+    ghost use Rattle.slope.specs.Values.{values};
+    ghost use Rattle.slope.specs.ExtremesOf.{ExtremesOf};
+
+    // Value j.
+    fn value(&self, j: usize) -> u64
+        requires { j < self.now.count }
+        ensures { (result ≡ get_or self.now.area.now (self.now.at + self.now.stride * j) 0 - self.now.base) × (result < 2 ^ 62) }
+    {
+        self.area[self.at + self.stride * j] - self.base
+    }
+
+    // Up to the first point whose slope takes more than 32 bits; it lies above the highest. Most of the others need no division.
+    fn uncut_extremes(&self, start: Extremes) -> Extremes
+        requires { ExtremesOf self.now start.low start.high start.j }
+        ensures { ExtremesOf self.now result.low result.high result.j }
+    {
+        let mut low = start.low;
+        let mut high = start.high;
+        for j in start.j..self.count {
+            let v = self.value(j);
+            let i = j as u64 + 1;
+            let lo = low.slope * i;
+            if v < lo {
+                low = Point::new(i, v);
+            } else if v - lo < i {
+                if low.slope == high.slope {
+                    high.i = i;
+                    high.v = v;
+                }
+                low.i = i;
+                low.v = v;
+            } else if v >= high.slope * i {
+                if i <= v / 0x1_0000_0000 {
+                    return Extremes { low, high, j };
+                }
+                high = Point::near(i, v, high.slope);
+            }
+        }
+        Extremes {
+            low,
+            high,
+            j: self.count,
+        }
+    }
+
+    // Up to the end, with each slope worked out and cut to 32 bits.
+    fn cut_extremes(&self, start: Extremes) -> Extremes
+        requires { ExtremesOf self.now start.low start.high start.j }
+        ensures { ExtremesOf self.now result.low result.high result.j × (self.now.count ≤ result.j) }
+    {
+        let mut low = start.low;
+        let mut high = start.high;
+        for j in start.j..self.count {
+            let later = Point::new(j as u64 + 1, self.value(j));
+            if later.slope <= low.slope {
+                low = later;
+            }
+            if later.slope >= high.slope {
+                high = later;
+            }
+        }
+        Extremes {
+            low,
+            high,
+            j: self.count,
+        }
+    }
+
+    // The slope of the values.
+    pub fn best_slope(&self) -> u32
+        ensures { result ≡ best_slope (values self.now) }
+    {
+        if self.count == 0 {
+            return 0;
+        }
+        let first = Point::new(1, self.value(0));
+        let start = Extremes {
+            low: first,
+            high: first,
+            j: 1,
+        };
+        let all = self.cut_extremes(self.uncut_extremes(start));
+        between(all.low, all.high)
+    }
+
+    // The largest |v - slope × i|.
+    pub fn max_derivation(&self, slope: u32) -> u64
+        ensures { result ≡ max_derivation slope 1 (values self.now) }
+    {
+        let mut largest: u64 = 0;
+        for j in 0..self.count {
+            let predicted = (slope as u64) * (j as u64 + 1);
+            largest = largest.max(self.value(j).abs_diff(predicted));
+        }
+        largest
+    }
+
+    // The width that the values need with this slope.
+    pub fn width_of(&self, slope: u32) -> u8
+        ensures { result ≡ width_of slope (values self.now) }
+    {
+        bitpacker::compute_num_bits(self.max_derivation(slope)) + 1
+    }
+
+    // The slope of the values and the width that they need with it.
+    pub fn find_best_slope(&self) -> Slope
+        ensures { (result.slope ≡ best_slope (values self.now))
+            × (result.nbits ≡ width_of (best_slope (values self.now)) (values self.now)) }
+    {
+        let slope = self.best_slope();
+        Slope {
+            slope,
+            nbits: self.width_of(slope),
+        }
+    }
 }

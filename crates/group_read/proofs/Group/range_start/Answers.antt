@@ -1,0 +1,19 @@
+-- The field lies within the group's bits, and its value is the one read.
+use Rattle.std.proofs.Common.{arith}
+use Rattle.serialize.specs.Digits.{le_val}
+use Rattle.group.specs.Read.{range_read}
+use Rattle.group.proofs.Reading.{field_lt, range_read-suc}
+use Rattle.group_read.proofs.Group.range_start.Goals as goal
+
+pub returns-then-i-eq0 : goal.returns-then-i-eq0
+unfolding range_read
+returns-then-i-eq0 c = rw c.if-i-eq0.true
+
+pub value-requires : goal.value-requires
+value-requires c = (rw c.extract_bits-field.ensures (field_lt _ _ _ (omega arith)), omega arith)
+
+pub returns : goal.returns
+returns c =
+    let g = c.args.self.now in
+    let read = range_read-suc g.meta (le_val g.«data».now) c.args.i (omega arith) in
+    cc
