@@ -22,8 +22,7 @@ use Rattle.group.proofs.Blocks.{legal-same}
 use Rattle.group.proofs.Reading.{GroupOk, group-ok}
 use Rattle.store.specs.Read.{group_meta, len_of_group, store_block}
 use Rattle.store.specs.Check.{firsts_bad, blocks_bad}
-use Rattle.store.specs.declared.Got.{Got}
-use Rattle.store.specs.declared.Got.TheVariants.{Block, Broken}
+use Rattle.std.specs.Prelude.{Option, Some, None}
 use Rattle.store.proofs.Groups.{legal-part}
 use Rattle.store.proofs.Lookup.{block-of-group, part-readable, block-is}
 use Rattle.store.proofs.Rows.{refused, firsts-kept, blocks-kept, blocks-keep}
@@ -67,14 +66,14 @@ module _ (m : BlockAddrBlockMetadata) (g : ℕ) (before : BlockAddr) where
 -- ---- the answer of a group
 
 -- the last of `last + 1` blocks, or that one of them is illegal
-abbrev pub last_of : (ℕ → BlockAddr) → ℕ → Got
-last_of f last = cond (blocks_bad f (last + 1)) Broken (Block (f last))
+abbrev pub last_of : (ℕ → BlockAddr) → ℕ → Option BlockAddr
+last_of f last = cond (blocks_bad f (last + 1)) None (Some (f last))
 
-told-broken : (t : Bool) (b : BlockAddr) → cond t Broken (Block b) ≡ Broken → t ≡ true
+told-broken : (t : Bool) (b : BlockAddr) → cond t None (Some b) ≡ None → t ≡ true
 told-broken true b e = refl
 told-broken false b e = absurd (let z : ◌≡◌ {A = ℕ} 0 1 = cc in let no : ⊥ = omega arith in no)
 
-told-block : (t : Bool) (b after : BlockAddr) → cond t Broken (Block b) ≡ Block after → (t ≡ false) × (after ≡ b)
+told-block : (t : Bool) (b after : BlockAddr) → cond t None (Some b) ≡ Some after → (t ≡ false) × (after ≡ b)
 told-block true b after e = absurd (let z : ◌≡◌ {A = ℕ} 0 1 = cc in let no : ⊥ = omega arith in no)
 told-block false b after e = (refl, (cc))
 
@@ -168,7 +167,7 @@ module _ {L : ℕ} {recs addr : List ℕ} {n g : ℕ} {m : BlockAddrBlockMetadat
   own-legal legal =
       legal-same (λ j h. sym (own_is j h)) (legal-part legal (L * g) (m.block_len + 1) (omega (arith, group-kept.blocks)))
 
-  pub group-refused : (k : ℕ) (r : Got) → r ≡ last_of own m.block_len → r ≡ Broken → true ≡ (firsts_bad recs k || blocks_bad block n)
+  pub group-refused : (k : ℕ) (r : Option BlockAddr) → r ≡ last_of own m.block_len → r ≡ None → true ≡ (firsts_bad recs k || blocks_bad block n)
   group-refused k r is e =
       row-refused L recs addr n k
       (λ firsts legal. true≢false (sym (told-broken _ (own m.block_len) (sym is ∙ e)) ∙ blocks-keep own (m.block_len + 1) (own-legal legal)))
@@ -196,7 +195,7 @@ module _ {L : ℕ} {recs addr : List ℕ} {n g : ℕ} {m : BlockAddrBlockMetadat
       pub group-readable : Readable m (length (take (length addr - m.offset) (drop m.offset addr)))
       group-readable = part-readable m (len_of_group L n g) addr (rw group.keeps (first-ok m g before good).inside) (omega (arith, group.few))
 
-      pub passed-turn : (r : Got) (after : BlockAddr) → r ≡ last_of own m.block_len → r ≡ Block after → Passed L recs addr n (g + 1) after
+      pub passed-turn : (r : Option BlockAddr) (after : BlockAddr) → r ≡ last_of own m.block_len → r ≡ Some after → Passed L recs addr n (g + 1) after
       unfolding firsts_bad block_read range_read ordinal_read
       passed-turn r after is e =
           let ok = first-ok m g before good in

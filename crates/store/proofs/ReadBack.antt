@@ -29,7 +29,7 @@ use Rattle.group.proofs.Back.{block_back}
 use Rattle.store.specs.Store.{group_count, group_addrs, group_records, addrs, store_bytes}
 use Rattle.store.specs.Read.{group_meta, len_of_group, store_block, meta_bad, store_get, StoreOk}
 use Rattle.store.specs.Facts.{GroupLenOk, StoreArea}
-use Rattle.store.specs.declared.Got.TheVariants.{Block}
+use Rattle.std.specs.Prelude.{Some}
 use Rattle.store.proofs.Groups.{group-count-above, group-count-below, group-count-lt, group-first-lt, group-count-le, legal-take, legal-drop, store-legal}
 use Rattle.store.proofs.Stored.{below-append, length-records, addrs-le, group-cons, record-at, bits_at, bits_inside, addrs-below}
 
@@ -37,7 +37,7 @@ use Rattle.store.proofs.Stored.{below-append, length-records, addrs-le, group-co
 pub record ReadsBack (L : ℕ) (recs addr : List ℕ) (bs : List BlockAddr) : Type 0 where
   pub groups : (g : ℕ) → L * g < length bs → meta_bad L recs addr (length bs) g ≡ false
   pub blocks : (i : ℕ) → i < length bs → store_block L recs addr i ≡ block_of bs i
-  pub gets : (i : ℕ) → i < length bs → store_get L recs addr (length bs) i ≡ Block (block_of bs i)
+  pub gets : (i : ℕ) → i < length bs → store_get L recs addr (length bs) i ≡ Some (block_of bs i)
   pub ok : StoreOk L recs addr (length bs)
 
 -- legal blocks, and few enough, that are written in groups of L with slopes of 32 bits

@@ -1,6 +1,9 @@
 -- Block i of a store, read from its group records and its address bytes (document 01, "Opening and lookups").
-use Rattle.std.specs.Prelude.{ℕ, ◌-◌, ◌*◌, ◌/◌, ◌%◌, ◌≤◌, ◌<◌, min, ◌≡◌, List, Bool, false, ◌||◌, cond, length, drop}
+use Rattle.std.specs.Prelude.{ℕ, ◌-◌, ◌*◌, ◌/◌, ◌%◌, ◌≤◌, ◌<◌, min, ◌≡◌, List, Bool, false, ◌||◌, ◌⊎◌, cond, length, drop}
+use Rattle.std.specs.Prelude.{Option, Some, None, Result, Ok, Err}
 use Rattle.layout.specs.Layout.{meta_len}
+use Rattle.layout.specs.declared.refusals.Refusal.{Refusal}
+use Rattle.layout.specs.Refusals.{number_of, no_of}
 use Rattle.serialize.specs.Digits.{le_val}
 use Rattle.group.specs.declared.BlockAddr.{BlockAddr}
 use Rattle.group.specs.declared.BlockAddrBlockMetadata.{BlockAddrBlockMetadata}
@@ -9,10 +12,7 @@ use Rattle.group.specs.Rows.{are_numbers_bad}
 use Rattle.group.specs.Meta.{metadata_at}
 use Rattle.group.specs.Read.{group_bad, first_values_bad, block_read}
 use Rattle.store.specs.Store.{group_count}
-use Rattle.store.specs.declared.Got.{Got}
-use Rattle.store.specs.declared.Got.TheVariants.{Block, Broken}
-use Rattle.store.specs.declared.OrdFound.{OrdFound}
-use Rattle.store.specs.declared.OrdFound.TheVariants.{At, Below, Broken}
+use Rattle.store.specs.declared.Located.{Located}
 
 -- the record of group g
 abbrev pub group_meta : List ℕ → ℕ → BlockAddrBlockMetadata
@@ -37,15 +37,15 @@ block_or L recs addr n i =
     cond (meta_bad L recs addr n (i / L)) (record { start = 1; end = 0; first_ordinal = 0 }) (store_block L recs addr i)
 
 -- what a lookup of block i finds: it, or that its group is broken or its numbers break row 3 (row 20)
-unfoldable pub store_get : ℕ → List ℕ → List ℕ → ℕ → ℕ → Got
+unfoldable pub store_get : ℕ → List ℕ → List ℕ → ℕ → ℕ → Option BlockAddr
 store_get L recs addr n i =
-    cond (meta_bad L recs addr n (i / L)) Broken
-    (cond (are_numbers_bad (store_block L recs addr i)) Broken (Block (store_block L recs addr i)))
+    cond (meta_bad L recs addr n (i / L)) None
+    (cond (are_numbers_bad (store_block L recs addr i)) None (Some (store_block L recs addr i)))
 
--- document 01's number for it
-abbrev pub got_no : Got → ℕ
-got_no (Block b) = 0
-got_no Broken = 20
+-- the table's number for it
+abbrev pub got_no : Option BlockAddr → ℕ
+got_no (Some b) = 0
+got_no None = 20
 
 -- a store of n blocks that keeps rows 15 and 16
 pub record StoreOk (L : ℕ) (recs addr : List ℕ) (n : ℕ) : Type 0 where
@@ -58,20 +58,16 @@ pub record Last (f : ℕ → ℕ) (n x i : ℕ) : Type 0 where
   pub at_most : f i ≤ x
   pub later : (j : ℕ) → i < j → j < n → x < f j
 
--- document 01's number for what an ordinal's lookup finds
-abbrev pub ord_found_no : OrdFound → ℕ
-ord_found_no (At i b) = 0
-ord_found_no Below = 18
-ord_found_no Broken = 20
+-- the table's number for what an ordinal's lookup finds
+abbrev pub ord_found_no : Result Located Refusal → ℕ
+ord_found_no r = no_of r
 
 -- what an ordinal's lookup may answer in every case, and what it answers in a store that keeps the rules:
 -- the block that SPECIFICATION 9.2 names, or that the ordinal is below the first
-unfoldable pub OrdFoundIn : ℕ → OrdFound → Type 0
-OrdFoundIn n (At i b) = (i < n) × NumbersOk b
-OrdFoundIn n Below = Unit {0}
-OrdFoundIn n Broken = Unit {0}
+unfoldable pub OrdFoundIn : ℕ → Result Located Refusal → Type 0
+OrdFoundIn n (Ok at) = (at.block_id < n) × NumbersOk at.addr
+OrdFoundIn n (Err refusal) = (number_of refusal ≡ 18) ⊎ (number_of refusal ≡ 20)
 
-unfoldable pub OrdFoundAs : (ℕ → BlockAddr) → ℕ → ℕ → OrdFound → Type 0
-OrdFoundAs block n ord (At i b) = Last (λ j. (block j).first_ordinal) n ord i × (b ≡ block i)
-OrdFoundAs block n ord Below = ord < (block 0).first_ordinal
-OrdFoundAs block n ord Broken = ⊥
+unfoldable pub OrdFoundAs : (ℕ → BlockAddr) → ℕ → ℕ → Result Located Refusal → Type 0
+OrdFoundAs block n ord (Ok at) = Last (λ j. (block j).first_ordinal) n ord at.block_id × (at.addr ≡ block at.block_id)
+OrdFoundAs block n ord (Err refusal) = (number_of refusal ≡ 18) × (ord < (block 0).first_ordinal)

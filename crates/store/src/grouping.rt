@@ -5,27 +5,36 @@ ghost use Rattle.store.specs.Store.{group_count};
 ghost use Rattle.store.specs.Read.{len_of_group};
 ghost use Rattle.store.specs.Facts.{GroupLenOk};
 
-// How many groups n blocks make.
-pub fn group_count(n: usize, group_len: usize) -> usize
-    requires { (n ≤ max_blocks) × GroupLenOk group_len }
-    ensures { result ≡ group_count group_len n }
-{
-    (n + (group_len - 1)) / group_len
+// n blocks in groups of `group_len`; the last may have fewer. No ghost field bounds the two numbers, since blocks_from and
+// blocks_in ask nothing of them.
+#[derive(Clone, Copy, Debug, PartialEq, Eq)]
+pub struct Grouping {
+    pub n: usize,
+    pub group_len: usize,
 }
 
-// How many blocks the group from block `first` on has.
-pub fn blocks_from(first: usize, n: usize, group_len: usize) -> usize
-    requires { first ≤ n }
-    ensures { result ≡ min group_len (n - first) }
-{
-    let left = n - first;
-    if group_len < left { group_len } else { left }
-}
+impl Grouping {
+    // How many groups the blocks make.
+    pub fn group_count(self) -> usize
+        requires { (self.n ≤ max_blocks) × GroupLenOk self.group_len }
+        ensures { result ≡ group_count self.group_len self.n }
+    {
+        self.n.div_ceil(self.group_len)
+    }
 
-// How many blocks group g has.
-pub fn blocks_in(n: usize, group_len: usize, g: usize) -> usize
-    requires { group_len * g ≤ n }
-    ensures { result ≡ len_of_group group_len n g }
-{
-    blocks_from(group_len * g, n, group_len)
+    // How many blocks the group from block `first` on has.
+    pub fn blocks_from(self, first: usize) -> usize
+        requires { first ≤ self.n }
+        ensures { result ≡ min self.group_len (self.n - first) }
+    {
+        self.group_len.min(self.n - first)
+    }
+
+    // How many blocks group g has.
+    pub fn blocks_in(self, g: usize) -> usize
+        requires { self.group_len * g ≤ self.n }
+        ensures { result ≡ len_of_group self.group_len self.n g }
+    {
+        self.blocks_from(self.group_len * g)
+    }
 }

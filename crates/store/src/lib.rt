@@ -5,17 +5,9 @@ pub mod grouping;
 
 use group::BlockAddr;
 
-// A block that was looked up, or a group that breaks its rules.
+// A block that an ordinal's search found: its place and its address.
 #[derive(Clone, Copy)]
-pub enum Got {
-    Block(BlockAddr),
-    Broken,
-}
-
-// The block for an ordinal, an ordinal below the first, or a group that breaks its rules.
-#[derive(Clone, Copy)]
-pub enum OrdFound {
-    At(usize, BlockAddr),
-    Below,
-    Broken,
+pub struct Located {
+    pub block_id: usize,
+    pub addr: BlockAddr,
 }

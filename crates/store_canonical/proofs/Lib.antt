@@ -3,3 +3,6 @@ pub mod Blocks
 pub mod Bits
 pub mod Group
 pub mod Turn
+mod Equal
+mod Groups
+mod Own

@@ -12,7 +12,7 @@ use Rattle.group.specs.Rows.{are_numbers_bad}
 use Rattle.group.specs.Read.{range_read, ordinal_read, block_read}
 use Rattle.group.proofs.Legal.{numbers-ok, numbers-good}
 use Rattle.store.specs.Check.{blocks_bad}
-use Rattle.store.specs.declared.Got.TheVariants.{Block, Broken}
+use Rattle.std.specs.Prelude.{Some, None}
 use Rattle.store.proofs.Rows.{refused, blocks-kept, blocks-keep}
 use Rattle.store.proofs.Passed.{last_of}
 
@@ -54,15 +54,15 @@ module _ (m : BlockAddrBlockMetadata) (N : ℕ) where
 
   -- the answers
   module _ (last : ℕ) where
-    broken : (Legal (block_read m N) (last + 1) → ⊥) → Broken ≡ last_of (block_read m N) last
+    broken : (Legal (block_read m N) (last + 1) → ⊥) → None ≡ last_of (block_read m N) last
     broken h = rw (← (refused (blocks_bad (block_read m N) (last + 1)) (λ e. h (blocks-kept (block_read m N) (last + 1) e))))
 
     module _ (i start ordinal : ℕ) (s : start ≡ range_read m N i) (o : ordinal ≡ ordinal_read m N i) where
-      pub start_falls : (end : ℕ) → i < last → end ≡ range_read m N (i + 1) → end < start → Broken ≡ last_of (block_read m N) last
+      pub start_falls : (end : ℕ) → i < last → end ≡ range_read m N (i + 1) → end < start → None ≡ last_of (block_read m N) last
       unfolding block_read
       start_falls end h e l = broken (λ legal. omega (arith, (legal.numbers i (omega arith)).ordered, ap (range_read m N) (add-one i)))
 
-      pub ordinal-stays : (next : ℕ) → i < last → next ≡ ordinal_read m N (i + 1) → next ≤ ordinal → Broken ≡ last_of (block_read m N) last
+      pub ordinal-stays : (next : ℕ) → i < last → next ≡ ordinal_read m N (i + 1) → next ≤ ordinal → None ≡ last_of (block_read m N) last
       unfolding block_read
       ordinal-stays next h e l = broken (λ legal. omega (arith, (legal.follows i (omega arith)).rises, ap (ordinal_read m N) (add-one i)))
 
@@ -71,11 +71,11 @@ module _ (m : BlockAddrBlockMetadata) (N : ℕ) where
         unfolding block_read
         last-is = rw (s, o, e, whole, add-one last) refl
 
-        pub last-broken : are_numbers_bad (record { start = start; end = end; first_ordinal = ordinal }) ≡ true → Broken ≡ last_of (block_read m N) last
+        pub last-broken : are_numbers_bad (record { start = start; end = end; first_ordinal = ordinal }) ≡ true → None ≡ last_of (block_read m N) last
         last-broken b = broken (λ legal. true≢false (sym b ∙ ap are_numbers_bad last-is ∙ numbers-good (block_read m N last) (legal.numbers last (omega arith))))
 
         pub last-kept : Rising i → are_numbers_bad (record { start = start; end = end; first_ordinal = ordinal }) ≡ false
-            → Block (record { start = start; end = end; first_ordinal = ordinal }) ≡ last_of (block_read m N) last
+            → Some (record { start = start; end = end; first_ordinal = ordinal }) ≡ last_of (block_read m N) last
         last-kept up b =
             let ok = numbers-ok (block_read m N last) (sym (ap are_numbers_bad last-is) ∙ b) in
             rw (blocks-keep (block_read m N) (last + 1) (all-legal last (rw whole at up) ok), last-is)

@@ -1,21 +1,26 @@
 // Reading a store: by id and by ordinal.
 #![tactic(auto)]
 
-ghost use Rattle.std.specs.Prelude.{◌≡◌, ◌||◌, ◌+◌, ◌*◌, ◌≤◌, ◌<◌, leb, length};
-ghost use Rattle.layout.specs.Layout.{max_blocks, max_group_len, meta_len};
+ghost use Rattle.std.specs.Prelude.{◌≡◌, true, false, ◌||◌, ◌+◌, ◌*◌, ◌≤◌, ◌<◌, leb, length, drop, MatchOption};
+ghost use Rattle.layout.specs.Layout.{max_group_len};
 ghost use Rattle.group.specs.Legal.{limit};
 ghost use Rattle.group.specs.Read.{group_bad};
-ghost use Rattle.store.specs.Read.{group_meta, block_or, store_get, store_block, StoreOk, OrdFoundIn, OrdFoundAs};
+ghost use Rattle.store.specs.Store.{group_count};
+ghost use Rattle.store.specs.Read.{group_meta, len_of_group, meta_bad, block_or, store_get, store_block, StoreOk, OrdFoundIn, OrdFoundAs};
 ghost use Rattle.store.specs.Facts.{GroupLenOk, GroupRecordsOk};
 
 use group::{BlockAddr, BlockAddrBlockMetadata};
+use group_read::Group;
 use layout::META_LEN;
-use store::{Got, OrdFound, grouping};
+use layout::refusals::Refusal;
+use store::Located;
+use store::grouping::Grouping;
 
 // The place of the first ordinal in a group record.
 const FIRST_ORDINAL: usize = 16;
 
 // Whether a group can't be read.
+#[tactic(auto, unfolding(group::specs::Legal::limit))]
 fn meta_bad(meta: BlockAddrBlockMetadata, count: usize, addr_len: usize) -> bool
     requires { count ≤ max_group_len }
     ensures { result ≡ (group_bad meta count addr_len || (leb limit meta.range_start || leb limit meta.first_ordinal)) }
@@ -23,89 +28,137 @@ fn meta_bad(meta: BlockAddrBlockMetadata, count: usize, addr_len: usize) -> bool
     if group_read::group_bad(meta, count, addr_len) {
         return true;
     }
-    if meta.range_start >= group::rows::LIMIT {
-        return true;
-    }
-    meta.first_ordinal >= group::rows::LIMIT
+    meta.range_start >= group::rows::LIMIT || meta.first_ordinal >= group::rows::LIMIT
 }
 
-// Block `block_id` of n; where its group can't be read, one whose numbers break row 3. A plain block comes back in less time
-// than an enum around it.
-pub fn block(metas: &[u8], addrs: &[u8], n: usize, group_len: usize, block_id: usize) -> BlockAddr
-    requires { GroupLenOk group_len × GroupRecordsOk group_len metas.now n × (block_id < n) }
-    ensures { result ≡ block_or group_len metas.now addrs.now n block_id }
-{
-    let g = block_id / group_len;
-    let meta = group::meta::deserialize(metas, META_LEN * g);
-    if meta_bad(meta, grouping::blocks_in(n, group_len, g), addrs.len()) {
-        return BlockAddr {
-            start: 1,
-            end: 0,
-            first_ordinal: 0,
+// A store of n blocks in groups of `group_len`: its group records, and its address bytes.
+#[derive(Clone, Copy)]
+pub struct BlockAddrStore<'a> {
+    pub metas: &'a [u8],
+    pub addrs: &'a [u8],
+    pub n: usize,
+    pub group_len: usize,
+    pub ghost len: { GroupLenOk group_len },
+    pub ghost records: { GroupRecordsOk group_len metas.now n },
+}
+
+impl<'a> BlockAddrStore<'a> {
+    // How many groups its blocks make.
+    #[inline(always)]
+    pub fn group_count(&self) -> usize
+        ensures { result ≡ group_count self.now.group_len self.now.n }
+    {
+        let grouping = Grouping {
+            n: self.n,
+            group_len: self.group_len,
         };
+        grouping.group_count()
     }
-    let offset = meta.offset as usize;
-    group_read::deserialize_block_addr(meta, &addrs[offset..], block_id % group_len)
-}
 
-// `BlockAddrStore::get`, document 01's reference by id: block `block_id` of n, or that it can't be read. The index takes `block` and
-// tests row 3 itself.
-pub fn get(metas: &[u8], addrs: &[u8], n: usize, group_len: usize, block_id: usize) -> Got
-    requires { GroupLenOk group_len × GroupRecordsOk group_len metas.now n × (block_id < n) }
-    ensures { result ≡ store_get group_len metas.now addrs.now n block_id }
-{
-    let block = block(metas, addrs, n, group_len, block_id);
-    if group::rows::numbers_bad(block) {
-        return Got::Broken;
+    // How many blocks group g has.
+    #[inline(always)]
+    pub fn blocks_in(&self, g: usize) -> usize
+        requires { self.now.group_len * g ≤ self.now.n }
+        ensures { result ≡ len_of_group self.now.group_len self.now.n g }
+    {
+        let grouping = Grouping {
+            n: self.n,
+            group_len: self.group_len,
+        };
+        grouping.blocks_in(g)
     }
-    Got::Block(block)
-}
 
-// The last group whose first ordinal is at or below `ord`, if ordinals rise and the first group's is.
-fn bisect_groups(metas: &[u8], groups: usize, ord: u64) -> usize
-    requires { (1 ≤ groups) × (groups ≤ max_blocks) × (meta_len * groups ≤ length metas.now) }
-    ensures { (result < groups) × (0 < result → (group_meta metas.now result).first_ordinal ≤ ord)
-        × (result + 1 < groups → ord < (group_meta metas.now (result + 1)).first_ordinal) }
-{
-    let mut left: usize = 0;
-    let mut right = groups;
-    while left + 1 < right {
-        let mid = left + (right - left) / 2;
-        if serialize::deserialize_u64(metas, META_LEN * mid + FIRST_ORDINAL) <= ord {
-            left = mid;
-        } else {
-            right = mid;
+    // Group g, where it can be read.
+    #[tactic(auto, unfolding(store::specs::Read::meta_bad, group::specs::Read::first_values_bad))]
+    #[inline(always)]
+    fn group(&self, g: usize) -> Option<Group<'a>>
+        requires { g < group_count self.now.group_len self.now.n }
+        ensures { MatchOption result
+            (meta_bad self.now.group_len self.now.metas.now self.now.addrs.now self.now.n g ≡ true)
+            (λ group. (meta_bad self.now.group_len self.now.metas.now self.now.addrs.now self.now.n g ≡ false)
+            × (group.meta ≡ group_meta self.now.metas.now g)
+            × (group.meta.block_len + 1 ≡ len_of_group self.now.group_len self.now.n g)
+            × (group.«data».now ≡ drop (group_meta self.now.metas.now g).offset self.now.addrs.now)) }
+    {
+        let meta = BlockAddrBlockMetadata::deserialize(self.metas, META_LEN * g);
+        let count = self.blocks_in(g);
+        if meta_bad(meta, count, self.addrs.len()) {
+            return None;
+        }
+        let offset = meta.offset as usize;
+        Some(Group {
+            meta,
+            data: &self.addrs[offset..],
+        })
+    }
+
+    // Block `block_id`; where its group can't be read, one whose numbers break row 3. A plain block comes back in less time than an
+    // enum around it.
+    #[tactic(auto, unfolding(store::specs::Read::block_or, store::specs::Read::store_block))]
+    #[inline(always)]
+    pub fn block(&self, block_id: usize) -> BlockAddr
+        requires { block_id < self.now.n }
+        ensures { result ≡ block_or self.now.group_len self.now.metas.now self.now.addrs.now self.now.n block_id }
+    {
+        match self.group(block_id / self.group_len) {
+            Some(group) => group.deserialize_block_addr(block_id % self.group_len),
+            None => BlockAddr {
+                start: 1,
+                end: 0,
+                first_ordinal: 0,
+            },
         }
     }
-    left
-}
 
-// The last block whose first ordinal is at or below `ord`.
-pub fn binary_search_ord(
-    metas: &[u8],
-    addrs: &[u8],
-    n: usize,
-    group_len: usize,
-    ord: u64,
-) -> OrdFound
-    requires { GroupLenOk group_len × GroupRecordsOk group_len metas.now n }
-    ensures ord_found_in { OrdFoundIn n result }
-    ensures ord_found_as { StoreOk group_len metas.now addrs.now n
-        → OrdFoundAs (store_block group_len metas.now addrs.now) n ord result }
-{
-    let g = bisect_groups(metas, grouping::group_count(n, group_len), ord);
-    let meta = group::meta::deserialize(metas, META_LEN * g);
-    if meta_bad(meta, grouping::blocks_in(n, group_len, g), addrs.len()) {
-        return OrdFound::Broken;
+    // `BlockAddrStore::get`, the reference by id: block `block_id`, or that it can't be read. The index takes `block` and tests row 3
+    // itself.
+    #[tactic(auto, unfolding(store::specs::Read::store_get, store::specs::Read::block_or, group::specs::Rows::are_numbers_bad))]
+    pub fn get(&self, block_id: usize) -> Option<BlockAddr>
+        requires { block_id < self.now.n }
+        ensures { result ≡ store_get self.now.group_len self.now.metas.now self.now.addrs.now self.now.n block_id }
+    {
+        let block = self.block(block_id);
+        if block.numbers_bad() {
+            return None;
+        }
+        Some(block)
     }
-    if meta.first_ordinal > ord {
-        return OrdFound::Below;
+
+    // The last group whose first ordinal is at or below `ord`, if ordinals rise and the first group's is.
+    #[tactic(auto, unfolding(group::specs::Meta::metadata_at))]
+    fn bisect_groups(&self, ord: u64) -> usize
+        ensures there { result < group_count self.now.group_len self.now.n }
+        ensures low { 0 < result → (group_meta self.now.metas.now result).first_ordinal ≤ ord }
+        ensures high { result + 1 < group_count self.now.group_len self.now.n
+            → ord < (group_meta self.now.metas.now (result + 1)).first_ordinal }
+    {
+        group_read::last_where(self.group_count(), |g| {
+            serialize::deserialize_u64(self.metas, META_LEN * g + FIRST_ORDINAL) <= ord
+        })
     }
-    let offset = meta.offset as usize;
-    let inner = group_read::bisect_for_ord(meta, &addrs[offset..], ord);
-    let block = group_read::deserialize_block_addr(meta, &addrs[offset..], inner);
-    if group::rows::numbers_bad(block) {
-        return OrdFound::Broken;
+
+    // The last block whose first ordinal is at or below `ord`.
+    #[tactic(auto, unfolding(store::specs::Read::OrdFoundIn, store::specs::Read::OrdFoundAs))]
+    pub fn binary_search_ord(&self, ord: u64) -> Result<Located, Refusal>
+        ensures ord_found_in { OrdFoundIn self.now.n result }
+        ensures ord_found_as { StoreOk self.now.group_len self.now.metas.now self.now.addrs.now self.now.n
+            → OrdFoundAs (store_block self.now.group_len self.now.metas.now self.now.addrs.now) self.now.n ord result }
+    {
+        let g = self.bisect_groups(ord);
+        let Some(group) = self.group(g) else {
+            return Err(Refusal::Unfit);
+        };
+        if group.meta.first_ordinal > ord {
+            return Err(Refusal::OrdinalBelow);
+        }
+        let inner = group.bisect_for_ord(ord);
+        let addr = group.deserialize_block_addr(inner);
+        if addr.numbers_bad() {
+            return Err(Refusal::Unfit);
+        }
+        Ok(Located {
+            block_id: self.group_len * g + inner,
+            addr,
+        })
     }
-    OrdFound::At(group_len * g + inner, block)
 }

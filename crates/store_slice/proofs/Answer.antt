@@ -3,6 +3,7 @@ use mathlib.Core.Path.{◌≡◌, refl, ◌∙◌}
 use mathlib.Core.Bool.{cond}
 use mathlib.Core.List.{List}
 use Prim.Native.Nat.{ℕ, zero, suc, ◌≤◌, ◌<◌}
+use native.Mathlib.Omega.{arith}
 use lib.Dec.{ltb}
 use lib.ListN.{length}
 use lib.Seq.{sets}
@@ -39,8 +40,8 @@ module _ (L : ℕ) (bs : List BlockAddr) (out : List ℕ) where
   unfolding slice_no_by
   hit-no room k e = rw e refl
 
-  pub stored_refused : (no : ℕ) → block_list_no bs ≡ no → (no ≡ 0 → ⊥)
+  pub stored_refused : (no : ℕ) → block_list_no bs ≡ no → 0 < no
       → (record { no = no; len = 0 } ≡ slice_stored_by L bs out) × (out ≡ slice_out_by L bs out)
   unfolding stored_step out_step
-  stored_refused zero e hit = absurd (hit refl)
+  stored_refused zero e hit = absurd (let z : ⊥ = omega arith in z)
   stored_refused (suc k) e hit = (rw (hit-no (length out) k e) refl, rw (hit-no (length out) k e) refl)

@@ -1,14 +1,6 @@
-pub mod Advance
 pub mod Answer
-pub mod Begin
-pub mod ByStructs
-pub mod Ends
-pub mod Filled
-pub mod First
 pub mod Kept
+pub mod Rounds
 pub mod Scan
-pub mod Second
-pub mod Sized
 pub mod Taken
-pub mod Triples
 pub mod Window

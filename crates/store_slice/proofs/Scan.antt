@@ -1,21 +1,19 @@
 -- Rows over a list of records, read off what was seen of them one after the other.
 use mathlib.Core.Path.{◌≡◌, refl, sym, ◌∙◌, ap}
-use mathlib.Core.Bool.{Bool, true, false, ◌||◌, ◌&&◌, cond, or_assoc, or-false}
+use mathlib.Core.Bool.{Bool, true, false, ◌||◌, cond, or_assoc, or-false}
 use mathlib.Core.List.{List, [], ◌∷◌, ◌++◌}
-use Prim.Native.Nat.{ℕ, ◌+◌, ◌≤◌, ◌<◌}
+use Prim.Native.Nat.{ℕ, ◌+◌, ◌<◌}
 use native.Mathlib.Numerals.{add-one}
 use native.Mathlib.Omega.{arith}
-use lib.Dec.{ltb}
 use lib.ListN.{length, take}
 use lib.Seq.{take-suc}
-use borrow.Author.Tests.{ltb-false, le-ltb}
-use Rattle.serialize.proofs.Tests.{neither}
+use Rattle.std.specs.Prelude.{Option, Some}
 use Rattle.group.specs.declared.BlockAddr.{BlockAddr}
 use Rattle.group.specs.Blocks.{no_block, block_of}
 use Rattle.group.specs.Rows.{are_numbers_bad, is_join_bad, is_ordinal_bad}
 use Rattle.store_slice.specs.declared.rows.Seen.{Seen}
 use Rattle.store_slice.specs.Slice.{any_bad, pair_bad, block_list_no}
-use Rattle.store_slice.specs.Records.{seen_with, none_seen, seen_all, seen_number}
+use Rattle.store_slice.specs.Records.{breaks_behind, seen_with, none_seen, seen_all, seen_number}
 
 seen-numbers : (s : Seen) (bs : List BlockAddr) → (seen_all s bs).numbers_bad ≡ (s.numbers_bad || any_bad are_numbers_bad bs)
 unfolding seen_all seen_with any_bad
@@ -23,19 +21,22 @@ seen-numbers s [] = sym (or-false s.numbers_bad)
 seen-numbers s (b ∷ bs) = seen-numbers (seen_with s b) bs ∙ or_assoc s.numbers_bad (are_numbers_bad b) (any_bad are_numbers_bad bs)
 
 -- a row of two records, one behind the other
-module _ (bad : BlockAddr → BlockAddr → Bool) (hit : Seen → Bool) (step : (s : Seen) (b : BlockAddr) → hit (seen_with s b) ≡ (hit s || (s.some && bad s.last b))) where
-  seen-pairs : (s : Seen) (bs : List BlockAddr) → s.some ≡ true → hit (seen_all s bs) ≡ (hit s || pair_bad bad (s.last ∷ bs))
+module _ (bad : BlockAddr → BlockAddr → Bool) (hit : Seen → Bool)
+    (step : (s : Seen) (b : BlockAddr) → hit (seen_with s b) ≡ (hit s || breaks_behind bad s.last b)) where
+  seen-pairs : (s : Seen) (a : BlockAddr) (bs : List BlockAddr) → s.last ≡ Some a → hit (seen_all s bs) ≡ (hit s || pair_bad bad (a ∷ bs))
   unfolding seen_all seen_with pair_bad
-  seen-pairs s [] e = sym (or-false (hit s))
-  seen-pairs s (b ∷ bs) e =
-      seen-pairs (seen_with s b) bs refl ∙ ap (λ (t : Bool). t || pair_bad bad (b ∷ bs)) (step s b ∙ ap (λ (t : Bool). hit s || (t && bad s.last b)) e)
-      ∙ or_assoc (hit s) (bad s.last b) (pair_bad bad (b ∷ bs))
+  seen-pairs s a [] e = sym (or-false (hit s))
+  seen-pairs s a (b ∷ bs) e =
+      let here = step s b ∙ ap (λ (l : Option BlockAddr). hit s || breaks_behind bad l b) e in
+      seen-pairs (seen_with s b) b bs refl ∙ ap (λ (t : Bool). t || pair_bad bad (b ∷ bs)) here
+      ∙ or_assoc (hit s) (bad a b) (pair_bad bad (b ∷ bs))
 
   seen-from-none : (bs : List BlockAddr) → hit none_seen ≡ false → hit (seen_all none_seen bs) ≡ pair_bad bad bs
   unfolding seen_all seen_with pair_bad
   seen-from-none [] e = e
   seen-from-none (b ∷ bs) e =
-      seen-pairs (seen_with none_seen b) bs refl ∙ ap (λ (t : Bool). t || pair_bad bad (b ∷ bs)) (step none_seen b ∙ or-false (hit none_seen) ∙ e)
+      seen-pairs (seen_with none_seen b) b bs refl
+      ∙ ap (λ (t : Bool). t || pair_bad bad (b ∷ bs)) (step none_seen b ∙ or-false (hit none_seen) ∙ e)
 
 -- ---- one record after the other
 
@@ -56,20 +57,6 @@ no_number false false true d e = absurd (let z : ⊥ = omega arith in z)
 no_number false false false true e = absurd (let z : ⊥ = omega arith in z)
 no_number false false false false e = (refl, refl, refl, refl)
 
--- a row that was hit stays hit
-pub seen-before : (s : Seen) (b : BlockAddr) (n : ℕ) → seen_number (seen_with s b) n ≡ 0 → seen_number s n ≡ 0
-unfolding seen_number seen_with
-seen-before s b n e =
-    let none =
-    no_number (s.numbers_bad || are_numbers_bad b) (s.join_bad || (s.some && is_join_bad s.last b)) (s.ordinal_bad || (s.some && is_ordinal_bad s.last b))
-    (ltb 65536 n) e in
-    rw (
-      (neither s.numbers_bad (are_numbers_bad b) none.0).0,
-      (neither s.join_bad (s.some && is_join_bad s.last b) none.1).0,
-      (neither s.ordinal_bad (s.some && is_ordinal_bad s.last b) none.2).0,
-      none.3,
-    ) refl
-
 -- ---- all of them
 
 pub seen_no : (bs : List BlockAddr) → seen_number (seen_all none_seen bs) (length bs) ≡ block_list_no bs
@@ -80,16 +67,3 @@ seen_no bs =
       seen-from-none is_join_bad (λ s. s.join_bad) (λ s b. refl) bs refl,
       seen-from-none is_ordinal_bad (λ s. s.ordinal_bad) (λ s b. refl) bs refl,
     ) refl
-
--- the first of n records hit no row
-pub seen_few : (s : Seen) (n : ℕ) → seen_number s n ≡ 0 → n ≤ 65536
-unfolding seen_number
-seen_few s n e = ltb-false 65536 n (no_number s.numbers_bad s.join_bad s.ordinal_bad (ltb 65536 n) e).3
-
-pub seen_none : (bs : List BlockAddr) (n : ℕ) → length bs ≤ n → seen_number (seen_all none_seen bs) n ≡ 0 → block_list_no bs ≡ 0
-unfolding seen_number
-seen_none bs n h e =
-    let s = seen_all none_seen bs in
-    let none = no_number s.numbers_bad s.join_bad s.ordinal_bad (ltb 65536 n) e in
-    let few : ltb 65536 (length bs) ≡ false = le-ltb 65536 (length bs) (omega (arith, seen_few s n e)) in
-    sym (seen_no bs) ∙ rw (none.0, none.1, none.2, few) refl

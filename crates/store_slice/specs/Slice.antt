@@ -1,12 +1,13 @@
 -- The store from a slice of block records (SPECIFICATION 7; rows 3, 4, 5, 7 and 9).
-use Rattle.std.specs.Prelude.{ℕ, zero, suc, List, [], ◌∷◌, Bool, false, ◌||◌, cond, ltb, length}
+use Rattle.std.specs.Prelude.{ℕ, zero, suc, List, [], ◌∷◌, Bool, false, ◌||◌, cond, ltb, length, Result, Ok, Err}
 use Rattle.std.proofs.lemmas.List.Edits.{sets}
 use Rattle.layout.specs.Layout.{max_blocks, store_block_len}
+use Rattle.layout.specs.declared.refusals.Refusal.{Refusal}
+use Rattle.layout.specs.Refusals.{number_of}
 use Rattle.slope.specs.Slope.{best_slope}
 use Rattle.group.specs.declared.BlockAddr.{BlockAddr}
 use Rattle.group.specs.Rows.{are_numbers_bad, is_join_bad, is_ordinal_bad, or_row}
 use Rattle.store.specs.Store.{store_bytes}
-use Rattle.store_slice.specs.declared.Stored.{Stored}
 
 -- some block is bad
 unfoldable pub any_bad : (BlockAddr → Bool) → List BlockAddr → Bool
@@ -28,6 +29,15 @@ block_list_no bs =
 -- then 9: the output is shorter than the store, whose groups have L blocks
 unfoldable pub slice_no_by : ℕ → List BlockAddr → ℕ → ℕ
 slice_no_by L bs room = or_row (block_list_no bs) (cond (ltb room (length (store_bytes best_slope L bs))) 9 0)
+
+-- what a call answers: a row's number, 0 where the store was written, and its length
+pub record Stored : Type 0 where
+  pub no : ℕ
+  pub len : ℕ
+
+abbrev pub stored_answer : Result ℕ Refusal → Stored
+stored_answer (Ok len) = record { no = 0; len = len }
+stored_answer (Err refusal) = record { no = number_of refusal; len = 0 }
 
 -- the number and the store's length; the store from byte 0 on with the rest as it was, or what was there
 unfoldable pub stored_step : ℕ → ℕ → List BlockAddr → Stored

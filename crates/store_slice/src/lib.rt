@@ -2,36 +2,28 @@
 #![tactic(auto)]
 
 ghost use Rattle.std.specs.Prelude.{◌≡◌};
-ghost use Rattle.store_slice.specs.Slice.{slice_stored, slice_out};
+ghost use Rattle.store_slice.specs.Slice.{stored_answer, slice_stored, slice_out};
 
+pub mod records;
 pub mod rows;
 pub mod writer;
 
 use group::BlockAddr;
 use layout::STORE_BLOCK_LEN;
+use layout::refusals::Refusal;
+use records::Structs;
 use writer::BlockAddrStoreWriter;
 
-// A row's number, 0 where the store was written, and its length.
-#[derive(Clone, Copy)]
-pub struct Stored {
-    pub no: u32,
-    pub len: usize,
-}
-
-// Writes the store of the blocks from the front of `out` on.
-pub fn serialize(blocks: &[BlockAddr], out: &mut [u8]) -> Stored
-    ensures { (result ≡ slice_stored blocks.now out.old)
+// Writes the store of the blocks from the front of `out` on. Returns its length.
+pub fn serialize(blocks: &[BlockAddr], out: &mut [u8]) -> Result<usize, Refusal>
+    ensures { (stored_answer result ≡ slice_stored blocks.now out.old)
         × (out.new ≡ slice_out blocks.now out.old) }
 {
     let mut window = [0u64; 768];
     let mut kept = [0u64; 1_024];
-    let mut writer = BlockAddrStoreWriter::new(blocks.len(), STORE_BLOCK_LEN, out);
-    while !writer.done {
-        let at = writer.next;
-        writer = writer.write_block_meta(blocks[at], &mut window, &mut kept, out);
-    }
-    Stored {
-        no: writer.no,
-        len: writer.len,
-    }
+    let writer = BlockAddrStoreWriter {
+        records: &Structs { blocks },
+        group_len: STORE_BLOCK_LEN,
+    };
+    writer.serialize(&mut window, &mut kept, out)
 }

@@ -1,207 +1,155 @@
-// The store's writer, which is handed the records of a list one after the other, and all of them twice: first it looks at the rows and
-// plans the groups, then it writes them. So it knows the store's length before it writes a byte, and needs room for one group.
-ghost use Rattle.std.specs.Prelude.{◌≡◌, ℕ, ◌+◌, ◌*◌, ◌≤◌, ◌<◌, List, true, false, length};
-ghost use Rattle.group.specs.declared.BlockAddr.{BlockAddr as Block};
+// The store of a list of records, which is gone over three times: the rows are looked at, the groups are planned, then they are
+// written. So the store's length is known before a byte is written, and there is room for one group.
+ghost use Rattle.std.specs.Prelude.{◌≡◌, ◌*◌, ◌≤◌, ◌<◌, min, length, take, drop};
+ghost use Rattle.layout.specs.Refusals.{no_of};
+ghost use Rattle.slope.specs.Slope.{best_slope};
+ghost use Rattle.group.specs.Blocks.{blocks_at};
+ghost use Rattle.store.specs.Read.{len_of_group};
+ghost use Rattle.store.specs.Store.{group_count, addrs};
+ghost use Rattle.store.specs.Plans.{plans, StandsAt};
 ghost use Rattle.store.specs.Facts.{GroupLenOk};
-ghost use Rattle.store_slice.specs.Records.{seen_number};
-ghost use Rattle.store_slice.specs.Steps.{put_record, held_with, FewGroups, Plannable};
-ghost use Rattle.store_slice.specs.Steps.{Writable, Flushed, RoundEnded, ended_with, second_round};
-ghost use Rattle.store_slice.specs.Writer.{Rooms, Progress, Handed, Advances};
+ghost use Rattle.store_slice.specs.Slice.{block_list_no, stored_answer, slice_stored_by, slice_out_by};
+ghost use Rattle.store_slice.specs.Writer.{Rooms};
 
+use crate::records::Records;
 use crate::rows::Seen;
-use group::BlockAddr;
-use group::area::{END, FIRST_ORDINAL};
+use group::area::put_block;
+use group_write::AreaGroup;
 use layout::META_LEN;
-use layout::refusals::OUT_SHORT;
+use layout::refusals::Refusal;
+use store::grouping::Grouping;
+use store_write::GroupPlace;
 
 // The numbers of a record in the window.
-pub const STRIDE: usize = 3;
+const STRIDE: usize = 3;
 
-#[derive(Clone, Copy)]
-pub struct BlockAddrStoreWriter {
-    // whether it is at its end, and the record that comes next
-    pub done: bool,
-    pub next: usize,
-    // the answer: a row's number or 0, and the store's length
-    pub no: u32,
-    pub len: usize,
-    // the list's records, and the blocks of a group
-    pub n: usize,
+// A list's records, in groups of `group_len`.
+#[derive(Drop)]
+pub struct BlockAddrStoreWriter<'a, R> {
+    pub records: &'a R,
     pub group_len: usize,
-    // the rows that the records hit so far, and whether this is the second round
-    pub seen: Seen,
-    pub writing: bool,
-    // how many records the window holds, the group that they are of, and where its bits begin among the address bytes
-    pub held: usize,
-    pub g: usize,
-    pub offset: usize,
-    // where the address bytes begin
-    pub addrs: usize,
+    pub ghost len: { GroupLenOk group_len },
 }
 
-impl BlockAddrStoreWriter {
-    // Before the first record. Where there is none, the end.
-    pub fn new(n: usize, group_len: usize, out: &mut [u8]) -> BlockAddrStoreWriter
-        requires { GroupLenOk group_len }
-        ensures { (bs : List Block) (window kept : List ℕ) → length bs ≡ n → Rooms group_len n window kept
-            → Progress group_len bs out.old result window kept out.new }
+impl<'a, R: Records> BlockAddrStoreWriter<'a, R> {
+    fn grouping(&self) -> Grouping
+        ensures { (result.n ≡ length (R.blocks self.now.records.now)) × (result.group_len ≡ self.now.group_len) }
     {
-        let writer = BlockAddrStoreWriter {
-            done: false,
-            next: 0,
-            no: 0,
-            len: 0,
-            n: n,
-            group_len: group_len,
-            seen: Seen::none(),
-            writing: false,
-            held: 0,
-            g: 0,
-            offset: 0,
-            addrs: 0,
-        };
-        if n == 0 {
-            return writer.end_round(out);
+        Grouping {
+            n: self.records.count(),
+            group_len: self.group_len,
         }
-        writer
     }
 
-    // Takes the next record.
-    pub fn write_block_meta(
-        self,
-        block: BlockAddr,
+    // Rows 3, 4, 5 and 7.
+    fn check_rows(&self) -> Result<(), Refusal>
+        ensures { no_of result ≡ block_list_no (R.blocks self.now.records.now) }
+    {
+        let n = self.records.count();
+        let mut seen = Seen::none();
+        for i in 0..n {
+            seen = seen.with(self.records.block(i));
+        }
+        seen.check(n)
+    }
+
+    // Puts the records of group g into the window. Returns how many they are.
+    fn hold_group(&self, g: usize, window: &mut [u64]) -> usize
+        requires { (self.now.group_len * g < length (R.blocks self.now.records.now))
+            × (3 * min self.now.group_len (length (R.blocks self.now.records.now)) ≤ length window.old) }
+        ensures count { result ≡ len_of_group self.now.group_len (length (R.blocks self.now.records.now)) g }
+        ensures held { blocks_at window.new 3 0 result
+            ≡ take result (drop (self.now.group_len * g) (R.blocks self.now.records.now)) }
+    {
+        let count = self.grouping().blocks_in(g);
+        let first = self.group_len * g;
+        for k in 0..count {
+            put_block(self.records.block(first + k), window, STRIDE * k);
+        }
+        count
+    }
+
+    // Plans the groups. Returns how many bytes their bits take.
+    fn plan(&self, window: &mut [u64], kept: &mut [u64]) -> usize
+        requires { (block_list_no (R.blocks self.now.records.now) ≡ 0)
+            × Rooms self.now.group_len (length (R.blocks self.now.records.now)) window.old kept.old }
+        ensures value { result ≡ length (addrs best_slope self.now.group_len
+            (group_count self.now.group_len (length (R.blocks self.now.records.now))) (R.blocks self.now.records.now)) }
+        ensures planned { StandsAt kept.new 0 (plans best_slope self.now.group_len
+            (group_count self.now.group_len (length (R.blocks self.now.records.now))) (R.blocks self.now.records.now)) }
+    {
+        let groups = self.grouping().group_count();
+        let mut bits: usize = 0;
+        for g in 0..groups {
+            let count = self.hold_group(g, window);
+            let group = AreaGroup {
+                area: window,
+                stride: STRIDE,
+                first: 0,
+                count,
+            };
+            bits += store_write::plan_group(&group, g, kept);
+        }
+        bits
+    }
+
+    // Writes the store, whose groups are planned and whose bits take so many bytes, from the front of `out` on. Returns its length.
+    fn write(
+        &self,
+        bits: usize,
+        window: &mut [u64],
+        kept: &[u64],
+        out: &mut [u8],
+    ) -> Result<usize, Refusal>
+        requires { (block_list_no (R.blocks self.now.records.now) ≡ 0)
+            × (3 * min self.now.group_len (length (R.blocks self.now.records.now)) ≤ length window.old)
+            × (bits ≡ length (addrs best_slope self.now.group_len
+            (group_count self.now.group_len (length (R.blocks self.now.records.now))) (R.blocks self.now.records.now)))
+            × StandsAt kept.now 0 (plans best_slope self.now.group_len
+            (group_count self.now.group_len (length (R.blocks self.now.records.now))) (R.blocks self.now.records.now)) }
+        ensures stored { stored_answer result ≡ slice_stored_by self.now.group_len (R.blocks self.now.records.now) out.old }
+        ensures bytes { out.new ≡ slice_out_by self.now.group_len (R.blocks self.now.records.now) out.old }
+    {
+        let groups = self.grouping().group_count();
+        let metas = META_LEN * groups;
+        let len = 8 + metas + bits;
+        if out.len() < len {
+            return Err(Refusal::OutShort);
+        }
+        serialize::serialize_u64(out, 0, metas as u64);
+        let mut offset: usize = 0;
+        for g in 0..groups {
+            let count = self.hold_group(g, window);
+            let group = AreaGroup {
+                area: window,
+                stride: STRIDE,
+                first: 0,
+                count,
+            };
+            let place = GroupPlace {
+                meta_at: 8 + META_LEN * g,
+                at: 8 + metas + offset,
+                offset,
+            };
+            offset += store_write::write_group(&group, g, kept, place, out);
+        }
+        Ok(len)
+    }
+
+    // Writes the store of the records from the front of `out` on, with lent areas for a group's records and for the plans. Returns the
+    // store's length.
+    pub fn serialize(
+        &self,
         window: &mut [u64],
         kept: &mut [u64],
         out: &mut [u8],
-    ) -> BlockAddrStoreWriter
-        requires { Handed self block window.old kept.old out.old }
-        ensures { Advances self block window.old kept.old out.old result window.new
-            kept.new out.new }
+    ) -> Result<usize, Refusal>
+        requires { Rooms self.now.group_len (length (R.blocks self.now.records.now)) window.old kept.old }
+        ensures stored { stored_answer result ≡ slice_stored_by self.now.group_len (R.blocks self.now.records.now) out.old }
+        ensures bytes { out.new ≡ slice_out_by self.now.group_len (R.blocks self.now.records.now) out.old }
     {
-        let filled = self.hold(block, window);
-        if filled.held < filled.group_len {
-            if filled.next < filled.n {
-                return filled;
-            }
-        }
-        let flushed = filled.flush_block(window, kept, out);
-        if flushed.next < flushed.n {
-            return flushed;
-        }
-        flushed.end_round(out)
-    }
-
-    // How many records come before the last one of their group or of the list.
-    pub fn before_last(self) -> usize
-        requires { (self.held < self.group_len) × (self.next < self.n) }
-        ensures { (self.held + result < self.group_len) × (self.next + result < self.n) }
-    {
-        let group = self.group_len - self.held - 1;
-        let list = self.n - self.next - 1;
-        if group < list { group } else { list }
-    }
-
-    // Puts the record into the window; in the first round it is looked at too.
-    pub fn hold(self, block: BlockAddr, window: &mut [u64]) -> BlockAddrStoreWriter
-        requires { (3 * self.held + 3 ≤ length window.old) × (self.next < self.n) }
-        ensures { (result ≡ held_with self block) × (window.new ≡ put_record block (3 * self.held) window.old) }
-    {
-        let at = STRIDE * self.held;
-        window[at] = block.start;
-        window[at + END] = block.end;
-        window[at + FIRST_ORDINAL] = block.first_ordinal;
-        let mut filled = self;
-        if !self.writing {
-            let seen = self.seen;
-            let with = seen.with(block);
-            filled.seen = with;
-        }
-        filled.held = self.held + 1;
-        filled.next = self.next + 1;
-        filled
-    }
-
-    // Takes the records in the window as a group: plans it as long as no row is hit, or writes it.
-    fn flush_block(self, window: &[u64], kept: &mut [u64], out: &mut [u8]) -> BlockAddrStoreWriter
-        requires { (self.g < self.n) × (self.writing ≡ true → Writable self window.now kept.old out.old)
-            × (self.writing ≡ false → seen_number self.seen self.n ≡ 0 → Plannable self window.now kept.old) }
-        ensures { Flushed self window.now kept.old out.old result kept.new
-            out.new }
-    {
-        let mut flushed = self;
-        flushed.held = 0;
-        flushed.g = self.g + 1;
-        if self.writing {
-            let len = store_write::write_group(
-                window,
-                STRIDE,
-                0,
-                self.held,
-                self.g,
-                kept,
-                8 + META_LEN * self.g,
-                self.addrs + self.offset,
-                self.offset,
-                out,
-            );
-            flushed.offset = self.offset + len;
-            return flushed;
-        }
-        let seen = self.seen;
-        if seen.no(self.n) == 0 {
-            let len = store_write::plan_group(window, STRIDE, 0, self.held, self.g, kept);
-            flushed.offset = self.offset + len;
-        }
-        flushed
-    }
-
-    // After the last record: the first round answers a row, or begins the second.
-    fn end_round(self, out: &mut [u8]) -> BlockAddrStoreWriter
-        requires { self.writing ≡ false → seen_number self.seen self.n ≡ 0 → FewGroups self }
-        ensures { RoundEnded self out.old result out.new }
-    {
-        if self.writing {
-            return self.ended(0, self.len);
-        }
-        let seen = self.seen;
-        let no = seen.no(self.n);
-        if no != 0 {
-            return self.ended(no, 0);
-        }
-        let metas = META_LEN * self.g;
-        let len = 8 + metas + self.offset;
-        if out.len() < len {
-            return self.ended(OUT_SHORT, 0);
-        }
-        serialize::serialize_u64(out, 0, metas as u64);
-        if self.n == 0 {
-            return self.ended(0, len);
-        }
-        self.second_round(len)
-    }
-
-    fn ended(self, no: u32, len: usize) -> BlockAddrStoreWriter
-        ensures { result ≡ ended_with self no len }
-    {
-        let mut ended = self;
-        ended.done = true;
-        ended.no = no;
-        ended.len = len;
-        ended
-    }
-
-    // Before the first record again, with the store's length known.
-    fn second_round(self, len: usize) -> BlockAddrStoreWriter
-        requires { self.offset ≤ len }
-        ensures { result ≡ second_round self len }
-    {
-        let mut writer = self;
-        writer.writing = true;
-        writer.next = 0;
-        writer.len = len;
-        writer.g = 0;
-        writer.offset = 0;
-        writer.addrs = len - self.offset;
-        writer
+        self.check_rows()?;
+        let bits = self.plan(window, kept);
+        self.write(bits, window, kept, out)
     }
 }

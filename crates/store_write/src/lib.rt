@@ -1,142 +1,144 @@
 // Writing a store over a lent area: planned group by group, then written.
 #![tactic(auto)]
 
-ghost use Rattle.std.specs.Prelude.{◌≡◌, ◌+◌, ◌*◌, ◌≤◌, length};
+ghost use Rattle.std.specs.Prelude.{◌≡◌, ◌+◌, ◌*◌, ◌≤◌, ◌<◌, length};
 ghost use Rattle.std.proofs.lemmas.List.Edits.{sets};
 ghost use Rattle.slope.specs.Slope.{best_slope};
-ghost use Rattle.group.specs.Blocks.{blocks_at};
-ghost use Rattle.group.specs.Facts.{GroupArea};
+ghost use Rattle.group_write.specs.Group.{blocks_of};
 ghost use Rattle.store.specs.Store.{group_count, group_record, group_addrs, store_bytes};
 ghost use Rattle.store.specs.Plans.{group_plan, plans, StandsAt};
 ghost use Rattle.store.specs.Facts.{GroupLenOk, StoreArea};
 
+use group_write::AreaGroup;
 use layout::META_LEN;
-use store::grouping;
+use slope::Slope;
+use store::grouping::Grouping;
 
 // The numbers that are kept of a group's plan.
 const PLAN_LEN: usize = 2;
 
-// Plans group g, the `count` blocks of the area from block `first` on. Returns how many bytes its bits take.
-pub fn plan_group(
-    area: &[u64],
-    stride: usize,
-    first: usize,
-    count: usize,
-    g: usize,
-    kept: &mut [u64],
-) -> usize
-    requires { GroupArea area.now stride first count × (2 * g + 2 ≤ length kept.old) }
-    ensures { (result ≡ length (group_addrs best_slope (blocks_at area.now stride first count)))
-        × (kept.new ≡ sets kept.old (2 * g) (group_plan best_slope (blocks_at area.now stride first count))) }
+// Plans group g. Returns how many bytes its bits take.
+pub fn plan_group(group: &AreaGroup, g: usize, kept: &mut [u64]) -> usize
+    requires { 2 * g + 2 ≤ length kept.old }
+    ensures { (result ≡ length (group_addrs best_slope (blocks_of group.now)))
+        × (kept.new ≡ sets kept.old (2 * g) (group_plan best_slope (blocks_of group.now))) }
 {
-    let meta = group_write::plan_block(area, stride, first, count, 0);
+    let meta = group.plan_block(0);
+    let range = Slope {
+        slope: meta.range_start_slope,
+        nbits: meta.range_start_nbits,
+    };
+    let ordinal = Slope {
+        slope: meta.first_ordinal_slope,
+        nbits: meta.first_ordinal_nbits,
+    };
     let at = PLAN_LEN * g;
-    kept[at] = group_write::packed(meta.range_start_slope, meta.range_start_nbits);
-    kept[at + 1] = group_write::packed(meta.first_ordinal_slope, meta.first_ordinal_nbits);
-    group::bits::addr_len(meta)
+    kept[at] = range.packed();
+    kept[at + 1] = ordinal.packed();
+    meta.addr_len()
 }
 
-// Plans all groups. Returns how many bytes the store takes.
-pub fn plan_store(
-    area: &[u64],
-    stride: usize,
-    n: usize,
-    group_len: usize,
-    kept: &mut [u64],
-) -> usize
-    requires { StoreArea area.now stride n × GroupLenOk group_len × (2 * group_count group_len n ≤ length kept.old) }
-    ensures { (result ≡ length (store_bytes best_slope group_len (blocks_at area.now stride 0 n)))
-        × (kept.new ≡ sets kept.old 0
-        (plans best_slope group_len (group_count group_len n) (blocks_at area.now stride 0 n))) }
-{
-    let mut len: usize = 0;
-    let mut g: usize = 0;
-    let mut first: usize = 0;
-    while first < n {
-        let count = grouping::blocks_from(first, n, group_len);
-        len += plan_group(area, stride, first, count, g, kept);
-        g += 1;
-        first += count;
-    }
-    8 + META_LEN * g + len
+// Where a group is written: its record from `meta_at` on and its bits from `at` on, which is `offset` among all address bytes.
+#[derive(Clone, Copy)]
+pub struct GroupPlace {
+    pub meta_at: usize,
+    pub at: usize,
+    pub offset: usize,
+    pub ghost apart: { meta_at + 36 ≤ at },
 }
 
-// Writes the record of group g, which was planned, from `meta_at` on and its bits from `at` on. Returns how many bytes the bits take.
+// Writes group g, which was planned. Returns how many bytes its bits take.
 pub fn write_group(
-    area: &[u64],
-    stride: usize,
-    first: usize,
-    count: usize,
+    group: &AreaGroup,
     g: usize,
     kept: &[u64],
-    meta_at: usize,
-    at: usize,
-    offset: usize,
+    place: GroupPlace,
     out: &mut [u8],
 ) -> usize
-    requires { GroupArea area.now stride first count
-        × StandsAt kept.now (2 * g) (group_plan best_slope (blocks_at area.now stride first count)) × (meta_at + 36 ≤ at)
-        × (at + length (group_addrs best_slope (blocks_at area.now stride first count)) ≤ length out.old) }
-    ensures { (result ≡ length (group_addrs best_slope (blocks_at area.now stride first count)))
-        × (out.new ≡ sets (sets out.old meta_at
-        (group_record best_slope offset (blocks_at area.now stride first count))) at
-        (group_addrs best_slope (blocks_at area.now stride first count))) }
+    requires { StandsAt kept.now (2 * g) (group_plan best_slope (blocks_of group.now))
+        × (place.at + length (group_addrs best_slope (blocks_of group.now)) ≤ length out.old) }
+    ensures { (result ≡ length (group_addrs best_slope (blocks_of group.now)))
+        × (out.new ≡ sets (sets out.old place.meta_at (group_record best_slope place.offset (blocks_of group.now))) place.at
+        (group_addrs best_slope (blocks_of group.now))) }
 {
     let plan = PLAN_LEN * g;
-    let range = kept[plan];
-    let ordinal = kept[plan + 1];
-    let meta = group_write::planned_block(
-        range,
-        ordinal,
-        area,
-        stride,
-        first,
-        count,
-        offset as u64,
-    );
-    group::meta::serialize(meta, &mut out[meta_at..], 0);
-    group_write::flush_block(meta, area, stride, first, count, &mut out[at..])
+    let meta = group.planned_block(kept[plan], kept[plan + 1], place.offset as u64);
+    meta.serialize(&mut out[place.meta_at..], 0);
+    group.flush_block(meta, &mut out[place.at..])
 }
 
-// Writes the store, which was planned, from the front of `out` on. Returns its length.
-pub fn serialize(
-    area: &[u64],
-    stride: usize,
-    n: usize,
-    group_len: usize,
-    kept: &[u64],
-    out: &mut [u8],
-) -> usize
-    requires { StoreArea area.now stride n × GroupLenOk group_len
-        × StandsAt kept.now 0 (plans best_slope group_len (group_count group_len n) (blocks_at area.now stride 0 n))
-        × (length (store_bytes best_slope group_len (blocks_at area.now stride 0 n)) ≤ length out.old) }
-    ensures value { result ≡ length (store_bytes best_slope group_len (blocks_at area.now stride 0 n)) }
-    ensures out_after { out.new
-        ≡ sets out.old 0 (store_bytes best_slope group_len (blocks_at area.now stride 0 n)) }
-{
-    let metas = META_LEN * grouping::group_count(n, group_len);
-    serialize::serialize_u64(out, 0, metas as u64);
-    let addrs = 8 + metas;
-    let mut g: usize = 0;
-    let mut offset: usize = 0;
-    let mut first: usize = 0;
-    while first < n {
-        let count = grouping::blocks_from(first, n, group_len);
-        let len = write_group(
-            area,
-            stride,
-            first,
-            count,
-            g,
-            kept,
-            8 + META_LEN * g,
-            addrs + offset,
-            offset,
-            out,
-        );
-        offset += len;
-        g += 1;
-        first += count;
+// The blocks of a store in a lent area: the n legal ones at its front, with `stride` numbers each, in groups of `group_len`.
+#[derive(Clone, Copy)]
+pub struct AreaStore<'a> {
+    pub area: &'a [u64],
+    pub stride: usize,
+    pub n: usize,
+    pub group_len: usize,
+    pub ghost ok: { StoreArea area.now stride n × GroupLenOk group_len },
+}
+
+impl<'a> AreaStore<'a> {
+    ghost use Rattle.store_write.specs.Blocks.{all_of, in_group};
+
+    fn grouping(&self) -> Grouping
+        ensures { (result.n ≡ self.now.n) × (result.group_len ≡ self.now.group_len) }
+    {
+        Grouping {
+            n: self.n,
+            group_len: self.group_len,
+        }
     }
-    addrs + offset
+
+    // Group g.
+    fn group(&self, g: usize) -> AreaGroup<'a>
+        requires { self.now.group_len * g < self.now.n }
+        ensures { blocks_of result ≡ in_group self.now g }
+    {
+        AreaGroup {
+            area: self.area,
+            stride: self.stride,
+            first: self.group_len * g,
+            count: self.grouping().blocks_in(g),
+        }
+    }
+
+    // Plans all groups. Returns how many bytes the store takes.
+    pub fn plan(&self, kept: &mut [u64]) -> usize
+        requires { 2 * group_count self.now.group_len self.now.n ≤ length kept.old }
+        ensures { (result ≡ length (store_bytes best_slope self.now.group_len (all_of self.now)))
+            × (kept.new ≡ sets kept.old 0
+            (plans best_slope self.now.group_len (group_count self.now.group_len self.now.n) (all_of self.now))) }
+    {
+        let groups = self.grouping().group_count();
+        let mut len: usize = 0;
+        for g in 0..groups {
+            len += plan_group(&self.group(g), g, kept);
+        }
+        8 + META_LEN * groups + len
+    }
+
+    // Writes the store, which was planned, from the front of `out` on. Returns its length.
+    pub fn serialize(&self, kept: &[u64], out: &mut [u8]) -> usize
+        requires { StandsAt kept.now 0 (plans best_slope self.now.group_len (group_count self.now.group_len self.now.n) (all_of self.now))
+            × (length (store_bytes best_slope self.now.group_len (all_of self.now)) ≤ length out.old) }
+        ensures value { result ≡ length (store_bytes best_slope self.now.group_len (all_of self.now)) }
+        ensures out_after { out.new
+            ≡ sets out.old 0 (store_bytes best_slope self.now.group_len (all_of self.now)) }
+    {
+        let groups = self.grouping().group_count();
+        let metas = META_LEN * groups;
+        serialize::serialize_u64(out, 0, metas as u64);
+        let addrs = 8 + metas;
+        let mut offset: usize = 0;
+        for g in 0..groups {
+            let place = GroupPlace {
+                meta_at: 8 + META_LEN * g,
+                at: addrs + offset,
+                offset,
+            };
+            let len = write_group(&self.group(g), g, kept, place, out);
+            offset += len;
+        }
+        addrs + offset
+    }
 }
