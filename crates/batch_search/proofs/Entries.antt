@@ -1,6 +1,6 @@
 -- Entries: what an ended search writes is exact, and an entry is unique.
 use mathlib.Core.Path.{◌≡◌, refl, sym, ◌∙◌}
-use mathlib.Core.Bool.{false, cond, true≢false}
+use mathlib.Core.Bool.{cond, true≢false}
 use mathlib.Core.List.{List}
 use mathlib.Core.Logic.{⊎_elim, inl, inr}
 use Prim.Native.Nat.{ℕ, ◌+◌, ◌≤◌, ◌<◌}
@@ -12,11 +12,12 @@ use lib.Seq.{get_or-set_same, get_or-set_other}
 use borrow.Author.Tests.{eqb-true, eqb-false}
 use Rattle.keys.specs.Order.{◌≺◌}
 use Rattle.keys.proofs.Order.{by-test}
-use Rattle.directory.specs.Read.{Sorted, key_of, First, found_no, FoundIn, FoundAs}
-use Rattle.directory.specs.declared.Found.{Found}
-use Rattle.directory.specs.declared.Found.TheVariants.{At, Above, Outside}
+use Rattle.directory.specs.Read.{Sorted, key_of, First, FoundIn, FoundAs}
+use Rattle.std.specs.Prelude.{Result, Ok, Err}
+use Rattle.layout.specs.declared.refusals.Refusal.{Refusal}
 use Rattle.directory.proofs.Reader.{first-unique}
 use Rattle.batch_search.specs.Entries.{EntryIn, EntryExact, no_id, found_entry}
+use Rattle.key_list.specs.KeyList.{key_list_key}
 use Rattle.batch_search.specs.Lanes.{LaneOk}
 
 -- ---- an entry is unique
@@ -56,23 +57,16 @@ module _ (d : List ℕ) (n : ℕ) (key : List ℕ) (left low high : ℕ) (ok : L
 
 -- ---- what one search after the other finds
 
-pub found_in : (n : ℕ) (search : Found) → FoundIn n search → eqb (found_no search) 20 ≡ false → EntryIn n (found_entry search)
+pub found_in : (n : ℕ) (search : Result ℕ Refusal) → FoundIn n search → EntryIn n (found_entry search)
 unfolding FoundIn
-found_in n (At i) h e = inl h
-found_in n Above h e = inr refl
-found_in n Outside h e = inr refl
+found_in n (Ok i) h = inl h
+found_in n (Err refusal) h = inr refl
 
-pub found-ends : (f : ℕ → List ℕ) (n : ℕ) (key : List ℕ) (search : Found) → FoundAs f n key search → eqb (found_no search) 20 ≡ false
+pub found-exact : (f : ℕ → List ℕ) (n : ℕ) (key : List ℕ) (search : Result ℕ Refusal) → FoundAs f n key search
+    → EntryExact f n key (found_entry search)
 unfolding FoundAs
-found-ends f n key (At i) h = refl
-found-ends f n key Above h = refl
-found-ends f n key Outside h = absurd h
-
-pub found-exact : (f : ℕ → List ℕ) (n : ℕ) (key : List ℕ) (search : Found) → FoundAs f n key search → EntryExact f n key (found_entry search)
-unfolding FoundAs
-found-exact f n key (At i) h = inl h
-found-exact f n key Above h = inr (refl, h)
-found-exact f n key Outside h = absurd h
+found-exact f n key (Ok i) h = inl h
+found-exact f n key (Err refusal) h = inr (refl, h.1)
 
 -- ---- places written one after the other
 
@@ -88,3 +82,7 @@ module _ (P : ℕ → ℕ → Type 0) (l : List ℕ) where
       (λ (e : j ≡ i). rw (e, get_or-set_same l i x 0 h) q)
       (λ (m : j < i). rw (get_or-set_other l i j x 0 (λ (z : j ≡ i). let y : ⊥ = omega arith in y)) (p j m))
       (eq-or-lt_of_le g')
+
+-- what is known of the entry at place j
+abbrev pub EntryOk : List ℕ → ℕ → List ℕ → List ℕ → ℕ → ℕ → Type 0
+EntryOk d n pairs bytes j x = EntryIn n x × (Sorted d n → EntryExact (key_of d n) n (key_list_key pairs bytes j) x)

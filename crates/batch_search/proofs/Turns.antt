@@ -7,7 +7,7 @@ use Prim.Native.Nat.{ℕ, zero, suc, ◌+◌, ◌-◌, ◌/◌, ◌≤◌, ◌<�
 use native.Mathlib.Nat.{eq-or-lt_of_le}
 use native.Mathlib.Omega.{arith}
 use lib.Dec.{eqb, ltb}
-use lib.ListN.{length, get_or, set, replicate, length-set}
+use lib.ListN.{get_or, set, replicate, length-set}
 use lib.Seq.{get_or-set_same, get_or-set_other}
 use borrow.Author.Tests.{lt-ltb, le-ltb, ltb-true, ltb-false, eqb-true, eqb-false}
 use Rattle.keys.specs.Order.{less, ◌≺◌, ◌≼◌, common_prefix_len}
@@ -16,7 +16,8 @@ use Rattle.directory.specs.Read.{Sorted, key_of}
 use Rattle.directory.proofs.Reader.{keys-rise, all-below, shared-below, shared-above}
 use Rattle.directory.proofs.Search.{lesser-shared}
 use Rattle.key_list.specs.KeyList.{key_list_count, key_list_key}
-use Rattle.batch_search.specs.Lanes.{LaneOk, LanesOk}
+use Rattle.batch_search.specs.Lanes.{LaneOk, Keeps, fresh, LanesOk}
+use Rattle.batch_search.specs.declared.lanes.Lane.{Lane}
 
 -- before the first turn
 pub lane-fresh : (d : List ℕ) (n : ℕ) (key : List ℕ) → LaneOk d n key n 0 0 0
@@ -98,66 +99,52 @@ same-side i m ne =
     (λ t. lt-ltb i (m + 1) (omega (arith, ltb-true i m t)) ∙ sym t)
     (λ f. le-ltb i (m + 1) (omega (arith, ltb-false i m f)) ∙ sym f)
 
--- the arrays that they begin with
-pub zero-at : (k i : ℕ) → ◌≡◌ {A = ℕ} (get_or (replicate k 0) i 0) 0
-zero-at zero i = refl
-zero-at (suc k) zero = refl
-zero-at (suc k) (suc i) = zero-at k i
+-- the lanes that they begin with
+fresh-at : (k i : ℕ) → ◌≡◌ {A = Lane} (get_or (replicate k fresh) i fresh) fresh
+fresh-at zero i = refl
+fresh-at (suc k) zero = refl
+fresh-at (suc k) (suc i) = fresh-at k i
 
 -- before the first turn of each
-pub lanes-fresh : (d : List ℕ) (n : ℕ) (pairs bytes : List ℕ) (l : List ℕ) → length l ≡ 64 → ((i : ℕ) → get_or l i 0 ≡ 0) → LanesOk d n pairs bytes 0 n l l l
-lanes-fresh d n pairs bytes l long z =
+pub lanes-fresh : (d : List ℕ) (n : ℕ) (pairs bytes : List ℕ) → LanesOk d n pairs bytes 0 n (replicate 64 fresh)
+lanes-fresh d n pairs bytes =
     record {
-      lefts-long = long;
-      lows-long = long;
-      highs-long = long;
-      each = λ i h. rw (z i, le-ltb i 0 (omega arith)) (lane-fresh d n (key_list_key pairs bytes i));
+      long = refl;
+      each = λ i h. rw (fresh-at 64 i, le-ltb i 0 (omega arith)) (lane-fresh d n (key_list_key pairs bytes i));
     }
 
 -- when nothing is left to any
-pub lanes-ended : (d : List ℕ) (n : ℕ) (pairs bytes lefts lows highs : List ℕ) → LanesOk d n pairs bytes 0 0 lefts lows highs
-    → (i : ℕ) → i < key_list_count pairs → LaneOk d n (key_list_key pairs bytes i) 0 (get_or lefts i 0) (get_or lows i 0) (get_or highs i 0)
-lanes-ended d n pairs bytes lefts lows highs p i h = rw (le-ltb i 0 (omega arith)) at (p.each i h)
+pub lanes-ended : (d : List ℕ) (n : ℕ) (pairs bytes : List ℕ) (lanes : List Lane) → LanesOk d n pairs bytes 0 0 lanes
+    → (i : ℕ) → i < key_list_count pairs → Keeps d n (key_list_key pairs bytes i) 0 (get_or lanes i fresh)
+lanes-ended d n pairs bytes lanes p i h = rw (le-ltb i 0 (omega arith)) at (p.each i h)
 
 module _ (d : List ℕ) (n : ℕ) (pairs bytes : List ℕ) (len : ℕ) where
   -- the search whose turn is next
-  pub lane-next : (m : ℕ) (lefts lows highs : List ℕ) → LanesOk d n pairs bytes m len lefts lows highs → m < key_list_count pairs
-      → LaneOk d n (key_list_key pairs bytes m) len (get_or lefts m 0) (get_or lows m 0) (get_or highs m 0)
-  lane-next m lefts lows highs p h = rw (le-ltb m m (omega arith)) at (p.each m h)
+  pub lane-next : (m : ℕ) (lanes : List Lane) → LanesOk d n pairs bytes m len lanes → m < key_list_count pairs
+      → Keeps d n (key_list_key pairs bytes m) len (get_or lanes m fresh)
+  lane-next m lanes p h = rw (le-ltb m m (omega arith)) at (p.each m h)
 
   -- when all have taken their turn
-  pub lanes-done : (lefts lows highs : List ℕ) → LanesOk d n pairs bytes (key_list_count pairs) len lefts lows highs
-      → LanesOk d n pairs bytes 0 (len / 2) lefts lows highs
-  lanes-done lefts lows highs p =
+  pub lanes-done : (lanes : List Lane) → LanesOk d n pairs bytes (key_list_count pairs) len lanes → LanesOk d n pairs bytes 0 (len / 2) lanes
+  lanes-done lanes p =
       record {
-        lefts-long = p.lefts-long;
-        lows-long = p.lows-long;
-        highs-long = p.highs-long;
+        long = p.long;
         each = λ i h. rw (le-ltb i 0 (omega arith)) (rw (lt-ltb i (key_list_count pairs) h) at (p.each i h));
       }
 
   -- after the turn of search m
-  pub lanes_next : (m left low high : ℕ) (lefts lows highs : List ℕ) → LanesOk d n pairs bytes m len lefts lows highs → m < 64
-      → LaneOk d n (key_list_key pairs bytes m) (len / 2) left low high
-      → LanesOk d n pairs bytes (m + 1) len (set lefts m left) (set lows m low) (set highs m high)
-  lanes_next m left low high lefts lows highs p g q =
+  pub lanes_next : (m : ℕ) (lane : Lane) (lanes : List Lane) → LanesOk d n pairs bytes m len lanes → m < 64
+      → Keeps d n (key_list_key pairs bytes m) (len / 2) lane → LanesOk d n pairs bytes (m + 1) len (set lanes m lane)
+  lanes_next m lane lanes p g q =
       record {
-        lefts-long = length-set lefts m left ∙ p.lefts-long;
-        lows-long = length-set lows m low ∙ p.lows-long;
-        highs-long = length-set highs m high ∙ p.highs-long;
+        long = length-set lanes m lane ∙ p.long;
         each =
             λ i h.
             by-test (eqb i m)
             (λ t.
             let e = eqb-true i m t in
-            rw (
-              e,
-              lt-ltb m (m + 1) (omega arith),
-              get_or-set_same lefts m left 0 (omega (arith, p.lefts-long)),
-              get_or-set_same lows m low 0 (omega (arith, p.lows-long)),
-              get_or-set_same highs m high 0 (omega (arith, p.highs-long)),
-            ) q)
+            rw (e, lt-ltb m (m + 1) (omega arith), get_or-set_same lanes m lane fresh (omega (arith, p.long))) q)
             (λ f.
             let ne = eqb-false i m f in
-            rw (get_or-set_other lefts m i left 0 ne, get_or-set_other lows m i low 0 ne, get_or-set_other highs m i high 0 ne, same-side i m ne) (p.each i h));
+            rw (get_or-set_other lanes m i lane fresh ne, same-side i m ne) (p.each i h));
       }

@@ -1,10 +1,9 @@
--- The entries of a list of keys (document 02, wish 1): a block's id for each, or none.
-use Rattle.std.specs.Prelude.{ℕ, ◌-◌, ◌^◌, ◌<◌, ◌≡◌, List, ◌⊎◌, Bool, true, length, get_or}
+-- The entries of a list of keys: a block's id for each, or none.
+use Rattle.std.specs.Prelude.{ℕ, ◌-◌, ◌^◌, ◌<◌, ◌≡◌, List, ◌⊎◌, Bool, true, false, length, get_or, Result, Ok, Err}
 use Rattle.layout.specs.Layout.{max_batch_keys}
 use Rattle.keys.specs.Order.{◌≺◌}
 use Rattle.directory.specs.Read.{First, Sorted, key_of}
-use Rattle.directory.specs.declared.Found.{Found}
-use Rattle.directory.specs.declared.Found.TheVariants.{At, Above, Outside}
+use Rattle.layout.specs.declared.refusals.Refusal.{Refusal}
 use Rattle.key_list.specs.KeyList.{key_list_count, key_list_key}
 
 -- the entry of a key that has no block
@@ -19,10 +18,14 @@ abbrev pub EntryExact : (ℕ → List ℕ) → ℕ → List ℕ → ℕ → Type
 EntryExact separator n key e = First separator n key e ⊎ ((e ≡ no_id) × ((i : ℕ) → i < n → separator i ≺ key))
 
 -- the entry of what a key's search found; where it met a key outside the bytes, none is written
-abbrev pub found_entry : Found → ℕ
-found_entry (At i) = i
-found_entry Above = no_id
-found_entry Outside = no_id
+abbrev pub found_entry : Result ℕ Refusal → ℕ
+found_entry (Ok i) = i
+found_entry (Err refusal) = no_id
+
+-- all searches ended at keys inside the directory
+abbrev pub ended : Result Unit Refusal → Bool
+ended (Ok done) = true
+ended (Err refusal) = false
 
 -- what the searches for the keys of a list leave in `found`, where all of them ended at keys inside the directory d (r)
 pub record EntriesFound (d : List ℕ) (n : ℕ) (pairs bytes found : List ℕ) (r : Bool) : Type 0 where

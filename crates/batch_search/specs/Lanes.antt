@@ -4,6 +4,7 @@ use Rattle.layout.specs.Layout.{max_batch_keys}
 use Rattle.keys.specs.Order.{◌≺◌, ◌≼◌, common_prefix_len}
 use Rattle.directory.specs.Read.{Sorted, key_of}
 use Rattle.key_list.specs.KeyList.{key_list_count, key_list_key}
+use Rattle.batch_search.specs.declared.lanes.Lane.{Lane}
 
 -- one search: keys before `left` are below the key, that at left + len isn't. Keys from left on that aren't above the key share
 -- `low` bytes with it, and keys before left + len that aren't below it share `high`.
@@ -14,10 +15,16 @@ pub record LaneOk (d : List ℕ) (n : ℕ) (key : List ℕ) (len left low high :
   pub low-shared : Sorted d n → (i : ℕ) → left ≤ i → i < n → key_of d n i ≼ key → low ≤ common_prefix_len (key_of d n i) key
   pub high-shared : Sorted d n → (i : ℕ) → i < left + len → key ≼ key_of d n i → high ≤ common_prefix_len (key_of d n i) key
 
+-- a lane as the code has it
+abbrev pub Keeps : List ℕ → ℕ → List ℕ → ℕ → Lane → Type 0
+Keeps d n key len lane = LaneOk d n key len lane.left lane.low lane.high
+
+-- a search that hasn't begun
+abbrev pub fresh : Lane
+fresh = record { left = 0; low = 0; high = 0 }
+
 -- all searches, of which the first m have taken the turn that halves `len`
-pub record LanesOk (d : List ℕ) (n : ℕ) (pairs bytes : List ℕ) (m len : ℕ) (lefts lows highs : List ℕ) : Type 0 where
-  pub lefts-long : length lefts ≡ max_batch_keys
-  pub lows-long : length lows ≡ max_batch_keys
-  pub highs-long : length highs ≡ max_batch_keys
+pub record LanesOk (d : List ℕ) (n : ℕ) (pairs bytes : List ℕ) (m len : ℕ) (lanes : List Lane) : Type 0 where
+  pub long : length lanes ≡ max_batch_keys
   pub each : (i : ℕ) → i < key_list_count pairs
-      → LaneOk d n (key_list_key pairs bytes i) (cond (ltb i m) (len / 2) len) (get_or lefts i 0) (get_or lows i 0) (get_or highs i 0)
+      → Keeps d n (key_list_key pairs bytes i) (cond (ltb i m) (len / 2) len) (get_or lanes i fresh)

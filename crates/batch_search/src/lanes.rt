@@ -4,12 +4,15 @@ ghost use Rattle.std.specs.Prelude.{◌≡◌, true, false, cond, ℕ, ◌+◌, 
 ghost use Rattle.layout.specs.Layout.{max_blocks, max_batch_keys};
 ghost use Rattle.keys.specs.Order.{less, common_prefix_len};
 ghost use Rattle.directory.specs.Read.{key_outside, Sorted};
-ghost use Rattle.key_list.specs.KeyList.{KeyListOk};
-ghost use Rattle.batch_search.specs.Entries.{no_id, EntriesFound};
-ghost use Rattle.batch_search.specs.Lanes.{LaneOk, LanesOk};
+ghost use Rattle.layout.specs.Refusals.{no_of};
+ghost use Rattle.batch_search.specs.Entries.{no_id, ended, EntriesFound};
+ghost use Rattle.batch_search.specs.Lanes.{Keeps, LanesOk, fresh};
 
 use crate::NO_ID;
+use directory_read::Directory;
+use key_list::KeyList;
 use layout::MAX_BATCH_KEYS;
+use layout::refusals::Refusal;
 
 // A search: its left bound, and how many bytes the keys around its bounds share with its key.
 #[derive(Clone, Copy)]
@@ -53,117 +56,106 @@ fn shared_len(at: &[u8], key: &[u8], from: usize) -> usize
     ensures { from ≤ common_prefix_len at.now key.now
         → result ≡ common_prefix_len at.now key.now }
 {
-    let near = keys::common_prefix_near(at, key, from);
-    if near.ends {
-        return near.len;
-    }
-    keys::common_prefix_len_by_runs(at, key, near.len)
-}
-
-// One turn of a search over `len` keys, which leaves it len / 2.
-fn turn(directory: &[u8], n: usize, key: &[u8], len: usize, lane: Lane) -> Lane
-    requires { (n ≤ max_blocks) × (1 ≤ len) × (key_outside directory.now n (lane.left + (len - len / 2) - 1) ≡ false)
-        × LaneOk directory.now n key.now len lane.left lane.low lane.high }
-    ensures { LaneOk directory.now n key.now (len / 2) result.left result.low result.high }
-{
-    let half = len - len / 2;
-    let at = directory_read::key(directory, n, lane.left + half - 1);
-    let skip = keys::lesser(lane.low, lane.high);
-    let shared = shared_len(at, key, skip);
-    let right = not_below(at, key, shared);
-    Lane {
-        left: lane.left + pick(right, half, 0),
-        low: pick(right, shared, lane.low),
-        high: pick(right, lane.high, shared),
+    match keys::common_prefix_near(at, key, from) {
+        Ok(len) => len,
+        Err(least) => keys::common_prefix_len_by_runs(at, key, least),
     }
 }
 
-// A turn of each search; false where one meets a key outside the directory.
-fn round(
-    directory: &[u8],
-    n: usize,
-    pairs: &[u64],
-    keys: &[u8],
-    len: usize,
-    lefts: &mut [usize; MAX_BATCH_KEYS],
-    lows: &mut [usize; MAX_BATCH_KEYS],
-    highs: &mut [usize; MAX_BATCH_KEYS],
-) -> bool
-    requires { (n ≤ max_blocks) × (1 ≤ len) × KeyListOk max_batch_keys pairs.now (length keys.now)
-        × LanesOk directory.now n pairs.now keys.now 0 len lefts.old lows.old highs.old }
-    ensures { (result ≡ true → LanesOk directory.now n pairs.now keys.now 0 (len / 2)
-        lefts.new lows.new highs.new) × (Sorted directory.now n → result ≡ true) }
-{
-    let count = pairs.len() / 2;
-    let half = len - len / 2;
-    let mut i: usize = 0;
-    while i < count {
-        let lane = Lane {
-            left: lefts[i],
-            low: lows[i],
-            high: highs[i],
-        };
-        if directory_read::key_outside(directory, n, lane.left + half - 1) {
-            return false;
+impl Lane {
+    // One turn of a search over `len` keys, which leaves it len / 2.
+    fn turn(self, directory: Directory, key: &[u8], len: usize) -> Lane
+        requires { (1 ≤ len) × (key_outside directory.bytes.now directory.n (self.left + (len - len / 2) - 1) ≡ false)
+            × Keeps directory.bytes.now directory.n key.now len self }
+        ensures { Keeps directory.entry.bytes.now directory.entry.n key.now (len / 2) result }
+    {
+        let half = len - len / 2;
+        let at = directory.key(self.left + half - 1);
+        let skip = self.low.min(self.high);
+        let shared = shared_len(at, key, skip);
+        let right = not_below(at, key, shared);
+        Lane {
+            left: self.left + pick(right, half, 0),
+            low: pick(right, shared, self.low),
+            high: pick(right, self.high, shared),
         }
-        let next = turn(directory, n, key_list::nth_key(pairs, keys, i), len, lane);
-        lefts[i] = next.left;
-        lows[i] = next.low;
-        highs[i] = next.high;
-        i += 1;
     }
-    true
+
+    // The entry of a search at its end.
+    fn entry(self, n: usize) -> u64
+        ensures { result ≡ cond (eqb self.left n) no_id self.left }
+    {
+        if self.left == n {
+            NO_ID
+        } else {
+            self.left as u64
+        }
+    }
 }
 
-// The entry of a search at its end.
-fn entry_at(left: usize, n: usize) -> u64
-    ensures { result ≡ cond (eqb left n) no_id left }
+// A turn of each search; refused where one meets a key outside the directory.
+fn round(
+    directory: Directory,
+    list: &KeyList,
+    len: usize,
+    lanes: &mut [Lane; MAX_BATCH_KEYS],
+) -> Result<(), Refusal>
+    requires { (1 ≤ len)
+        × LanesOk directory.bytes.now directory.n list.now.pairs.now list.now.keys.now 0 len lanes.old }
+    ensures kept { ended result ≡ true
+        → LanesOk directory.entry.bytes.now directory.entry.n list.now.pairs.now list.now.keys.now 0 (len / 2) lanes.new }
+    ensures ends { Sorted directory.entry.bytes.now directory.entry.n → ended result ≡ true }
+    ensures number { no_of result ≡ cond (ended result) 0 20 }
 {
-    if left == n { NO_ID } else { left as u64 }
+    let half = len - len / 2;
+    for i in 0..list.len() {
+        let lane = lanes[i];
+        if directory.key_outside(lane.left + half - 1) {
+            return Err(Refusal::Unfit);
+        }
+        lanes[i] = lane.turn(directory, list.nth(i), len);
+    }
+    Ok(())
 }
 
 // The entries where every search is at its end.
 fn entries(
-    lefts: &[usize; MAX_BATCH_KEYS],
+    lanes: &[Lane; MAX_BATCH_KEYS],
     count: usize,
     n: usize,
     found: &mut [u64; MAX_BATCH_KEYS],
 )
-    requires { (count ≤ max_batch_keys) × (length found.old ≡ max_batch_keys) }
+    requires { (count ≤ max_batch_keys) × (length lanes.now ≡ max_batch_keys) × (length found.old ≡ max_batch_keys) }
     ensures { (length found.new ≡ max_batch_keys) × ((i : ℕ) → i < count
-        → get_or found.new i 0 ≡ cond (eqb (get_or lefts.now i 0) n) no_id (get_or lefts.now i 0)) }
+        → get_or found.new i 0 ≡ cond (eqb (get_or lanes.now i fresh).left n) no_id (get_or lanes.now i fresh).left) }
 {
-    let mut i: usize = 0;
-    while i < count {
-        found[i] = entry_at(lefts[i], n);
-        i += 1;
+    for i in 0..count {
+        found[i] = lanes[i].entry(n);
     }
 }
 
 // All searches, a turn each in every round.
 pub fn side_by_side(
-    directory: &[u8],
-    n: usize,
-    pairs: &[u64],
-    keys: &[u8],
+    directory: Directory,
+    list: &KeyList,
     found: &mut [u64; MAX_BATCH_KEYS],
-) -> bool
-    requires { (1 ≤ n) × (n ≤ max_blocks) × KeyListOk max_batch_keys pairs.now (length keys.now)
-        × (length found.old ≡ max_batch_keys) }
-    ensures { EntriesFound directory.now n pairs.now keys.now found.new result }
+) -> Result<(), Refusal>
+    requires { (length found.old ≡ max_batch_keys) }
+    ensures entries { EntriesFound directory.entry.bytes.now directory.entry.n list.now.pairs.now list.now.keys.now
+        found.new (ended result) }
+    ensures number { no_of result ≡ cond (ended result) 0 20 }
 {
-    let mut lefts = [0usize; MAX_BATCH_KEYS];
-    let mut lows = [0usize; MAX_BATCH_KEYS];
-    let mut highs = [0usize; MAX_BATCH_KEYS];
-    let mut len = n;
+    let mut lanes = [Lane {
+        left: 0,
+        low: 0,
+        high: 0,
+    }; MAX_BATCH_KEYS];
+    let mut len = directory.n;
+    // Halved from round to round: nothing is counted that a `for` could go over.
     while len > 0 {
-        if !round(
-            directory, n, pairs, keys, len, &mut lefts, &mut lows, &mut highs,
-        ) {
-            return false;
-        }
-        len = len / 2;
+        round(directory, list, len, &mut lanes)?;
+        len /= 2;
     }
-    entries(&lefts, pairs.len() / 2, n, found);
-    true
+    entries(&lanes, list.len(), directory.n, found);
+    Ok(())
 }

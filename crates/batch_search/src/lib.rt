@@ -3,14 +3,15 @@
 
 pub mod lanes;
 
-ghost use Rattle.std.specs.Prelude.{◌≡◌, ◌≤◌, eqb, length};
-ghost use Rattle.layout.specs.Layout.{max_blocks, max_batch_keys};
-ghost use Rattle.directory.specs.Read.{found_no};
-ghost use Rattle.key_list.specs.KeyList.{KeyListOk};
-ghost use Rattle.batch_search.specs.Entries.{found_entry, EntriesFound};
+ghost use Rattle.std.specs.Prelude.{◌≡◌, ◌≤◌, cond, length};
+ghost use Rattle.layout.specs.Layout.{max_batch_keys};
+ghost use Rattle.layout.specs.Refusals.{no_of};
+ghost use Rattle.batch_search.specs.Entries.{EntriesFound, ended};
 
-use directory::Found;
+use directory_read::Directory;
+use key_list::KeyList;
 use layout::MAX_BATCH_KEYS;
+use layout::refusals::Refusal;
 
 // The entry of a key that is above the last separator.
 pub const NO_ID: u64 = 0xFFFF_FFFF_FFFF_FFFF;
@@ -20,71 +21,41 @@ const SOME_KEYS: usize = 8;
 
 const SOME_BLOCKS: usize = 4_096;
 
-// Whether a search met a key outside the directory.
-fn met_outside(search: Found) -> bool
-    ensures { result ≡ eqb (found_no search) 20 }
-{
-    match search {
-        Found::At(_) => false,
-        Found::Above => false,
-        Found::Outside => true,
-    }
-}
-
-// The entry of what a search found.
-fn entry(search: Found) -> u64
-    ensures { result ≡ found_entry search }
-{
-    match search {
-        Found::At(id) => id as u64,
-        Found::Above => NO_ID,
-        Found::Outside => NO_ID,
-    }
-}
-
 // One search after the other.
 fn one_by_one(
-    directory: &[u8],
-    n: usize,
-    pairs: &[u64],
-    keys: &[u8],
+    directory: Directory,
+    list: &KeyList,
     found: &mut [u64; MAX_BATCH_KEYS],
-) -> bool
-    requires { (1 ≤ n) × (n ≤ max_blocks) × KeyListOk max_batch_keys pairs.now (length keys.now)
-        × (length found.old ≡ max_batch_keys) }
-    ensures { EntriesFound directory.now n pairs.now keys.now found.new result }
+) -> Result<(), Refusal>
+    requires { (length found.old ≡ max_batch_keys) }
+    ensures entries { EntriesFound directory.entry.bytes.now directory.entry.n list.now.pairs.now list.now.keys.now
+        found.new (ended result) }
+    ensures number { no_of result ≡ cond (ended result) 0 20 }
 {
-    let count = pairs.len() / 2;
-    let mut i: usize = 0;
-    while i < count {
-        let key = key_list::nth_key(pairs, keys, i);
-        let search = directory_read::locate_with_key(directory, n, key);
-        if met_outside(search) {
-            return false;
-        }
-        found[i] = entry(search);
-        i += 1;
+    for i in 0..list.len() {
+        let key = list.nth(i);
+        found[i] = match directory.locate_with_key(key) {
+            Ok(id) => id as u64,
+            Err(Refusal::Unfit) => return Err(Refusal::Unfit),
+            Err(_) => NO_ID,
+        };
     }
-    true
+    Ok(())
 }
 
-// Puts the entry of each key into `found`; false where a search meets a key outside the directory.
+// Puts the entry of each key into `found`; refused where a search meets a key outside the directory.
 pub fn find_entries(
-    directory: &[u8],
-    n: usize,
-    pairs: &[u64],
-    keys: &[u8],
+    directory: Directory,
+    list: &KeyList,
     found: &mut [u64; MAX_BATCH_KEYS],
-) -> bool
-    requires { (1 ≤ n) × (n ≤ max_blocks) × KeyListOk max_batch_keys pairs.now (length keys.now)
-        × (length found.old ≡ max_batch_keys) }
-    ensures { EntriesFound directory.now n pairs.now keys.now found.new result }
+) -> Result<(), Refusal>
+    requires { (length found.old ≡ max_batch_keys) }
+    ensures entries { EntriesFound directory.entry.bytes.now directory.entry.n list.now.pairs.now list.now.keys.now
+        found.new (ended result) }
+    ensures number { no_of result ≡ cond (ended result) 0 20 }
 {
-    if n < SOME_BLOCKS {
-        return one_by_one(directory, n, pairs, keys, found);
+    if directory.n < SOME_BLOCKS || list.len() < SOME_KEYS {
+        return one_by_one(directory, list, found);
     }
-    if pairs.len() < 2 * SOME_KEYS {
-        return one_by_one(directory, n, pairs, keys, found);
-    }
-    lanes::side_by_side(directory, n, pairs, keys, found)
+    lanes::side_by_side(directory, list, found)
 }

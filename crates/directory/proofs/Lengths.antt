@@ -12,7 +12,7 @@ use Rattle.directory.specs.Facts.{KeysArea}
 use Rattle.directory.specs.Keys.{keys_at}
 use Rattle.directory.proofs.Keys.{length-keys_at, keys_at-at, length-key_at}
 
--- document 01's bounds, under which every number of a directory fits its 4 bytes
+-- the bounds under which every number of a directory fits its 4 bytes
 pub record Bounded (keys : List (List ℕ)) : Type 0 where
   pub few : length keys ≤ 65536
   pub short : (i : ℕ) → i < length keys → length (get_or keys i []) ≤ 1024

@@ -38,7 +38,7 @@ key-read area stride field keys i =
 
 module _ (area : List ℕ) (stride field : ℕ) (keys : List ℕ) (n : ℕ) where
   -- the keys that are left at key i
-  abbrev left : ℕ → List (List ℕ)
+  abbrev pub left : ℕ → List (List ℕ)
   left i = keys_at area stride field keys i (n - i)
 
   module _ (ok : KeysArea area stride field keys n) (i : ℕ) (h : i < n) where

@@ -1,10 +1,11 @@
--- A directory read from a file (document 01, rows 12, 13, 19 and 20). d is the directory's bytes, or more bytes that begin with them.
+-- A directory read from a file (rows 12, 13, 19 and 20). d is the directory's bytes, or more bytes that begin with them.
 use Rattle.std.specs.Prelude.{ℕ, zero, suc, ◌+◌, ◌*◌, ◌<◌, ◌≡◌, List, [], ◌∷◌, Bool, false, not, ◌||◌, cond, eqb, ltb, length, take, drop}
+use Rattle.std.specs.Prelude.{Result, Ok, Err, ◌⊎◌}
 use Rattle.layout.specs.Layout.{max_blocks, max_key_len}
+use Rattle.layout.specs.Refusals.{number_of, no_of}
+use Rattle.layout.specs.declared.refusals.Refusal.{Refusal}
 use Rattle.serialize.specs.Digits.{number_at}
 use Rattle.keys.specs.Order.{less, ◌≺◌, ◌≼◌}
-use Rattle.directory.specs.declared.Found.{Found}
-use Rattle.directory.specs.declared.Found.TheVariants.{At, Above, Outside}
 
 -- n, and the pair of key i
 abbrev pub count_of : List ℕ → ℕ
@@ -74,19 +75,15 @@ pub record First (f : ℕ → List ℕ) (n : ℕ) (key : List ℕ) (i : ℕ) : T
   pub not-below : key ≼ f i
   pub earlier : (j : ℕ) → j < i → f j ≺ key
 
--- document 01's number for what a key's search finds
-abbrev pub found_no : Found → ℕ
-found_no (At i) = 0
-found_no Above = 19
-found_no Outside = 20
+-- the number of what a key's search finds: 19 where all keys are below it, 20 where a key lies outside the bytes
+abbrev pub found_no : Result ℕ Refusal → ℕ
+found_no found = no_of found
 
 -- what a key's search may answer in every case, and what it answers where the keys are inside and rise
-unfoldable pub FoundIn : ℕ → Found → Type 0
-FoundIn n (At i) = i < n
-FoundIn n Above = Unit {0}
-FoundIn n Outside = Unit {0}
+unfoldable pub FoundIn : ℕ → Result ℕ Refusal → Type 0
+FoundIn n (Ok i) = i < n
+FoundIn n (Err refusal) = (number_of refusal ≡ 19) ⊎ (number_of refusal ≡ 20)
 
-unfoldable pub FoundAs : (ℕ → List ℕ) → ℕ → List ℕ → Found → Type 0
-FoundAs f n key (At i) = First f n key i
-FoundAs f n key Above = (i : ℕ) → i < n → f i ≺ key
-FoundAs f n key Outside = ⊥
+unfoldable pub FoundAs : (ℕ → List ℕ) → ℕ → List ℕ → Result ℕ Refusal → Type 0
+FoundAs f n key (Ok i) = First f n key i
+FoundAs f n key (Err refusal) = (number_of refusal ≡ 19) × ((i : ℕ) → i < n → f i ≺ key)

@@ -3,36 +3,34 @@
 
 ghost use Rattle.std.specs.Prelude.{◌≡◌, false, ◌+◌, ◌*◌, ◌≤◌, ◌<◌, length};
 ghost use Rattle.layout.specs.Layout.{max_blocks, pair_len};
+ghost use Rattle.layout.specs.Refusals.{no_of};
 ghost use Rattle.directory.specs.Read.{count_of};
 ghost use Rattle.directory.specs.Read.{pairs_bad, directory_bad, keys_bad, directory_no};
 
-use directory_read::{key, number};
-use layout::refusals::{DIRECTORY_BAD, KEYS_UNSORTED};
+use directory_read::{Directory, number};
+use layout::refusals::Refusal;
 use layout::{MAX_BLOCKS, MAX_KEY_LEN, PAIR_LEN};
 
 // Whether one of the first n pairs breaks the offsets' rule, or its key is too long.
+#[tactic(auto, unfolding(directory::specs::Read::key_begin, directory::specs::Read::pairs_bad))]
 fn pairs_bad(directory: &[u8], n: usize) -> bool
     requires { (n ≤ max_blocks) × (4 + pair_len * n ≤ length directory.now) }
     ensures { result ≡ pairs_bad directory.now n }
 {
     let mut begin: usize = 0;
-    let mut i: usize = 0;
-    while i < n {
+    for i in 0..n {
         let at = 4 + PAIR_LEN * i;
         let len = number(directory, at + 4);
-        if number(directory, at) != begin {
-            return true;
-        }
-        if len > MAX_KEY_LEN {
+        if number(directory, at) != begin || len > MAX_KEY_LEN {
             return true;
         }
         begin += len;
-        i += 1;
     }
     false
 }
 
 // Row 12.
+#[tactic(auto, unfolding(directory::specs::Read::directory_bad))]
 fn directory_bad(directory: &[u8]) -> bool
     ensures { result ≡ directory_bad directory.now }
 {
@@ -41,17 +39,11 @@ fn directory_bad(directory: &[u8]) -> bool
         return true;
     }
     let n = number(directory, 0);
-    if n < 2 {
-        return true;
-    }
-    if n > MAX_BLOCKS {
+    if n < 2 || n > MAX_BLOCKS {
         return true;
     }
     let keys = 4 + PAIR_LEN * n;
-    if len < keys {
-        return true;
-    }
-    if pairs_bad(directory, n) {
+    if len < keys || pairs_bad(directory, n) {
         return true;
     }
     let last = keys - PAIR_LEN;
@@ -59,29 +51,33 @@ fn directory_bad(directory: &[u8]) -> bool
 }
 
 // Row 13: whether a key isn't above the one before it.
-fn keys_bad(directory: &[u8], n: usize) -> bool
-    requires { directory_bad directory.now ≡ false × (n ≡ count_of directory.now) }
-    ensures { result ≡ keys_bad directory.now n n }
+#[tactic(auto, unfolding(directory::specs::Read::keys_bad))]
+fn keys_bad(directory: Directory) -> bool
+    requires { directory_bad directory.bytes.now ≡ false × (directory.n ≡ count_of directory.bytes.now) }
+    ensures { result ≡ keys_bad directory.entry.bytes.now directory.entry.n directory.entry.n }
 {
-    let mut i: usize = 1;
-    while i < n {
-        if !keys::lt(key(directory, n, i - 1), key(directory, n, i)) {
+    for i in 1..directory.n {
+        if !keys::lt(directory.key(i - 1), directory.key(i)) {
             return true;
         }
-        i += 1;
     }
     false
 }
 
 // Rows 12 and 13.
-pub fn directory_no(directory: &[u8]) -> u32
-    ensures { result ≡ directory_no directory.now }
+#[tactic(auto, unfolding(directory::specs::Read::directory_no))]
+pub fn directory_no(directory: &[u8]) -> Result<(), Refusal>
+    ensures { no_of result ≡ directory_no directory.now }
 {
     if directory_bad(directory) {
-        return DIRECTORY_BAD;
+        return Err(Refusal::DirectoryBad);
     }
-    if keys_bad(directory, number(directory, 0)) {
-        return KEYS_UNSORTED;
+    let n = number(directory, 0);
+    if keys_bad(Directory {
+        bytes: directory,
+        n,
+    }) {
+        return Err(Refusal::KeysUnsorted);
     }
-    0
+    Ok(())
 }

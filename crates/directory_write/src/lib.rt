@@ -4,93 +4,90 @@
 ghost use Rattle.std.specs.Prelude.{◌≡◌, ◌+◌, ◌-◌, ◌*◌, ◌≤◌, ◌<◌, length};
 ghost use Rattle.std.proofs.lemmas.List.Edits.{sets};
 ghost use Rattle.directory.specs.Directory.{directory_bytes, pairs, key_bytes};
-ghost use Rattle.directory.specs.Keys.{keys_at};
 ghost use Rattle.directory.specs.Facts.{KeysArea};
 
 use layout::PAIR_LEN;
 
-// How many bytes the keys take.
-fn keys_len(area: &[u64], stride: usize, field: usize, keys: &[u8], n: usize) -> usize
-    requires { KeysArea area.now stride field keys.now n }
-    ensures { result ≡ length (key_bytes (keys_at area.now stride field keys.now 0 n)) }
-{
-    let mut len: usize = 0;
-    let mut i: usize = 0;
-    while i < n {
-        len += area[stride * i + (field + 1)] as usize;
-        i += 1;
+// The keys of n records of `stride` numbers in a lent area: at place `field` a record has its key's offset in the bytes of all keys, and
+// behind it the key's length.
+#[derive(Clone, Copy)]
+pub struct KeyRecords<'a> {
+    pub area: &'a [u64],
+    pub stride: usize,
+    pub field: usize,
+    pub keys: &'a [u8],
+    pub n: usize,
+    pub ghost stand: { KeysArea area.now stride field keys.now n },
+}
+
+impl<'a> KeyRecords<'a> {
+    ghost use Rattle.directory_write.specs.Records.{record_key, record_keys};
+
+    // Key i.
+    fn key(&self, i: usize) -> &'a [u8]
+        requires { i < self.now.n }
+        ensures { result.now ≡ record_key self.now i }
+    {
+        let at = self.stride * i + self.field;
+        let from = self.area[at] as usize;
+        let end = from + self.area[at + 1] as usize;
+        &self.keys[from..end]
     }
-    len
-}
 
-// How many bytes the directory takes.
-pub fn directory_len(area: &[u64], stride: usize, field: usize, keys: &[u8], n: usize) -> usize
-    requires { KeysArea area.now stride field keys.now n }
-    ensures { result ≡ length (directory_bytes (keys_at area.now stride field keys.now 0 n)) }
-{
-    4 + PAIR_LEN * n + keys_len(area, stride, field, keys, n)
-}
-
-// Writes the pairs from the front of `out` on.
-fn write_pairs(area: &[u64], stride: usize, field: usize, keys: &[u8], n: usize, out: &mut [u8])
-    requires { KeysArea area.now stride field keys.now n × (8 * n ≤ length out.old) }
-    ensures { out.new
-        ≡ sets out.old 0 (pairs 0 (keys_at area.now stride field keys.now 0 n)) }
-{
-    let mut offset: usize = 0;
-    let mut i: usize = 0;
-    while i < n {
-        let len = area[stride * i + (field + 1)] as usize;
-        serialize::serialize_u32(out, PAIR_LEN * i, offset as u32);
-        serialize::serialize_u32(out, PAIR_LEN * i + 4, len as u32);
-        offset += len;
-        i += 1;
+    // How many bytes the keys take.
+    fn keys_len(&self) -> usize
+        ensures { result ≡ length (key_bytes (record_keys self.now)) }
+    {
+        let mut len: usize = 0;
+        for i in 0..self.n {
+            len += self.key(i).len();
+        }
+        len
     }
-}
 
-// Writes the keys from the front of `out` on. Returns how many bytes they take.
-fn write_keys(
-    area: &[u64],
-    stride: usize,
-    field: usize,
-    keys: &[u8],
-    n: usize,
-    out: &mut [u8],
-) -> usize
-    requires { KeysArea area.now stride field keys.now n
-        × (length (key_bytes (keys_at area.now stride field keys.now 0 n)) ≤ length out.old) }
-    ensures { (result ≡ length (key_bytes (keys_at area.now stride field keys.now 0 n)))
-        × (out.new ≡ sets out.old 0 (key_bytes (keys_at area.now stride field keys.now 0 n))) }
-{
-    let mut to: usize = 0;
-    let mut i: usize = 0;
-    while i < n {
-        let at = stride * i + field;
-        let from = area[at] as usize;
-        let end = from + area[at + 1] as usize;
-        to += byte_copy::copy(&keys[from..end], &mut out[to..]);
-        i += 1;
+    // How many bytes the directory takes.
+    pub fn directory_len(&self) -> usize
+        ensures { result ≡ length (directory_bytes (record_keys self.now)) }
+    {
+        4 + PAIR_LEN * self.n + self.keys_len()
     }
-    to
-}
 
-// Writes the directory from the front of `out` on. Returns its length.
-pub fn serialize(
-    area: &[u64],
-    stride: usize,
-    field: usize,
-    keys: &[u8],
-    n: usize,
-    out: &mut [u8],
-) -> usize
-    requires { KeysArea area.now stride field keys.now n
-        × (length (directory_bytes (keys_at area.now stride field keys.now 0 n)) ≤ length out.old) }
-    ensures { (result ≡ length (directory_bytes (keys_at area.now stride field keys.now 0 n)))
-        × (out.new ≡ sets out.old 0
-        (directory_bytes (keys_at area.now stride field keys.now 0 n))) }
-{
-    serialize::serialize_u32(out, 0, n as u32);
-    write_pairs(area, stride, field, keys, n, &mut out[4..]);
-    let at = 4 + PAIR_LEN * n;
-    at + write_keys(area, stride, field, keys, n, &mut out[at..])
+    // Writes the pairs from the front of `out` on.
+    fn write_pairs(&self, out: &mut [u8])
+        requires { 8 * self.now.n ≤ length out.old }
+        ensures { out.new ≡ sets out.old 0 (pairs 0 (record_keys self.now)) }
+    {
+        let mut offset: usize = 0;
+        for i in 0..self.n {
+            let len = self.key(i).len();
+            serialize::serialize_u32(out, PAIR_LEN * i, offset as u32);
+            serialize::serialize_u32(out, PAIR_LEN * i + 4, len as u32);
+            offset += len;
+        }
+    }
+
+    // Writes the keys from the front of `out` on. Returns how many bytes they take.
+    fn write_keys(&self, out: &mut [u8]) -> usize
+        requires { length (key_bytes (record_keys self.now)) ≤ length out.old }
+        ensures { (result ≡ length (key_bytes (record_keys self.now)))
+            × (out.new ≡ sets out.old 0 (key_bytes (record_keys self.now))) }
+    {
+        let mut to: usize = 0;
+        for i in 0..self.n {
+            to += byte_copy::copy(self.key(i), &mut out[to..]);
+        }
+        to
+    }
+
+    // Writes the directory from the front of `out` on. Returns its length.
+    pub fn serialize(&self, out: &mut [u8]) -> usize
+        requires { length (directory_bytes (record_keys self.now)) ≤ length out.old }
+        ensures { (result ≡ length (directory_bytes (record_keys self.now)))
+            × (out.new ≡ sets out.old 0 (directory_bytes (record_keys self.now))) }
+    {
+        serialize::serialize_u32(out, 0, self.n as u32);
+        self.write_pairs(&mut out[4..]);
+        let at = 4 + PAIR_LEN * self.n;
+        at + self.write_keys(&mut out[at..])
+    }
 }
