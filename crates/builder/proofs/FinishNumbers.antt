@@ -2,6 +2,7 @@
 use Prim.Native.Nat.{ℕ, zero, suc, ◌≤◌, ◌<◌}
 use mathlib.Core.Path.{◌≡◌, refl}
 use mathlib.Core.List.{List}
+use native.Mathlib.Omega.{arith}
 use lib.ListN.{length}
 use lib.Seq.{sets}
 use borrow.Author.Tests.{lt-ltb, le-ltb}
@@ -17,23 +18,22 @@ use Rattle.builder.specs.Finish.{
   step_of_finish,
   finish_def,
   finish_len_def,
+  FinishLen,
   len_step,
 }
 use Rattle.builder.specs.declared.SSTableIndexBuilder.{SSTableIndexBuilder}
-use Rattle.builder.specs.declared.FinishLen.TheVariants.{Total, Refused}
-use Rattle.builder.proofs.Numbers.{cased}
 use Rattle.builder.proofs.IndexWritten.{index-none, directory-none}
 
 module _ (S : Settings) (s : SSTableIndexBuilder) (B K : List ℕ) where
   module _ (out : List ℕ) where
-    refused-step : (k j : ℕ) → (k ≡ 0 → ⊥) → unwritten k s out ≡ step_of_finish S (or_row k j) s B K out
+    refused-step : (k j : ℕ) → 0 < k → unwritten k s out ≡ step_of_finish S (or_row k j) s B K out
     unfolding step_of_finish
-    refused-step zero j h = absurd (h refl)
+    refused-step zero j h = absurd (let z : ⊥ = omega arith in z)
     refused-step (suc k) j h = refl
 
-    pub finish-refused : (k : ℕ) → k ≡ list_no s B K → (k ≡ 0 → ⊥) → (unwritten k s out ≡ finish_def S s B K out) × (0 < k)
+    pub finish-refused : (k : ℕ) → k ≡ list_no s B K → 0 < k → unwritten k s out ≡ finish_def S s B K out
     unfolding finish_def finish_no
-    finish-refused k e h = (rw (← e) (refused-step k _ h), cased k h)
+    finish-refused k e h = rw (← e) (refused-step k _ h)
 
     module _ (listed : list_no s B K ≡ 0) where
       -- row 9
@@ -48,18 +48,19 @@ module _ (S : Settings) (s : SSTableIndexBuilder) (B K : List ℕ) where
       finish-taken out' total directory h e f g = rw (listed, le-ltb (length out) (length (area_index S s B K)) h, e, f, g)
 
       -- with 0 or 1 blocks there is nothing to write
-      pub finish-none : length (area_index S s B K) ≤ length out → s.n < 2 → unwritten 0 s out ≡ finish_def S s B K out
+      pub finish-none : length (area_index S s B K) ≤ length out → s.n < 2 → ◌≡◌ {A = Finish} (record { no = 0; builder = s; out = out; total = 0; directory = 0 }) (finish_def S s B K out)
       finish-none h few =
           finish-taken out 0 0 h (rw (index-none S s B K few)) (rw (index-none S s B K few)) (rw (directory-none s B K few))
 
-  len-step : (k t : ℕ) → (k ≡ 0 → ⊥) → Refused k ≡ len_step k t
-  len-step zero t h = absurd (h refl)
+  len-step : (k t : ℕ) → 0 < k → ◌≡◌ {A = FinishLen} (record { no = k; total = 0 }) (len_step k t)
+  len-step zero t h = absurd (let z : ⊥ = omega arith in z)
   len-step (suc k) t h = refl
 
-  pub len-refused : (k : ℕ) → k ≡ list_no s B K → (k ≡ 0 → ⊥) → Refused k ≡ finish_len_def S s B K
+  pub len-refused : (k : ℕ) → k ≡ list_no s B K → 0 < k → ◌≡◌ {A = FinishLen} (record { no = k; total = 0 }) (finish_len_def S s B K)
   unfolding finish_len_def
   len-refused k e h = rw (← e) (len-step k _ h)
 
-  pub len-taken : (total : ℕ) → list_no s B K ≡ 0 → total ≡ length (area_index S s B K) → Total total ≡ finish_len_def S s B K
+  pub len-taken : (total : ℕ) → list_no s B K ≡ 0 → total ≡ length (area_index S s B K)
+      → ◌≡◌ {A = FinishLen} (record { no = 0; total = total }) (finish_len_def S s B K)
   unfolding finish_len_def
   len-taken total e f = rw (e, f)

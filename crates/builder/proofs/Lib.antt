@@ -6,3 +6,4 @@ pub mod Touching
 pub mod IndexBytes
 pub mod IndexWritten
 pub mod FinishNumbers
+pub mod Cased

@@ -10,6 +10,7 @@ use lib.Seq.{sets}
 use borrow.Author.Tests.{eqb-false, ltb-false, lt-ltb, le-ltb, not-false}
 use Rattle.layout.specs.Layout.{max_blocks, max_key_len}
 use Rattle.serialize.proofs.Tests.{neither}
+use Rattle.keys.proofs.Order.{by-test}
 use Rattle.keys.specs.Order.{less, ◌≺◌}
 use Rattle.group.specs.declared.BlockAddr.{BlockAddr}
 use Rattle.group.specs.Legal.{NumbersOk, Follows}
@@ -35,9 +36,9 @@ use Rattle.builder.proofs.Views.{area-ok}
 -- ---- the first row that is hit
 
 module _ (v : View) (given key : List ℕ) (b : BlockAddr) (k : ℕ) (e : k ≡ key_no given) where
-  pub row-key : (k ≡ 0 → ⊥) → k ≡ block_no v given key b
+  pub row-key : 0 < k → k ≡ block_no v given key b
   unfolding block_no
-  row-key h = rw (← e) (sym (or_row-first k _ h))
+  row-key h = rw (← e) (sym (or_row-first k _ (λ z. omega arith)))
 
   module _ (short : k ≡ 0) where
     -- no row on the key alone is hit
@@ -66,15 +67,23 @@ module _ (v : View) (given key : List ℕ) (b : BlockAddr) (k : ℕ) (e : k ≡ 
         unfolding block_no
         no_row t f h = simp (key-zero, numbers, join, ordinal, sym f ∙ h)
 
+-- row 1 by the test alone
+pub row-one : (v : View) (k later : ℕ) → k ≡ cond (area_bad v) 1 0 → 0 < k → k ≡ cond (area_bad v) 1 later
+row-one v k later e h = by-test (area_bad v) (λ t. rw t (rw t at e)) (λ t. absurd (let z : k ≡ 0 = rw t at e in omega arith))
+
 module _ (v : View) (key : List ℕ) (b : BlockAddr) where
+  pub add-first : (k : ℕ) → k ≡ cond (area_bad v) 1 0 → 0 < k → k ≡ add_no v key b
+  unfolding add_no
+  add-first k e h = row-one v k _ e h
+
   pub add-area : area_bad v ≡ true → 1 ≡ add_no v key b
   unfolding add_no
   add-area e = simp e
 
   module _ (area : area_bad v ≡ false) (k : ℕ) (e : k ≡ block_no v key key b) where
-    pub add-block : (k ≡ 0 → ⊥) → k ≡ add_no v key b
+    pub add-block : 0 < k → k ≡ add_no v key b
     unfolding add_no
-    add-block h = rw (area, ← e) (sym (or_row-first k _ h))
+    add-block h = rw (area, ← e) (sym (or_row-first k _ (λ z. omega arith)))
 
     pub add-room : k ≡ 0 → room_bad v key ≡ true → 7 ≡ add_no v key b
     unfolding add_no
@@ -85,14 +94,18 @@ module _ (v : View) (key : List ℕ) (b : BlockAddr) where
     add_none z f = simp (area, sym e ∙ z, f)
 
 module _ (v : View) (next : List ℕ) where
+  pub shorten-first : (k : ℕ) → k ≡ cond (area_bad v) 1 0 → 0 < k → k ≡ shorten_no v next
+  unfolding shorten_no
+  shorten-first k e h = row-one v k _ e h
+
   pub shorten-area : area_bad v ≡ true → 1 ≡ shorten_no v next
   unfolding shorten_no
   shorten-area e = simp e
 
   module _ (area : area_bad v ≡ false) (k : ℕ) (e : k ≡ key_no next) where
-    pub shorten-key : (k ≡ 0 → ⊥) → k ≡ shorten_no v next
+    pub shorten-key : 0 < k → k ≡ shorten_no v next
     unfolding shorten_no
-    shorten-key h = rw (area, ← e) (sym (or_row-first k _ h))
+    shorten-key h = rw (area, ← e) (sym (or_row-first k _ (λ z. omega arith)))
 
     pub shorten-not-above : k ≡ 0 → key_bad v next ≡ true → 6 ≡ shorten_no v next
     unfolding shorten_no
@@ -209,21 +222,16 @@ add_ok v key b e =
 
 -- ---- what a call leaves, refused and accepted
 
--- a refusal's number is above 0
-pub cased : (k : ℕ) → (k ≡ 0 → ⊥) → 0 < k
-cased k h = omega arith
-
 module _ (s : SSTableIndexBuilder) (B K key : List ℕ) where
   module _ (b : BlockAddr) where
-    refused-step : (k : ℕ) → (k ≡ 0 → ⊥) → called_with k s B K ≡ step_of_add k s B K key b
+    refused-step : (k : ℕ) → 0 < k → called_with k s B K ≡ step_of_add k s B K key b
     unfolding step_of_add
-    refused-step zero h = absurd (h refl)
+    refused-step zero h = absurd (let z : ⊥ = omega arith in z)
     refused-step (suc k) h = refl
 
-    pub add-refused : (k : ℕ) → k ≡ add_no (view_of s B K) key b → (k ≡ 0 → ⊥)
-        → (called_with k s B K ≡ add_def s B K key b) × (0 < k)
+    pub add-refused : (k : ℕ) → k ≡ add_no (view_of s B K) key b → 0 < k → called_with k s B K ≡ add_def s B K key b
     unfolding add_def
-    add-refused k e h = (rw (← e) (refused-step k h), cased k h)
+    add-refused k e h = rw (← e) (refused-step k h)
 
     pub add-taken : (s' : SSTableIndexBuilder) (B' K' : List ℕ) → add_no (view_of s B K) key b ≡ 0
         → s' ≡ with_blocks s (s.n + 1)
@@ -233,15 +241,14 @@ module _ (s : SSTableIndexBuilder) (B K key : List ℕ) where
     unfolding add_def step_of_add
     add-taken s' B' K' e o p q = rw (e, o, p, q)
 
-  shorten-refused-step : (k : ℕ) → (k ≡ 0 → ⊥) → called_with k s B K ≡ step_of_shorten k s B K key
+  shorten-refused-step : (k : ℕ) → 0 < k → called_with k s B K ≡ step_of_shorten k s B K key
   unfolding step_of_shorten
-  shorten-refused-step zero h = absurd (h refl)
+  shorten-refused-step zero h = absurd (let z : ⊥ = omega arith in z)
   shorten-refused-step (suc k) h = refl
 
-  pub shorten-refused : (k : ℕ) → k ≡ shorten_no (view_of s B K) key → (k ≡ 0 → ⊥)
-      → (called_with k s B K ≡ shorten_def s B K key) × (0 < k)
+  pub shorten-refused : (k : ℕ) → k ≡ shorten_no (view_of s B K) key → 0 < k → called_with k s B K ≡ shorten_def s B K key
   unfolding shorten_def
-  shorten-refused k e h = (rw (← e) (shorten-refused-step k h), cased k h)
+  shorten-refused k e h = rw (← e) (shorten-refused-step k h)
 
   pub shorten-taken : (B' K' : List ℕ) → 0 ≡ shorten_no (view_of s B K) key
       → B' ≡ short_blocks s.n B K key → K' ≡ short_keys s.n B K key

@@ -2,7 +2,7 @@
 use Prim.Native.Nat.{ℕ, zero, suc, ◌+◌, ◌-◌, ◌≤◌, ◌<◌}
 use mathlib.Core.Path.{◌≡◌, refl, sym, ap, ◌∙◌}
 use mathlib.Core.List.{List}
-use mathlib.Core.Bool.{Bool, true, false, not, ◌||◌}
+use mathlib.Core.Bool.{cond, Bool, true, false, not, ◌||◌}
 use native.Mathlib.Numerals.{add-one}
 use native.Mathlib.Omega.{arith}
 use lib.Dec.{eqb}
@@ -19,7 +19,7 @@ use Rattle.builder.specs.Rows.{record_bad, RecordOk, area_bad, AreaOk}
 use Rattle.builder.specs.Area.{key_field, area_block, area_place, area_key, area_view, view_of}
 use Rattle.builder.specs.Finish.{place_bad, rule_bad, places_bad, rules_bad, list_no}
 use Rattle.builder.specs.declared.SSTableIndexBuilder.{SSTableIndexBuilder}
-use Rattle.builder.proofs.Numbers.{BlockOk, block-ok}
+use Rattle.builder.proofs.Numbers.{row-one, BlockOk, block-ok}
 use Rattle.builder.proofs.Views.{record-ok, none-ok, area-ok, next-some, last_some, last-place}
 
 -- ---- a test of every block
@@ -158,6 +158,10 @@ list-ok b B K e =
     record { area = area-ok (view_of b B K) t; places = p.0; rules = p.1 }))
 
 module _ (b : SSTableIndexBuilder) (B K : List ℕ) where
+  pub list-first : (k : ℕ) → k ≡ cond (area_bad (view_of b B K)) 1 0 → 0 < k → k ≡ list_no b B K
+  unfolding list_no
+  list-first k e h = row-one (view_of b B K) k _ e h
+
   pub list-area : area_bad (view_of b B K) ≡ true → 1 ≡ list_no b B K
   unfolding list_no
   list-area e = simp e

@@ -1,14 +1,15 @@
 -- What add and shorten leave, for all inputs: the number, the builder and both areas.
-use Rattle.std.specs.Prelude.{ℕ, zero, suc, ◌+◌, ◌-◌, ◌*◌, ◌<◌, List, cond, eqb, length, set}
+use Rattle.std.specs.Prelude.{ℕ, zero, suc, ◌+◌, ◌-◌, ◌*◌, ◌<◌, List, cond, eqb, length, set, Result, Ok, Err}
 use Rattle.std.proofs.lemmas.List.Edits.{sets}
+use Rattle.layout.specs.declared.refusals.Refusal.{Refusal}
+use Rattle.layout.specs.Refusals.{number_of}
 use Rattle.keys.specs.Shorten.{shorten}
 use Rattle.group.specs.declared.BlockAddr.{BlockAddr}
 use Rattle.builder.specs.View.{stride}
 use Rattle.builder.specs.Rows.{add_no, shorten_no}
 use Rattle.builder.specs.Area.{key_len_field, record_numbers, area_place, area_key, view_of}
 use Rattle.builder.specs.declared.SSTableIndexBuilder.{SSTableIndexBuilder}
-use Rattle.builder.specs.declared.Answer.{Answer}
-use Rattle.builder.specs.declared.Answer.TheVariants.{Taken, Refused}
+use Rattle.builder.specs.declared.Refused.{Refused}
 
 -- a builder of n blocks, and a builder with another count
 abbrev pub builder_of : ℕ → SSTableIndexBuilder
@@ -28,25 +29,30 @@ pub record Called : Type 0 where
   pub no : ℕ
   pub state : State
 
--- document 01's number for an answer, its builder, and both with the areas
-abbrev pub answer_no : Answer → ℕ
-answer_no (Taken b) = 0
-answer_no (Refused k b) = k
+-- an answer whose refusal hands a builder back
+abbrev pub handed_back : {A : Type 0} → SSTableIndexBuilder → Result A Refusal → Result A Refused
+handed_back b (Ok taken) = Ok taken
+handed_back b (Err refusal) = Err (record { refusal = refusal; builder = b })
 
-abbrev pub answer_builder : Answer → SSTableIndexBuilder
-answer_builder (Taken b) = b
-answer_builder (Refused k b) = b
+-- the table's number and the builder for an answer, and all that a call leaves
+abbrev pub answer_no : Result SSTableIndexBuilder Refused → ℕ
+answer_no (Ok b) = 0
+answer_no (Err refused) = number_of refused.refusal
+
+abbrev pub answer_builder : Result SSTableIndexBuilder Refused → SSTableIndexBuilder
+answer_builder (Ok b) = b
+answer_builder (Err refused) = refused.builder
 
 abbrev pub called_with : ℕ → SSTableIndexBuilder → List ℕ → List ℕ → Called
 called_with k b B K = record { no = k; state = record { builder = b; blocks = B; keys = K } }
 
-abbrev pub called : Answer → List ℕ → List ℕ → Called
+abbrev pub called : Result SSTableIndexBuilder Refused → List ℕ → List ℕ → Called
 called r B K = called_with (answer_no r) (answer_builder r) B K
 
 -- a refusal has a number above 0
-abbrev pub AnswerCased : Answer → Type 0
-AnswerCased (Taken b) = Unit {0}
-AnswerCased (Refused k b) = 0 < k
+abbrev pub AnswerCased : Result SSTableIndexBuilder Refused → Type 0
+AnswerCased (Ok b) = Unit {0}
+AnswerCased (Err refused) = 0 < number_of refused.refusal
 
 -- an add whose number is known: it appends its five numbers and its key, or changes nothing
 unfoldable pub step_of_add : ℕ → SSTableIndexBuilder → List ℕ → List ℕ → List ℕ → BlockAddr → Called

@@ -1,6 +1,8 @@
 -- Finish (document 01, rows 1, 8 and 9): what it leaves, for all inputs and settings.
-use Rattle.std.specs.Prelude.{ℕ, zero, suc, ◌<◌, List, [], Bool, false, not, ◌||◌, cond, eqb, ltb, length}
+use Rattle.std.specs.Prelude.{ℕ, zero, suc, ◌<◌, List, [], Bool, false, not, ◌||◌, cond, eqb, ltb, length, Result, Ok, Err}
 use Rattle.std.proofs.lemmas.List.Edits.{sets}
+use Rattle.layout.specs.declared.refusals.Refusal.{Refusal}
+use Rattle.layout.specs.Refusals.{number_of}
 use Rattle.group.specs.Blocks.{blocks_at}
 use Rattle.group.specs.Rows.{or_row}
 use Rattle.directory.specs.Directory.{directory_bytes}
@@ -12,10 +14,8 @@ use Rattle.builder.specs.Rows.{record_bad, area_bad, block_no}
 use Rattle.builder.specs.Area.{key_field, area_block, area_place, area_key, area_view, view_of}
 use Rattle.builder.specs.Index.{Settings, index_bytes}
 use Rattle.builder.specs.declared.SSTableIndexBuilder.{SSTableIndexBuilder}
-use Rattle.builder.specs.declared.Finished.{Finished}
-use Rattle.builder.specs.declared.Finished.TheVariants.{Written, Unwritten}
-use Rattle.builder.specs.declared.FinishLen.{FinishLen}
-use Rattle.builder.specs.declared.FinishLen.TheVariants.{Total, Refused}
+use Rattle.builder.specs.declared.Refused.{Refused}
+use Rattle.builder.specs.declared.Written.{Written}
 
 -- key m stands wrong: its offset isn't where the one before ends (0 for the first), or its record breaks row 1's rule
 abbrev pub place_bad : ℕ → List ℕ → List ℕ → Bool
@@ -68,14 +68,15 @@ pub record Finish : Type 0 where
 abbrev pub unwritten : ℕ → SSTableIndexBuilder → List ℕ → Finish
 unwritten k b out = record { no = k; builder = b; out = out; total = 0; directory = 0 }
 
-abbrev pub finish_of : Finished → List ℕ → Finish
-finish_of (Written b total directory) out = record { no = 0; builder = b; out = out; total = total; directory = directory }
-finish_of (Unwritten k b) out = unwritten k b out
+abbrev pub finish_of : Result Written Refused → List ℕ → Finish
+finish_of (Ok written) out =
+    record { no = 0; builder = written.builder; out = out; total = written.total; directory = written.directory_len }
+finish_of (Err refused) out = unwritten (number_of refused.refusal) refused.builder out
 
 -- a refusal has a number above 0
-abbrev pub FinishedCased : Finished → Type 0
-FinishedCased (Written b total directory) = Unit {0}
-FinishedCased (Unwritten k b) = 0 < k
+abbrev pub FinishedCased : Result Written Refused → Type 0
+FinishedCased (Ok written) = Unit {0}
+FinishedCased (Err refused) = 0 < number_of refused.refusal
 
 -- a finish whose number is known (SPECIFICATION 5.8, 12.2): the index over the output's front, or the output as it was
 unfoldable pub step_of_finish : Settings → ℕ → SSTableIndexBuilder → List ℕ → List ℕ → List ℕ → Finish
@@ -92,9 +93,17 @@ unfoldable pub finish_def : Settings → SSTableIndexBuilder → List ℕ → Li
 finish_def S b B K out = step_of_finish S (finish_no S b B K out) b B K out
 
 -- what `finish_len` answers: rows 1 and 8, or the total that finish would need
+pub record FinishLen : Type 0 where
+  pub no : ℕ
+  pub total : ℕ
+
+abbrev pub finish_len_of : Result ℕ Refusal → FinishLen
+finish_len_of (Ok total) = record { no = 0; total = total }
+finish_len_of (Err refusal) = record { no = number_of refusal; total = 0 }
+
 abbrev pub len_step : ℕ → ℕ → FinishLen
-len_step zero total = Total total
-len_step (suc k) total = Refused (suc k)
+len_step zero total = record { no = 0; total = total }
+len_step (suc k) total = record { no = suc k; total = 0 }
 
 unfoldable pub finish_len_def : Settings → SSTableIndexBuilder → List ℕ → List ℕ → FinishLen
 finish_len_def S b B K = len_step (list_no b B K) (length (area_index S b B K))

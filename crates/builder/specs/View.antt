@@ -1,15 +1,11 @@
 -- What the table's rows look at. The builder with its areas has one, and so has the plain machine.
 use Rattle.std.specs.Prelude.{ℕ, List}
 use Rattle.group.specs.declared.BlockAddr.{BlockAddr}
+pub use Rattle.builder.specs.declared.record.KeyPlace.{KeyPlace}
 
 -- how many numbers a block has (document 01, "Records")
 abbrev pub stride : ℕ
 stride = 5
-
--- where a block's key stands in the key area
-pub record KeyPlace : Type 0 where
-  pub offset : ℕ
-  pub len : ℕ
 
 -- all zeros, which stands where there is no block
 abbrev pub missing_place : KeyPlace

@@ -1,35 +1,32 @@
-// The index builder over two lent areas: `SSTableIndexBuilder` of src/index/mod.rs, and what its calls answer.
+// The index builder over two lent areas: `SSTableIndexBuilder` of src/index/mod.rs, and what a finish answers.
 #![tactic(auto)]
 
 pub mod record;
 
 ghost use Rattle.std.specs.Prelude.{◌≡◌};
-ghost use Rattle.builder.specs.Calls.{builder_of, with_blocks};
+ghost use Rattle.builder.specs.Calls.{builder_of, handed_back, answer_no, answer_builder};
 
+use layout::refusals::Refusal;
+
+// How many blocks the areas have.
 #[derive(Clone, Copy)]
 pub struct SSTableIndexBuilder {
     pub n: usize,
 }
 
-// The builder taken on, or a row's number and the builder as it was.
+// Why a call is refused, and the builder as it was.
 #[derive(Clone, Copy)]
-pub enum Answer {
-    Taken(SSTableIndexBuilder),
-    Refused(u32, SSTableIndexBuilder),
+pub struct Refused {
+    pub refusal: Refusal,
+    pub builder: SSTableIndexBuilder,
 }
 
-// The index's and its directory's length, or a row's number; and the builder as it was.
+// What a finish wrote, the index's length and its directory's; and the builder as it was.
 #[derive(Clone, Copy)]
-pub enum Finished {
-    Written(SSTableIndexBuilder, usize, usize),
-    Unwritten(u32, SSTableIndexBuilder),
-}
-
-// The length that a finish would need, or a row's number.
-#[derive(Clone, Copy)]
-pub enum FinishLen {
-    Total(usize),
-    Refused(u32),
+pub struct Written {
+    pub builder: SSTableIndexBuilder,
+    pub total: usize,
+    pub directory_len: usize,
 }
 
 impl SSTableIndexBuilder {
@@ -40,10 +37,28 @@ impl SSTableIndexBuilder {
         SSTableIndexBuilder { n: n }
     }
 
-    // The builder with another count of blocks.
-    pub fn with_blocks(self, n: usize) -> SSTableIndexBuilder
-        ensures { result ≡ with_blocks self n }
+    // An answer whose refusal hands this builder back.
+    pub fn hand_back<T: Drop>(self, answer: Result<T, Refusal>) -> Result<T, Refused>
+        ensures { result ≡ handed_back self answer }
     {
-        SSTableIndexBuilder { n: n }
+        match answer {
+            Ok(taken) => Ok(taken),
+            Err(refusal) => Err(Refused {
+                refusal,
+                builder: self,
+            }),
+        }
+    }
+}
+
+// An answer's number, 0 where the call is taken, and the builder that it hands back in either case.
+pub fn number_and_builder(
+    answer: Result<SSTableIndexBuilder, Refused>,
+) -> (u32, SSTableIndexBuilder)
+    ensures { (result.0 ≡ answer_no answer) × (result.1 ≡ answer_builder answer) }
+{
+    match answer {
+        Ok(builder) => (0, builder),
+        Err(refused) => (u32::from(refused.refusal), refused.builder),
     }
 }

@@ -5,50 +5,64 @@ mod write;
 
 ghost use Rattle.std.specs.Prelude.{◌≡◌};
 ghost use Rattle.builder.specs.Index.{standard};
-ghost use Rattle.builder.specs.Finish.{finish_of, FinishedCased, finish_def, finish_len_def};
+ghost use Rattle.builder.specs.Calls.{handed_back};
+ghost use Rattle.builder.specs.Finish.{finish_of, FinishedCased, finish_def, finish_len_of, finish_len_def};
 
-use builder::{FinishLen, Finished, SSTableIndexBuilder};
+use builder::{Refused, SSTableIndexBuilder, Written};
+use builder_list::CheckedList;
 use layout::STORE_BLOCK_LEN;
+use layout::refusals::Refusal;
 
-// As many blocks make 8 groups at most: their plans take a small area, so that a short list doesn't clear the large one.
+// As many blocks make 8 groups at most: their plans take a small area, so that a short list doesn't clear the large one. Two sizes
+// written out: a function with a const parameter would take more lines than the second size does.
 const FEW_BLOCKS: usize = 1_024;
 
+// Finishes the areas, if no row is hit.
+fn finish_areas(
+    builder: SSTableIndexBuilder,
+    blocks: &[u64],
+    keys: &[u8],
+    out: &mut [u8],
+) -> Result<Written, Refusal>
+    ensures { finish_of (handed_back builder result) out.new
+        ≡ finish_def standard builder blocks.now keys.now out.old }
+{
+    let list = CheckedList::check(builder, blocks, keys)?;
+    if builder.n <= FEW_BLOCKS {
+        let mut kept = [0u64; 16];
+        return write::finish_with(&list, STORE_BLOCK_LEN, &mut kept, out);
+    }
+    let mut kept = [0u64; 1_024];
+    write::finish_with(&list, STORE_BLOCK_LEN, &mut kept, out)
+}
+
 // Writes the index from the front of `out` on: the Rust's `serialize`.
-pub fn finish(builder: SSTableIndexBuilder, blocks: &[u64], keys: &[u8], out: &mut [u8]) -> Finished
+pub fn finish(
+    builder: SSTableIndexBuilder,
+    blocks: &[u64],
+    keys: &[u8],
+    out: &mut [u8],
+) -> Result<Written, Refused>
     ensures finishes { finish_of result out.new
         ≡ finish_def standard builder blocks.now keys.now out.old }
     ensures finished_cased { FinishedCased result }
 {
-    let no = builder_list::list_no(builder, blocks, keys);
-    if no != 0 {
-        return Finished::Unwritten(no, builder);
-    }
-    if builder.n <= FEW_BLOCKS {
-        let mut kept = [0u64; 16];
-        return write::finish_with(builder, blocks, keys, STORE_BLOCK_LEN, &mut kept, out);
-    }
-    let mut kept = [0u64; 1_024];
-    write::finish_with(builder, blocks, keys, STORE_BLOCK_LEN, &mut kept, out)
+    builder.hand_back(finish_areas(builder, blocks, keys, out))
 }
 
 // The total that a finish would need: rows 1 and 8 as finish has them.
-pub fn finish_len(builder: SSTableIndexBuilder, blocks: &[u64], keys: &[u8]) -> FinishLen
-    ensures { result ≡ finish_len_def standard builder blocks.now keys.now }
+pub fn finish_len(
+    builder: SSTableIndexBuilder,
+    blocks: &[u64],
+    keys: &[u8],
+) -> Result<usize, Refusal>
+    ensures { finish_len_of result ≡ finish_len_def standard builder blocks.now keys.now }
 {
-    let no = builder_list::list_no(builder, blocks, keys);
-    if no != 0 {
-        return FinishLen::Refused(no);
-    }
+    let list = CheckedList::check(builder, blocks, keys)?;
     if builder.n <= FEW_BLOCKS {
         let mut kept = [0u64; 16];
-        return FinishLen::Total(write::plan_index(
-            builder,
-            blocks,
-            keys,
-            STORE_BLOCK_LEN,
-            &mut kept,
-        ));
+        return Ok(write::plan_index(&list, STORE_BLOCK_LEN, &mut kept));
     }
     let mut kept = [0u64; 1_024];
-    FinishLen::Total(write::plan_index(builder, blocks, keys, STORE_BLOCK_LEN, &mut kept))
+    Ok(write::plan_index(&list, STORE_BLOCK_LEN, &mut kept))
 }

@@ -1,84 +1,109 @@
-// The index of areas that hit neither row 1 nor row 8: planned, then written.
+// The index of a checked list: planned, then written.
 ghost use Rattle.std.specs.Prelude.{◌≡◌, ◌+◌, ◌*◌, ◌≤◌, ◌<◌, length};
 ghost use Rattle.std.proofs.lemmas.List.Edits.{sets};
+ghost use Rattle.directory_write.specs.Records.{record_keys};
 ghost use Rattle.store.specs.Facts.{GroupLenOk};
 ghost use Rattle.store.specs.Store.{group_count};
 ghost use Rattle.store.specs.Plans.{StandsAt};
+ghost use Rattle.builder.specs.View.{stride};
 ghost use Rattle.builder.specs.Index.{settings_of};
-ghost use Rattle.builder.specs.Finish.{list_no, area_index, area_directory, area_plans};
-ghost use Rattle.builder.specs.Finish.{finish_of, FinishedCased, finish_def};
+ghost use Rattle.builder.specs.Finish.{area_keys, area_index, area_directory, area_plans};
+ghost use Rattle.builder.specs.Calls.{handed_back};
+ghost use Rattle.builder.specs.Finish.{finish_of, finish_def};
 
+use builder::Written;
 use builder::record::{KEY_OFFSET, STRIDE};
-use builder::{Finished, SSTableIndexBuilder};
-use layout::refusals::OUT_SHORT;
+use builder_list::CheckedList;
+use directory_write::KeyRecords;
+use layout::refusals::Refusal;
+use store_write::AreaStore;
+
+// The list's keys, as the directory's writers take them.
+fn key_records<'a>(list: &CheckedList<'a>) -> KeyRecords<'a>
+    ensures { record_keys result ≡ area_keys list.now.areas.builder list.now.areas.blocks.now list.now.areas.keys.now }
+{
+    KeyRecords {
+        area: list.areas.blocks,
+        stride: STRIDE,
+        field: KEY_OFFSET,
+        keys: list.areas.keys,
+        n: list.areas.builder.n,
+    }
+}
+
+// The list's blocks in groups of `group_len`, as the store's writers take them.
+fn area_store<'a>(list: &CheckedList<'a>, group_len: usize) -> AreaStore<'a>
+    requires { GroupLenOk group_len }
+    ensures { (result.area.now ≡ list.now.areas.blocks.now) × (result.stride ≡ stride)
+        × (result.n ≡ list.now.areas.builder.n) × (result.group_len ≡ group_len) }
+{
+    AreaStore {
+        area: list.areas.blocks,
+        stride: STRIDE,
+        n: list.areas.builder.n,
+        group_len,
+    }
+}
 
 // Plans the store of the areas. Returns how many bytes the index takes; none with 0 or 1 blocks.
-pub fn plan_index(
-    builder: SSTableIndexBuilder,
-    blocks: &[u64],
-    keys: &[u8],
-    group_len: usize,
-    kept: &mut [u64],
-) -> usize
-    requires { (list_no builder blocks.now keys.now ≡ 0) × GroupLenOk group_len
-        × (2 * group_count group_len builder.n ≤ length kept.old) }
-    ensures value { result ≡ length (area_index (settings_of group_len) builder blocks.now keys.now) }
-    ensures stands_at { 2 ≤ builder.n → StandsAt kept.new 0
-        (area_plans (settings_of group_len) builder blocks.now) }
+pub fn plan_index(list: &CheckedList, group_len: usize, kept: &mut [u64]) -> usize
+    requires { GroupLenOk group_len × (2 * group_count group_len list.now.areas.builder.n ≤ length kept.old) }
+    ensures value { result
+        ≡ length (area_index (settings_of group_len) list.now.areas.builder list.now.areas.blocks.now list.now.areas.keys.now) }
+    ensures stands_at { 2 ≤ list.now.areas.builder.n → StandsAt kept.new 0
+        (area_plans (settings_of group_len) list.now.areas.builder list.now.areas.blocks.now) }
 {
-    let n = builder.n;
+    let n = list.areas.builder.n;
     if n < 2 {
         return 0;
     }
-    let directory = directory_write::directory_len(blocks, STRIDE, KEY_OFFSET, keys, n);
-    directory + store_write::plan_store(blocks, STRIDE, n, group_len, kept) + 8
+    let directory = key_records(list).directory_len();
+    directory + area_store(list, group_len).plan(kept) + 8
 }
 
 // Writes the index, which was planned, from the front of `out` on: directory, store, directory length. Returns the directory's length.
-pub fn write_index(
-    builder: SSTableIndexBuilder,
-    blocks: &[u64],
-    keys: &[u8],
-    group_len: usize,
-    kept: &[u64],
-    out: &mut [u8],
-) -> usize
-    requires { (list_no builder blocks.now keys.now ≡ 0) × (2 ≤ builder.n) × GroupLenOk group_len
-        × StandsAt kept.now 0 (area_plans (settings_of group_len) builder blocks.now)
-        × (length (area_index (settings_of group_len) builder blocks.now keys.now) ≤ length out.old) }
-    ensures { (result ≡ length (area_directory builder blocks.now keys.now))
-        × (out.new
-        ≡ sets out.old 0 (area_index (settings_of group_len) builder blocks.now keys.now)) }
+pub fn write_index(list: &CheckedList, group_len: usize, kept: &[u64], out: &mut [u8]) -> usize
+    requires { (2 ≤ list.now.areas.builder.n) × GroupLenOk group_len
+        × StandsAt kept.now 0 (area_plans (settings_of group_len) list.now.areas.builder list.now.areas.blocks.now)
+        × (length (area_index (settings_of group_len) list.now.areas.builder list.now.areas.blocks.now list.now.areas.keys.now)
+        ≤ length out.old) }
+    ensures directory { result ≡ length (area_directory list.now.areas.builder list.now.areas.blocks.now list.now.areas.keys.now) }
+    ensures written { out.new
+        ≡ sets out.old 0 (area_index (settings_of group_len) list.now.areas.builder list.now.areas.blocks.now list.now.areas.keys.now) }
 {
-    let n = builder.n;
-    let directory = directory_write::serialize(blocks, STRIDE, KEY_OFFSET, keys, n, out);
-    let store = store_write::serialize(blocks, STRIDE, n, group_len, kept, &mut out[directory..]);
+    let directory = key_records(list).serialize(out);
+    let store = area_store(list, group_len).serialize(kept, &mut out[directory..]);
     serialize::serialize_u64(out, directory + store, directory as u64);
     directory
 }
 
-// Finishes a list that hits neither row 1 nor row 8; `kept` has room for the plans.
+// Finishes a list; `kept` has room for the plans.
 pub fn finish_with(
-    builder: SSTableIndexBuilder,
-    blocks: &[u64],
-    keys: &[u8],
+    list: &CheckedList,
     group_len: usize,
     kept: &mut [u64],
     out: &mut [u8],
-) -> Finished
-    requires { (list_no builder blocks.now keys.now ≡ 0) × GroupLenOk group_len
-        × (2 * group_count group_len builder.n ≤ length kept.old) }
-    ensures finishes { finish_of result out.new
-        ≡ finish_def (settings_of group_len) builder blocks.now keys.now out.old }
-    ensures finished_cased { FinishedCased result }
+) -> Result<Written, Refusal>
+    requires { GroupLenOk group_len × (2 * group_count group_len list.now.areas.builder.n ≤ length kept.old) }
+    ensures { finish_of (handed_back list.now.areas.builder result) out.new
+        ≡ finish_def (settings_of group_len) list.now.areas.builder list.now.areas.blocks.now list.now.areas.keys.now out.old }
 {
-    let total = plan_index(builder, blocks, keys, group_len, kept);
+    let builder = list.areas.builder;
+    let total = plan_index(list, group_len, kept);
     if out.len() < total {
-        return Finished::Unwritten(OUT_SHORT, builder);
+        return Err(Refusal::OutShort);
     }
     if builder.n < 2 {
-        return Finished::Written(builder, 0, 0);
+        return Ok(Written {
+            builder,
+            total: 0,
+            directory_len: 0,
+        });
     }
-    let directory = write_index(builder, blocks, keys, group_len, kept, out);
-    Finished::Written(builder, total, directory)
+    let directory_len = write_index(list, group_len, kept, out);
+    Ok(Written {
+        builder,
+        total,
+        directory_len,
+    })
 }

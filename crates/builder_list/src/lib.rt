@@ -1,84 +1,101 @@
 // Rows 1 and 8: what a finish asks of the areas.
 #![tactic(auto)]
 
-ghost use Rattle.std.specs.Prelude.{◌≡◌, ◌+◌, ◌*◌, ◌<◌, false};
+ghost use Rattle.std.specs.Prelude.{◌≡◌, ◌+◌, false, IfOk};
+ghost use Rattle.layout.specs.Refusals.{no_of};
 ghost use Rattle.builder.specs.Rows.{AreaOk};
-ghost use Rattle.builder.specs.Area.{area_view, view_of};
+ghost use Rattle.builder.specs.Area.{area_view};
 ghost use Rattle.builder.specs.Finish.{rule_bad, places_bad, rules_bad, list_no};
 
 use builder::SSTableIndexBuilder;
-use builder::record::{KEY_LEN, KEY_OFFSET, STRIDE};
-use group::BlockAddr;
-use group::area::{END, FIRST_ORDINAL};
-use layout::refusals::{AREA_BAD, LIST_BAD};
+use builder::record::{STRIDE, place_at};
+use builder_rows::{Areas, record_bad};
+use group::area::block_at;
+use layout::refusals::Refusal;
+
+// Areas that hit neither row 1 nor row 8.
+#[derive(Clone, Copy)]
+pub struct CheckedList<'a> {
+    pub areas: Areas<'a>,
+    ghost checked: { list_no areas.builder areas.blocks.now areas.keys.now ≡ 0 },
+}
 
 // Whether some key doesn't start where the one before it ends, or its record breaks row 1's rule.
-fn places_bad(builder: SSTableIndexBuilder, blocks: &[u64], keys: &[u8]) -> bool
-    requires { AreaOk (view_of builder blocks.now keys.now) }
-    ensures { result ≡ places_bad builder.n blocks.now keys.now }
+#[tactic(auto, unfolding(builder::specs::Area::area_view))]
+fn places_bad(areas: &Areas) -> bool
+    ensures { result ≡ places_bad areas.now.builder.n areas.now.blocks.now areas.now.keys.now }
 {
-    let n = builder.n;
     let mut next: u64 = 0;
-    let mut i: usize = 0;
-    while i < n {
-        let at = STRIDE * i;
-        if blocks[at + KEY_OFFSET] != next {
+    for i in 0..areas.builder.n {
+        let place = place_at(areas.blocks, i);
+        if place.offset != next {
             return true;
         }
-        if builder_rows::record_bad(i, blocks, keys) {
+        if record_bad(i, areas.blocks, areas.keys) {
             return true;
         }
-        next += blocks[at + KEY_LEN];
-        i += 1;
+        next += place.len;
     }
     false
 }
 
 // Whether block i breaks rows 2 to 6 after the i blocks before it.
+#[tactic(auto, unfolding(builder::specs::Area::area_view))]
 fn rule_bad(i: usize, blocks: &[u64], keys: &[u8]) -> bool
     requires { AreaOk (area_view i blocks.now keys.now) × AreaOk (area_view (i + 1) blocks.now keys.now) }
     ensures { result ≡ rule_bad i blocks.now keys.now }
 {
-    let at = STRIDE * i;
-    let block = BlockAddr {
-        start: blocks[at],
-        end: blocks[at + END],
-        first_ordinal: blocks[at + FIRST_ORDINAL],
+    let block = block_at(blocks, STRIDE * i);
+    let place = place_at(blocks, i);
+    let from = place.offset as usize;
+    let key = &keys[from..from + place.len as usize];
+    let before = Areas {
+        builder: SSTableIndexBuilder::new(i),
+        blocks,
+        keys,
     };
-    let from = blocks[at + KEY_OFFSET] as usize;
-    let end = from + blocks[at + KEY_LEN] as usize;
-    let key = &keys[from..end];
-    builder_rows::block_no(SSTableIndexBuilder::new(i), blocks, keys, key, key, block) != 0
+    before.check_block(key, key, block).is_err()
 }
 
 // Whether some block breaks rows 2 to 6.
-fn rules_bad(builder: SSTableIndexBuilder, blocks: &[u64], keys: &[u8]) -> bool
-    requires { AreaOk (view_of builder blocks.now keys.now) × (places_bad builder.n blocks.now keys.now ≡ false) }
-    ensures { result ≡ rules_bad builder.n blocks.now keys.now }
+fn rules_bad(areas: &Areas) -> bool
+    requires { places_bad areas.now.builder.n areas.now.blocks.now areas.now.keys.now ≡ false }
+    ensures { result ≡ rules_bad areas.now.builder.n areas.now.blocks.now areas.now.keys.now }
 {
-    let n = builder.n;
-    let mut i = 0;
-    while i < n {
-        if rule_bad(i, blocks, keys) {
+    for m in 0..areas.builder.n {
+        if rule_bad(m, areas.blocks, areas.keys) {
             return true;
         }
-        i += 1;
     }
     false
 }
 
-// Rows 1 and 8.
-pub fn list_no(builder: SSTableIndexBuilder, blocks: &[u64], keys: &[u8]) -> u32
-    ensures { result ≡ list_no builder blocks.now keys.now }
+// Row 8.
+fn check_list(areas: &Areas) -> Result<(), Refusal>
+    ensures { no_of result ≡ list_no areas.now.builder areas.now.blocks.now areas.now.keys.now }
 {
-    if builder_rows::area_bad(builder, blocks, keys) {
-        return AREA_BAD;
+    if places_bad(areas) {
+        return Err(Refusal::ListBad);
     }
-    if places_bad(builder, blocks, keys) {
-        return LIST_BAD;
+    if rules_bad(areas) {
+        return Err(Refusal::ListBad);
     }
-    if rules_bad(builder, blocks, keys) {
-        return LIST_BAD;
+    Ok(())
+}
+
+impl<'a> CheckedList<'a> {
+    // The list, or row 1 or 8.
+    pub fn check(
+        builder: SSTableIndexBuilder,
+        blocks: &'a [u64],
+        keys: &'a [u8],
+    ) -> Result<CheckedList<'a>, Refusal>
+        ensures rows_1_and_8 { no_of result ≡ list_no builder blocks.now keys.now }
+        ensures same { IfOk result (λ list. (list.areas.builder ≡ builder)
+            × (list.areas.blocks.now ≡ blocks.now) × (list.areas.keys.now ≡ keys.now)) }
+    {
+        let areas = Areas::check(builder, blocks, keys)?;
+        check_list(&areas)?;
+        Ok(CheckedList { areas })
     }
-    0
 }

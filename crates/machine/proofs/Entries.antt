@@ -1,16 +1,18 @@
 -- The areas stand for entries: each entry's five numbers and its key are at its index. An accepted call keeps this.
-use Prim.Native.Nat.{ℕ, zero, suc, ◌+◌, ◌-◌, ◌*◌, ◌≤◌, ◌<◌}
-use mathlib.Core.Path.{◌≡◌, refl, sym, ap, ◌∙◌}
+use Prim.Native.Nat.{ℕ, ◌+◌, ◌-◌, ◌*◌, ◌≤◌, ◌<◌}
+use mathlib.Core.Path.{◌≡◌, refl, ◌∙◌}
 use mathlib.Core.List.{List, [], ◌∷◌}
-use native.Mathlib.Nat.{add-zero, zero-add, suc-add}
+use native.Mathlib.Nat.{add-zero}
 use native.Mathlib.Omega.{arith}
 use lib.ListN.{length, get_or, take, drop, set}
-use lib.Seq.{sets, take-nil, take-take, get_or-take, get_or-drop, get_or-set_same, get_or-set_other, take-set-le}
+use lib.Seq.{sets, take-take, get_or-take, get_or-drop, get_or-set_same, get_or-set_other, take-set-le}
 use borrow.Author.Tests.{ne_eqb}
+use Rattle.std.proofs.lemmas.List.{drop-take}
 use Rattle.layout.specs.Layout.{max_blocks}
 use Rattle.serialize.proofs.Stores.{sets-part, sets-outside-take}
 use Rattle.group.specs.declared.BlockAddr.{BlockAddr}
-use Rattle.builder.specs.View.{stride, KeyPlace}
+use Rattle.builder.specs.View.{stride}
+use Rattle.builder.specs.declared.record.KeyPlace.{KeyPlace}
 use Rattle.builder.specs.Area.{key_len_field, record_numbers, area_block, area_place, area_key, area_view, view_of}
 use Rattle.builder.specs.Calls.{State}
 use Rattle.machine.specs.Plain.{Entry, Rooms, key_bytes_taken, plain_view}
@@ -90,18 +92,10 @@ plain-room rooms (e ∷ es) = (refl, refl)
 -- ---- what stands before a change stays
 
 front-get_or : (m : ℕ) (B B' : List ℕ) (j : ℕ) → j < m → take m B' ≡ take m B → get_or B' j 0 ≡ get_or B j 0
-front-get_or m B B' j h e = sym (get_or-take m B' j 0 h) ∙ ap (λ (l : List ℕ). get_or l j 0) e ∙ get_or-take m B j 0 h
-
-drop-take : (n m : ℕ) (l : List ℕ) → drop n (take (n + m) l) ≡ take m (drop n l)
-drop-take zero m l = rw (zero-add m)
-drop-take (suc n) m [] = rw (take-nil (suc n + m), take-nil m)
-drop-take (suc n) m (x ∷ l) = rw (suc-add n m) (drop-take n m l)
+front-get_or m B B' j h e = grind (arith, get_or-take m B' j 0 h, get_or-take m B j 0 h, e)
 
 front-part : (m : ℕ) (K K' : List ℕ) (at len : ℕ) → at + len ≤ m → take m K' ≡ take m K → take len (drop at K') ≡ take len (drop at K)
-front-part m K K' at len h e =
-    sym (drop-take at len K')
-    ∙ ap (drop at) (sym (take-take (at + len) m K' h) ∙ ap (take (at + len)) e ∙ take-take (at + len) m K h)
-    ∙ drop-take at len K
+front-part m K K' at len h e = grind (arith, drop-take at len K', drop-take at len K, take-take (at + len) m K' h, take-take (at + len) m K h, e)
 
 pub holds_kept : (es : List Entry) (B K B' K' : List ℕ) (m k : ℕ) → stride * length es ≤ m → key_bytes_taken es ≤ k
     → take m B' ≡ take m B → take k K' ≡ take k K → Holds es B K → Holds es B' K'
@@ -129,10 +123,7 @@ holds_kept (e ∷ es) B K B' K' m k h g p q w =
 -- ---- an accepted add
 
 get_or-sets : (B w : List ℕ) (at j : ℕ) → at + length w ≤ length B → j < length w → get_or (sets B at w) (at + j) 0 ≡ get_or w j 0
-get_or-sets B w at j h l =
-    sym (get_or-drop at (sets B at w) j 0)
-    ∙ sym (get_or-take (length w) (drop at (sets B at w)) j 0 l)
-    ∙ ap (λ (x : List ℕ). get_or x j 0) (sets-part B w at h)
+get_or-sets B w at j h l = let part = sets-part B w at h in grind (arith, get_or-drop, get_or-take, part)
 
 -- where a key that is added after `at` key bytes stands
 abbrev pub place_at : ℕ → List ℕ → KeyPlace

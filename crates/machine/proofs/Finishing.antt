@@ -5,10 +5,9 @@ use mathlib.Core.List.{List, []}
 use mathlib.Core.Bool.{false}
 use native.Mathlib.Nat.{zero-add}
 use native.Mathlib.Omega.{arith}
-use lib.Dec.{ltb}
+use Rattle.std.proofs.lemmas.Bool.Decides.{nat_tests}
 use lib.ListN.{length}
 use lib.Seq.{ext_get_or}
-use Rattle.keys.proofs.Order.{by-test}
 use Rattle.group.specs.Blocks.{no_block, block_at, blocks_at}
 use Rattle.group.proofs.Blocks.{length-blocks_at, blocks_at-at}
 use Rattle.directory.specs.Keys.{key_at}
@@ -100,9 +99,7 @@ module _ (es : List Entry) (s : State) (r : Rep es s) where
     pub rep-finish : (S : Settings) (out : List ℕ) → finish_def S s.builder s.blocks s.keys out ≡ plain_finish S es out
     unfolding finish_def finish_no step_of_finish plain_finish
     rep-finish S out =
-        by-test (ltb (length out) (length (plain_index S es)))
-        (λ t. rw (rep-list, rep-index S, t, rep-builder))
-        (λ t. rw (rep-list, rep-index S, t, rep-index S, rep-directory, rep-builder))
+        grind (arith, nat_tests, rep-list, rep-index S, rep-directory, rep-builder)
 
 -- a list of calls from a fresh builder, then a finish with any settings
 pub finish-plain : (S : Settings) (cs : List Call) (s : State) → FreshState s → (out : List ℕ)

@@ -3,13 +3,12 @@ use Prim.Native.Nat.{ℕ, zero, suc, ◌+◌, ◌-◌, ◌*◌, ◌≤◌, ◌<�
 use mathlib.Core.Path.{◌≡◌, refl, sym, ap, ap₂, ◌∙◌}
 use mathlib.Core.List.{List, [], ◌∷◌}
 use native.Mathlib.Omega.{arith}
-use lib.Dec.{eqb}
+use Rattle.std.proofs.lemmas.Bool.Decides.{nat_tests}
 use lib.ListN.{length, length-set}
 use lib.Seq.{sets, length-sets}
 use borrow.Author.Tests.{ne_eqb}
 use Rattle.layout.specs.Layout.{max_blocks}
 use Rattle.keys.specs.Shorten.{shorten}
-use Rattle.keys.proofs.Order.{by-test}
 use Rattle.keys.proofs.Shorten.{shorten-length}
 use Rattle.group.specs.declared.BlockAddr.{BlockAddr}
 use Rattle.builder.specs.View.{stride, View}
@@ -131,11 +130,11 @@ short-rep (e ∷ es) s next r = short-some e es s next r
 
 length-short_blocks : (n : ℕ) (B K next : List ℕ) → length (short_blocks n B K next) ≡ length B
 unfolding short_blocks
-length-short_blocks n B K next = by-test (eqb n 0) (λ e. simp e) (λ e. simp (e, length-set))
+length-short_blocks n B K next = grind (arith, nat_tests, length-set)
 
 length-short_keys : (n : ℕ) (B K next : List ℕ) → length (short_keys n B K next) ≡ length K
 unfolding short_keys
-length-short_keys n B K next = by-test (eqb n 0) (λ e. simp e) (λ e. simp (e, length-sets))
+length-short_keys n B K next = grind (arith, nat_tests, length-sets)
 
 shorten-step : (es : List Entry) (s : State) → Rep es s → (next : List ℕ) (k : ℕ)
     → k ≡ shorten_no (view_of s.builder s.blocks s.keys) next

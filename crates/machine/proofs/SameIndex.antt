@@ -3,10 +3,10 @@ use Prim.Native.Nat.{ℕ, zero, suc, ◌≤◌, ◌<◌}
 use mathlib.Core.Path.{◌≡◌, sym, ap, ◌∙◌}
 use mathlib.Core.List.{List, [], ◌++◌}
 use native.Mathlib.Omega.{arith}
-use lib.Dec.{eqb, ltb}
+use lib.Dec.{eqb}
 use lib.ListN.{length, get_or, take, length-append}
 use lib.Seq.{take_at, take-append_seam}
-use borrow.Author.Tests.{eqb-true, eqb-false, ltb-true, ltb-false}
+use borrow.Author.Tests.{eqb-true, eqb-false}
 use Rattle.layout.specs.Layout.{max_blocks}
 use Rattle.serialize.specs.Digits.{le_bytes}
 use Rattle.serialize.proofs.Digits.{length-digits_of}
@@ -80,12 +80,8 @@ module _ (S S' : Settings) (groups : S.len_of_group ≡ S'.len_of_group) where
   -- where one of two lists has an index and the other has none, the bytes differ
   two-both : (es es' : List Entry) → 2 ≤ length es → plain_index S es ≡ plain_index S' es' → 2 ≤ length es'
   two-both es es' two e =
-      by-test (ltb (length es') 2)
-      (λ t.
-      let none : length (plain_index S' es') ≡ 0 = ap length (plain-none es' S' (ltb-true (length es') 2 t)) in
       let some = ap length (plain-some es S two) ∙ length-index_bytes S (blocks_of es) (separators_of es) in
-      absurd (let z : ⊥ = omega (arith, ap length e) in z))
-      (λ t. ltb-false (length es') 2 t)
+      grind (arith, plain-none es' S', some, ap length e)
 
   -- of two lists of calls, the indexes have equal bytes only when blocks and separators are equal, whatever slopes were chosen
   pub fresh-inj : SettingsOk S → SettingsOk S' → (cs cs' : List Call) (s s' : State) → FreshState s → FreshState s'
