@@ -2,17 +2,15 @@
 use mathlib.Core.Path.{◌≡◌, refl, sym, ◌∙◌}
 use mathlib.Core.Bool.{Bool, true, false, cond, true≢false}
 use mathlib.Core.Logic.{inl, inr}
-use mathlib.Core.List.{List, [], ◌∷◌}
-use Prim.Native.Nat.{ℕ, ◌+◌, ◌≤◌, ◌<◌}
-use native.Mathlib.Nat.{zero-add}
-use native.Mathlib.Numerals.{add-one}
+use mathlib.Core.List.{List, ◌++◌}
+use Prim.Native.Nat.{ℕ, ◌≤◌, ◌<◌}
 use native.Mathlib.Omega.{arith}
 use lib.Dec.{ltb}
-use lib.ListN.{length, get_or, take, set}
-use lib.Seq.{sets, take-suc, length-take-le, get_or-take}
+use lib.ListN.{length, get_or, take, drop}
+use lib.Seq.{sets, take-length, length-take-le, get_or-take}
 use borrow.Author.Tests.{ltb-false}
 use Rattle.serialize.proofs.Tests.{neither}
-use Rattle.serialize.proofs.Stores.{sets-append}
+use Rattle.serialize.proofs.Stores.{copied}
 use Rattle.directory.specs.Read.{key_of, Sorted}
 use Rattle.store.specs.Facts.{GroupLenOk}
 use Rattle.index.specs.declared.SSTableIndexV3.{SSTableIndexV3}
@@ -28,6 +26,15 @@ use Rattle.batch_search.specs.Entries.{EntryExact, EntriesFound}
 use Rattle.batch.specs.Batch.{batch_bad, EntriesWritten, BatchLeaves, LocateWithKeysBy}
 
 -- ---- row 26
+
+-- what a refused list's number says of its test, and what a list that is taken says
+pub list-refused : (t : Bool) (k : ℕ) → k ≡ cond t 26 0 → 0 < k → (t ≡ true) × (k ≡ 26)
+list-refused true k e h = (refl, e)
+list-refused false k e h = absurd (let z : ⊥ = omega arith in z)
+
+pub list-passed : (t : Bool) → ◌≡◌ {A = ℕ} 0 (cond t 26 0) → t ≡ false
+list-passed true e = absurd (let z : ⊥ = omega arith in z)
+list-passed false e = refl
 
 module _ (pairs bytes : List ℕ) (room : ℕ) where
   pub list-bad : key_list_bad 64 pairs (length bytes) ≡ true → batch_bad pairs bytes room ≡ true
@@ -51,18 +58,12 @@ module _ (pairs bytes : List ℕ) (room : ℕ) where
 
 -- ---- what is written
 
--- one entry more
-pub write-next : (ids found : List ℕ) (i : ℕ) → i < length found
-    → set (sets ids 0 (take i found)) i (get_or found i 0) ≡ sets ids 0 (take (i + 1) found)
-write-next ids found i h =
-    let l : length (take i found) ≡ i = length-take-le i found (omega arith) in
-    let s = sets-append ids (take i found) (get_or found i 0 ∷ []) 0 in
-    rw (add-one i, take-suc found i 0 h, ← s, zero-add (length (take i found)), l)
-
--- none, or all of them
-pub at_most : (t : Bool) (count k : ℕ) → k ≡ cond t count 0 → k ≤ count
-at_most true count k e = omega (arith, e)
-at_most false count k e = omega (arith, e)
+-- the first `count` entries, copied to the front
+pub copied-entries : (ids found : List ℕ) (count : ℕ) → count ≤ length found → count ≤ length ids
+    → take count found ++ drop count ids ≡ sets ids 0 (take count found)
+copied-entries ids found count h l =
+    let e : length (take count found) ≡ count = length-take-le count found h in
+    rw (take-length (take count found), e) at (copied ids (take count found) (omega (arith, e)))
 
 -- the entries found are those that are written
 pub entries-of : (E : ℕ → ℕ → Type 0) (count : ℕ) (ids found : List ℕ) → count ≤ length found
@@ -118,7 +119,7 @@ module _ (L : ℕ) (f : List ℕ) (opened : SSTableIndexV3) (pairs bytes ids : L
   module _ (fits : OpenedFits L opened (length f)) (good : batch_bad pairs bytes (length ids) ≡ false)
       (d found : List ℕ) (is : d ≡ directory_at opened f) (r : Bool) (searched : EntriesFound d opened.n pairs bytes found r) where
     -- a search met a key outside: then bytes and record aren't of one opening
-    late-answer : r ≡ false → LocateWithKeysBy L f opened pairs bytes ids ids 20
+    pub late-answer : r ≡ false → LocateWithKeysBy L f opened pairs bytes ids ids 20
     late-answer e =
         let never : OpensBy L f opened → ⊥ =
         λ o. true≢false (sym (searched.ends (file-sorted L f opened (opens-facts-by L f opened group o) d is)) ∙ e) in
@@ -131,7 +132,7 @@ module _ (L : ℕ) (f : List ℕ) (opened : SSTableIndexV3) (pairs bytes ids : L
           exact = λ o. absurd (never o);
         }
 
-    taken-answer : r ≡ true → LocateWithKeysBy L f opened pairs bytes ids (sets ids 0 (take (key_list_count pairs) found)) 0
+    pub taken-answer : r ≡ true → LocateWithKeysBy L f opened pairs bytes ids (sets ids 0 (take (key_list_count pairs) found)) 0
     taken-answer e =
         let few : key_list_count pairs ≤ length found =
         omega (arith, searched.long, (batch-ok pairs bytes (length ids) good).list.few) in
@@ -154,13 +155,3 @@ module _ (L : ℕ) (f : List ℕ) (opened : SSTableIndexV3) (pairs bytes ids : L
                 refused = λ h. absurd (let z : ⊥ = omega arith in z);
               };
         }
-
-    either : (t : Bool) → r ≡ t
-        → LocateWithKeysBy L f opened pairs bytes ids (sets ids 0 (take (cond t (key_list_count pairs) 0) found)) (cond t 0 20)
-    either true e = taken-answer e
-    either false e = late-answer e
-
-    -- what is written, and the number, either way
-    pub searched-answer : (m k : ℕ) (written : List ℕ) → written ≡ sets ids 0 (take m found) → m ≡ cond r (key_list_count pairs) 0
-        → k ≡ cond r 0 20 → LocateWithKeysBy L f opened pairs bytes ids written k
-    searched-answer m k written w e g = rw (w, e, g) (either r refl)

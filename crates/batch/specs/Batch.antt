@@ -1,4 +1,4 @@
--- A batch of keys in one lookup (document 02, wish 1), for all inputs.
+-- A batch of keys in one lookup, for all inputs.
 use Rattle.std.specs.Prelude.{ℕ, ◌<◌, ◌≡◌, List, ◌⊎◌, Bool, true, false, ◌||◌, cond, ltb, length, get_or}
 use Rattle.std.proofs.lemmas.List.Edits.{sets}
 use Rattle.layout.specs.Layout.{max_batch_keys}

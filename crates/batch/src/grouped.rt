@@ -1,51 +1,26 @@
 // The lookup of a batch with groups of a given length. All entries are there before the first of them is written.
-ghost use Rattle.std.specs.Prelude.{◌≡◌, cond, ◌≤◌, length, take};
+ghost use Rattle.std.specs.Prelude.{◌≡◌, ◌≤◌, length, take};
 ghost use Rattle.std.proofs.lemmas.List.Edits.{sets};
 ghost use Rattle.layout.specs.Layout.{max_batch_keys};
+ghost use Rattle.layout.specs.Refusals.{no_of};
 ghost use Rattle.store.specs.Facts.{GroupLenOk};
-ghost use Rattle.batch.specs.Batch.{batch_bad, LocateWithKeysBy};
+ghost use Rattle.batch.specs.Batch.{LocateWithKeysBy};
 
 use index::SSTableIndexV3;
-use index_lookup::grouped::opened_bad;
+use index_lookup::OpenedIndex;
+use key_list::KeyList;
 use layout::MAX_BATCH_KEYS;
-use layout::refusals::{KEY_LIST_BAD, UNFIT};
-
-// Row 26.
-fn batch_bad(pairs: &[u64], keys: &[u8], room: usize) -> bool
-    ensures { result ≡ batch_bad pairs.now keys.now room }
-{
-    if key_list::key_list_bad(pairs, keys.len(), MAX_BATCH_KEYS) {
-        return true;
-    }
-    room < pairs.len() / 2
-}
+use layout::refusals::Refusal;
 
 // Copies the first `count` entries to the front of the ids.
 fn write(found: &[u64; MAX_BATCH_KEYS], count: usize, ids: &mut [u64])
     requires { (count ≤ max_batch_keys) × (length found.now ≡ max_batch_keys) × (count ≤ length ids.old) }
     ensures { ids.new ≡ sets ids.old 0 (take count found.now) }
 {
-    let mut i: usize = 0;
-    while i < count {
-        ids[i] = found[i];
-        i += 1;
-    }
+    ids[..count].copy_from_slice(&found[..count]);
 }
 
-// How many entries are written: none where a search didn't end.
-fn to_write(ended: bool, count: usize) -> usize
-    ensures { result ≡ cond ended count 0 }
-{
-    if ended { count } else { 0 }
-}
-
-fn answer(ended: bool) -> u32
-    ensures { result ≡ cond ended 0 20 }
-{
-    if ended { 0 } else { UNFIT }
-}
-
-// Writes the id of the block of each key at the front of `ids`. Returns a row's number, or 0.
+// Writes the id of the block of each key at the front of `ids`.
 pub fn locate_with_keys(
     opened: SSTableIndexV3,
     data: &[u8],
@@ -53,24 +28,17 @@ pub fn locate_with_keys(
     pairs: &[u64],
     keys: &[u8],
     ids: &mut [u64],
-) -> u32
+) -> Result<(), Refusal>
     requires { GroupLenOk group_len }
-    ensures { LocateWithKeysBy group_len «data».now opened pairs.now keys.now
-        ids.old ids.new result }
+    ensures { LocateWithKeysBy group_len «data».now opened pairs.now keys.now ids.old ids.new (no_of result) }
 {
-    if opened_bad(opened, data.len(), group_len) {
-        return UNFIT;
+    let index = OpenedIndex::check(opened, data, group_len)?;
+    let list = KeyList::new(pairs, keys)?;
+    if ids.len() < list.len() {
+        return Err(Refusal::KeyListBad);
     }
-    if batch_bad(pairs, keys, ids.len()) {
-        return KEY_LIST_BAD;
-    }
-    let from = opened.directory;
-    let end = from + opened.directory_len;
-    let directory = &data[from..end];
     let mut found = [0u64; MAX_BATCH_KEYS];
-    let ended = batch_search::find_entries(directory, opened.n, pairs, keys, &mut found);
-    let count = pairs.len() / 2;
-    let entries = to_write(ended, count);
-    write(&found, entries, ids);
-    answer(ended)
+    batch_search::find_entries(index.directory(), &list, &mut found)?;
+    write(&found, list.len(), ids);
+    Ok(())
 }

@@ -3,21 +3,22 @@
 
 pub mod grouped;
 
+ghost use Rattle.layout.specs.Refusals.{no_of};
 ghost use Rattle.batch.specs.Batch.{LocateWithKeys};
 
 use index::SSTableIndexV3;
 use layout::STORE_BLOCK_LEN;
+use layout::refusals::Refusal;
 
-// Writes the id of the block of each key at the front of `ids`. Returns a row's number, or 0.
+// Writes the id of the block of each key at the front of `ids`.
 pub fn locate_with_keys(
     opened: SSTableIndexV3,
     data: &[u8],
     pairs: &[u64],
     keys: &[u8],
     ids: &mut [u64],
-) -> u32
-    ensures { LocateWithKeys «data».now opened pairs.now keys.now ids.old
-        ids.new result }
+) -> Result<(), Refusal>
+    ensures { LocateWithKeys «data».now opened pairs.now keys.now ids.old ids.new (no_of result) }
 {
     grouped::locate_with_keys(opened, data, STORE_BLOCK_LEN, pairs, keys, ids)
 }

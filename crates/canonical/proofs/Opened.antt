@@ -1,5 +1,5 @@
 -- The parts that an opened record names are those of the store, with all that the store's check asks; and the number of a file that is refused.
-use Prim.Native.Nat.{ℕ, zero, suc, ◌+◌, ◌-◌, ◌*◌, ◌≤◌}
+use Prim.Native.Nat.{ℕ, ◌+◌, ◌-◌, ◌*◌, ◌≤◌}
 use mathlib.Core.Path.{◌≡◌, sym, ap, ◌∙◌}
 use mathlib.Core.Bool.{Bool, cond}
 use mathlib.Core.List.{List}
@@ -9,29 +9,31 @@ use lib.ListN.{length, take, drop}
 use Rattle.layout.specs.Layout.{meta_len}
 use Rattle.serialize.specs.Digits.{DigitsBelow}
 use Rattle.slope.specs.Slope.{best_slope}
-use Rattle.group.specs.Rows.{or_row}
 use Rattle.store.specs.Store.{group_count}
 use Rattle.store.specs.Check.{store_no}
 use Rattle.store.specs.Facts.{GroupLenOk, GroupRecordsOk}
 use Rattle.store_canonical.specs.Canonical.{is_store_canonical}
 use Rattle.builder.specs.Index.{Settings, settings_of}
 use Rattle.index.specs.declared.SSTableIndexV3.{SSTableIndexV3}
-use Rattle.index.specs.declared.Loaded.TheVariants.{Refused}
+use Rattle.std.specs.Prelude.{Err}
+use Rattle.layout.specs.declared.refusals.Refusal.{Refusal}
+use Rattle.layout.specs.Refusals.{number_of}
+use Rattle.layout.proofs.Numbers.{number_positive}
+use Rattle.group.proofs.RowOrder.{or_row-first}
+use Rattle.index.specs.Answers.{load_no}
 use Rattle.index.specs.Parts.{group_records_part, addrs_part, count_in}
-use Rattle.index.specs.Opening.{open_no, opened_of, step_of_open, open_def, OpensBy}
+use Rattle.index.specs.Opening.{open_no, opened_of, open_def, OpensBy}
 use Rattle.index.proofs.OpenFacts.{OpenFacts, opens-facts-by}
-use Rattle.index.proofs.OpeningRows.{open-ok}
+use Rattle.index.proofs.OpeningRows.{open-ok, load-number}
 use Rattle.canonical.specs.Canonical.{canonical_no}
 use Rattle.index.proofs.OpeningJoined.{length-records_part}
 use Rattle.canonical.proofs.Parts.{canonical-parts}
 
-refused-by : (f : List ℕ) (m later k : ℕ) → step_of_open m f ≡ Refused k → k ≡ or_row m later
-refused-by f zero later k e = absurd (let z : ◌≡◌ {A = ℕ} 0 1 = cc in omega arith)
-refused-by f (suc m) later k e = cc
-
-pub refused-number : (S : Settings) (f : List ℕ) (k : ℕ) → open_def S.len_of_group f ≡ Refused k → k ≡ canonical_no S f
-unfolding open_def canonical_no
-refused-number S f k e = refused-by f (open_no S.len_of_group f) _ k e
+pub refused-number : (S : Settings) (f : List ℕ) (r : Refusal) → open_def S.len_of_group f ≡ Err r → number_of r ≡ canonical_no S f
+unfolding canonical_no
+refused-number S f r e =
+    let no : number_of r ≡ open_no S.len_of_group f = sym (ap load_no e) ∙ load-number S.len_of_group f in
+    no ∙ sym (or_row-first (open_no S.len_of_group f) _ (λ z. let some = number_positive r in omega arith))
 
 module _ (L : ℕ) (f : List ℕ) (opened : SSTableIndexV3) (len : GroupLenOk L) (opens : OpensBy L f opened) where
   facts : OpenFacts L f opened

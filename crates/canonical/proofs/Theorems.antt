@@ -1,4 +1,4 @@
--- The theorems of document 02's wish 3: who gets 0, that there is one such file for blocks and separators, and that finish writes it.
+-- The theorems of the canonical form: who gets 0, that there is one such file for blocks and separators, and that finish writes it.
 use Prim.Native.Nat.{ℕ, ◌≤◌}
 use mathlib.Core.Path.{◌≡◌, refl, sym, ap, ◌∙◌}
 use mathlib.Core.Logic.{◌⊎◌, inl, inr}

@@ -1,4 +1,4 @@
--- Document 02, wish 3: whether an index is, byte for byte, the one that finish makes from the blocks and separators read in it.
+-- Whether an index is, byte for byte, the one that finish makes from the blocks and separators read in it.
 use Rattle.std.specs.Prelude.{ℕ, ◌≡◌, cond, List}
 use Rattle.group.specs.declared.BlockAddr.{BlockAddr}
 use Rattle.group.specs.Blocks.{blocks_at}

@@ -2,49 +2,50 @@
 #![tactic(auto)]
 
 ghost use Rattle.std.specs.Prelude.{◌≡◌};
+ghost use Rattle.layout.specs.Refusals.{no_of};
 ghost use Rattle.store.specs.Facts.{GroupLenOk};
 ghost use Rattle.builder.specs.Index.{settings_of, standard};
 ghost use Rattle.index.specs.Opening.{OpensBy};
 ghost use Rattle.canonical.specs.Canonical.{canonical_no};
 
-use index::{Loaded, SSTableIndexV3};
+use index::SSTableIndexV3;
 use layout::STORE_BLOCK_LEN;
-use layout::refusals::NOT_CANONICAL;
+use layout::refusals::Refusal;
+use store_read::BlockAddrStore;
 
 // Row 27 for an index that opened. The directory and the lengths can't differ from what finish writes: rows 10 to 14 leave one
 // form for them.
-fn store_no(data: &[u8], opened: SSTableIndexV3, group_len: usize) -> u32
+fn check_store(data: &[u8], opened: SSTableIndexV3, group_len: usize) -> Result<(), Refusal>
     requires { GroupLenOk group_len × OpensBy group_len «data».now opened }
-    ensures { result ≡ canonical_no (settings_of group_len) «data».now }
+    ensures { no_of result ≡ canonical_no (settings_of group_len) «data».now }
 {
     let metas = opened.metas;
     let addrs = opened.addrs;
     let end = addrs + opened.addrs_len;
-    if store_canonical::store_canonical(
-        &data[metas..addrs],
-        &data[addrs..end],
-        opened.n,
+    let store = BlockAddrStore {
+        metas: &data[metas..addrs],
+        addrs: &data[addrs..end],
+        n: opened.n,
         group_len,
-    ) {
-        return 0;
+    };
+    if store_canonical::store_canonical(&store) {
+        return Ok(());
     }
-    NOT_CANONICAL
+    Err(Refusal::NotCanonical)
 }
 
 // The same with groups of a given length.
-fn check_grouped(data: &[u8], group_len: usize) -> u32
+fn check_grouped(data: &[u8], group_len: usize) -> Result<(), Refusal>
     requires { GroupLenOk group_len }
-    ensures { result ≡ canonical_no (settings_of group_len) «data».now }
+    ensures { no_of result ≡ canonical_no (settings_of group_len) «data».now }
 {
-    match index_load::grouped::load(data, group_len) {
-        Loaded::Refused(no) => no,
-        Loaded::Opened(opened) => store_no(data, opened, group_len),
-    }
+    let opened = index_load::grouped::load(data, group_len)?;
+    check_store(data, opened, group_len)
 }
 
-// Opening's numbers for a file that doesn't open, 27 for one that opens and isn't canonical, 0 for one that is.
-pub fn check_canonical(data: &[u8]) -> u32
-    ensures { result ≡ canonical_no standard «data».now }
+// Refused with opening's row for a file that doesn't open, and with row 27 for one that opens and isn't canonical.
+pub fn check_canonical(data: &[u8]) -> Result<(), Refusal>
+    ensures { no_of result ≡ canonical_no standard «data».now }
 {
     check_grouped(data, STORE_BLOCK_LEN)
 }

@@ -2,26 +2,22 @@
 use mathlib.Core.Path.{◌≡◌, sym, ◌∙◌}
 use mathlib.Core.Bool.{true, true≢false}
 use mathlib.Core.List.{List}
-use mathlib.Core.Logic.{◌⊎◌, inl, inr}
+use mathlib.Core.Logic.{inl, inr}
 use Prim.Native.Nat.{ℕ, ◌<◌}
 use native.Mathlib.Omega.{arith}
-use denote.Enum.Declared.{tag_of}
+use Rattle.std.specs.Prelude.{Result, Err}
 use lib.ListN.{length, drop, length-take, length-drop}
-use Rattle.keys.specs.Order.{◌≺◌}
 use Rattle.group.specs.declared.BlockAddr.{BlockAddr}
 use Rattle.group.specs.Legal.{Legal}
 use Rattle.group.specs.Rows.{are_numbers_bad}
 use Rattle.group.proofs.Legal.{numbers-good}
-use Rattle.store.specs.Read.{store_block, block_or, StoreOk, ord_found_no, OrdFoundAs}
+use Rattle.store.specs.Read.{store_block, block_or, StoreOk, OrdFoundIn, OrdFoundAs}
 use Rattle.store.specs.Facts.{GroupLenOk, GroupRecordsOk}
-use Rattle.store.specs.declared.OrdFound.{OrdFound}
-use Rattle.store.specs.declared.OrdFound.TheVariants.{At as OrdAt, Below, Broken}
-use Rattle.store.specs.contracts.OrdFound as ord-found
+use Rattle.store.specs.declared.Located.{Located}
 use Rattle.store.proofs.Lookup.{read-block}
-use Rattle.directory.specs.Read.{key_of, Sorted, found_no, FoundAs}
-use Rattle.directory.specs.declared.Found.{Found}
-use Rattle.directory.specs.declared.Found.TheVariants.{At, Above, Outside}
-use Rattle.directory.specs.contracts.Found as found
+use Rattle.directory.specs.Read.{key_of, Sorted, FoundIn, FoundAs}
+use Rattle.layout.specs.declared.refusals.Refusal.{Refusal}
+use Rattle.layout.specs.Refusals.{number_of}
 use Rattle.index.specs.declared.SSTableIndexV3.{SSTableIndexV3}
 use Rattle.index.specs.Parts.{group_records_part, addrs_part, directory_part, count_in, block_in, separator_in}
 use Rattle.index.specs.Opening.{OpensBy}
@@ -50,40 +46,14 @@ kept block n i b legal h e bad = true≢false (sym bad ∙ numbers-good b (rw e 
 
 -- ---- a search that found no block
 
--- it is one of the other two
-abbrev pub NotAt : Found → Type 0
-NotAt r = (tag_of found.the_type r ≡ 1) ⊎ (tag_of found.the_type r ≡ 2)
+-- it is refused with its own row, or 20
+pub key-refused : (n : ℕ) (r : Refusal) → FoundIn n (Err r) → Refuses 19 (number_of r)
+unfolding FoundIn
+key-refused n r h = h
 
-abbrev pub NoOrd : OrdFound → Type 0
-NoOrd r = (tag_of ord-found.the_type r ≡ 1) ⊎ (tag_of ord-found.the_type r ≡ 2)
-
-pub key-refused : (r : Found) (k : ℕ) → k ≡ found_no r → NotAt r → Refuses 19 k
-key-refused (At i) k h (inl e) = absurd (let z : ⊥ = omega arith in z)
-key-refused (At i) k h (inr e) = absurd (let z : ⊥ = omega arith in z)
-key-refused Above k h other = inl h
-key-refused Outside k h other = inr h
-
-pub key_above : (separator : ℕ → List ℕ) (n : ℕ) (key : List ℕ) (r : Found) (k : ℕ) → k ≡ found_no r → NotAt r → FoundAs separator n key r
-    → (k ≡ 19) × ((i : ℕ) → i < n → separator i ≺ key)
-unfolding FoundAs
-key_above separator n key (At i) k h (inl e) p = absurd (let z : ⊥ = omega arith in z)
-key_above separator n key (At i) k h (inr e) p = absurd (let z : ⊥ = omega arith in z)
-key_above separator n key Above k h other p = (h, p)
-key_above separator n key Outside k h other p = absurd p
-
-pub ord-refused : (r : OrdFound) (k : ℕ) → k ≡ ord_found_no r → NoOrd r → Refuses 18 k
-ord-refused (OrdAt i b) k h (inl e) = absurd (let z : ⊥ = omega arith in z)
-ord-refused (OrdAt i b) k h (inr e) = absurd (let z : ⊥ = omega arith in z)
-ord-refused Below k h other = inl h
-ord-refused Broken k h other = inr h
-
-pub ord-below : (block : ℕ → BlockAddr) (n ord : ℕ) (r : OrdFound) (k : ℕ) → k ≡ ord_found_no r → NoOrd r → OrdFoundAs block n ord r
-    → (k ≡ 18) × (ord < (block 0).first_ordinal)
-unfolding OrdFoundAs
-ord-below block n ord (OrdAt i b) k h (inl e) p = absurd (let z : ⊥ = omega arith in z)
-ord-below block n ord (OrdAt i b) k h (inr e) p = absurd (let z : ⊥ = omega arith in z)
-ord-below block n ord Below k h other p = (h, p)
-ord-below block n ord Broken k h other p = absurd p
+pub ord-refused : (n : ℕ) (r : Refusal) → OrdFoundIn n (Err r) → Refuses 18 (number_of r)
+unfolding OrdFoundIn
+ord-refused n r h = h
 
 -- a refusal's number is above 0
 pub refuses-above : (row k : ℕ) → 0 < row → Refuses row k → 0 < k
@@ -109,13 +79,13 @@ module _ (L : ℕ) (f : List ℕ) (opened : SSTableIndexV3) (facts : OpenFacts L
         (read-block L (group_records_part f) (addrs_part f) (count_in f) id facts.group.some facts.ok (rw facts.count at h))
 
     -- by ordinal
-    pub located-as : (ord : ℕ) (r : OrdFound)
+    pub located-as : (ord : ℕ) (r : Result Located Refusal)
         → (StoreOk L recs addr opened.n → OrdFoundAs (store_block L recs addr) opened.n ord r) → OrdFoundAs (block_in L f) opened.n ord r
     unfolding block_in
     located-as ord r h = rw (recs-are, addr-are) at (h (rw (recs-are, addr-are, facts.count) facts.ok))
 
   -- by key
-  pub found_as : (d : List ℕ) → d ≡ directory_at opened f → (key : List ℕ) (r : Found)
+  pub found_as : (d : List ℕ) → d ≡ directory_at opened f → (key : List ℕ) (r : Result ℕ Refusal)
       → (Sorted d opened.n → FoundAs (key_of d opened.n) opened.n key r) → FoundAs (separator_in f) opened.n key r
   unfolding separator_in
   found_as d e key r h =

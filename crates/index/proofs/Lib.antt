@@ -1,8 +1,10 @@
 pub mod Answered
 pub mod Fits
 pub mod LookupLaws
+pub mod Lookups
 pub mod OpenFacts
-pub mod OpeningRows
 pub mod OpeningJoined
+pub mod OpeningRows
 pub mod Places
+pub mod Refusals
 pub mod Unique

@@ -1,5 +1,6 @@
 -- Laws of bytes and record of one opening: its blocks are legal, and a separator's place holds the separator.
 use mathlib.Core.Path.{◌≡◌, refl, sym, ap, ◌∙◌}
+use Rattle.std.specs.Prelude.{Some}
 use mathlib.Core.Bool.{false}
 use mathlib.Core.List.{List}
 use Prim.Native.Nat.{ℕ, ◌<◌}
@@ -11,7 +12,6 @@ use Rattle.group.specs.Legal.{Legal}
 use Rattle.directory.specs.Read.{key_length, key_position, key_outside}
 use Rattle.directory.proofs.Rules.{is-inside}
 use Rattle.index.specs.declared.SSTableIndexV3.{SSTableIndexV3}
-use Rattle.index.specs.declared.Place.TheVariants.{Part}
 use Rattle.index.specs.Parts.{len_of_directory, directory_part, count_in, block_in, separator_in}
 use Rattle.index.specs.Opening.{opened_of}
 use Rattle.index.specs.Answers.{part_at}
@@ -33,7 +33,7 @@ module _ (L : ℕ) (f : List ℕ) (opened : SSTableIndexV3) (facts : OpenFacts L
     inside h = facts.sorted.inside id (rw facts.count at h)
 
     pub place-known : id < opened.n
-        → place_by L opened f id ≡ Part (key_position (directory_part f) (count_in f) id) (key_length (directory_part f) id)
+        → place_by L opened f id ≡ Some (key_position (directory_part f) (count_in f) id, key_length (directory_part f) id)
     place-known h =
         let named = place_read L opened f id facts.fits h (directory_part f) (sym facts.directory) (rw facts.count (inside h)) _ _ refl refl in
         sym named ∙ rw (begins, facts.count, zero-add (key_position (directory_part f) (count_in f) id))

@@ -1,5 +1,6 @@
 -- What is known of bytes and a record that come from one opening: one record of facts, and that opening gives it.
 use mathlib.Core.Path.{◌≡◌, refl}
+use Rattle.std.specs.Prelude.{Ok}
 use mathlib.Core.List.{List}
 use Prim.Native.Nat.{ℕ, zero, suc, ◌+◌, ◌*◌, ◌≤◌}
 use native.Mathlib.Omega.{arith}
@@ -12,7 +13,6 @@ use Rattle.directory.specs.Read.{Sorted}
 use Rattle.directory.proofs.Rules.{DirectoryOk, directory-kept}
 use Rattle.directory.proofs.Opened.{opened-good, opened-sorted}
 use Rattle.index.specs.declared.SSTableIndexV3.{SSTableIndexV3}
-use Rattle.index.specs.declared.Loaded.TheVariants.{Opened}
 use Rattle.index.specs.Parts.{len_of_directory, directory_part, store_len, group_records_len, group_records_part, addrs_part, count_in}
 use Rattle.index.specs.Opening.{open_no, opened_of, step_of_open, open_def, OpensBy, group_of, Opens}
 use Rattle.index.specs.Lookups.{directory_at, OpenedFits}
@@ -46,9 +46,9 @@ pub record OpenFacts (L : ℕ) (f : List ℕ) (opened : SSTableIndexV3) : Type 0
 
 -- ---- the facts
 
-opens-no : (f : List ℕ) (k : ℕ) (opened : SSTableIndexV3) → step_of_open k f ≡ Opened opened → (k ≡ 0) × (opened ≡ opened_of f)
+opens-no : (f : List ℕ) (k : ℕ) (opened : SSTableIndexV3) → step_of_open k f ≡ Ok opened → (k ≡ 0) × (opened ≡ opened_of f)
 opens-no f zero opened e = (refl, cc)
-opens-no f (suc k) opened e = absurd (let z : ◌≡◌ {A = ℕ} 0 1 = cc in omega arith)
+opens-no f (suc k) opened e = absurd (cc)
 
 module _ (L : ℕ) (f : List ℕ) (len : GroupLenOk L) where
   accepted-facts : open_no L f ≡ 0 → OpenFacts L f (opened_of f)

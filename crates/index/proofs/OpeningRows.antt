@@ -1,8 +1,9 @@
 -- Rows 10 to 16 as facts over numbers: what each refusal and each pass says of the file, and the number and the answer that follow.
-use Prim.Native.Nat.{ℕ, zero, suc, ◌+◌, ◌-◌, ◌*◌, ◌≤◌, ◌<◌}
+use Prim.Native.Nat.{ℕ, suc, ◌+◌, ◌-◌, ◌*◌, ◌≤◌, ◌<◌}
 use mathlib.Core.Path.{◌≡◌, refl, sym, ap, ◌∙◌}
 use mathlib.Core.Bool.{Bool, true, false, not, cond}
 use mathlib.Core.List.{List}
+use Rattle.std.specs.Prelude.{Ok, Err}
 use native.Mathlib.Nat.{add-sub_cancel_left, le_refl}
 use native.Mathlib.Omega.{arith}
 use borrow.Author.Tests.{lt-ltb, le-ltb, eq-eqb, ne_eqb, ltb-false, eqb-true, eqb-false, not-false}
@@ -21,7 +22,10 @@ use Rattle.directory.proofs.Opened.{opened-good}
 use Rattle.index.specs.Parts.{len_of_directory, directory_part, store_len, group_records_len, group_records_part, addrs_part, count_in}
 use Rattle.index.specs.Opening.{footer_no, group_records_bad, open_no, opened_of, open_def}
 use Rattle.index.specs.declared.SSTableIndexV3.{SSTableIndexV3}
-use Rattle.index.specs.declared.Loaded.TheVariants.{Opened, Refused}
+use Rattle.index.specs.Answers.{load_no}
+use Rattle.index.proofs.Refusals.{step-refused, step-number, open_no-most}
+use Rattle.layout.specs.declared.refusals.Refusal.{Refusal}
+use Rattle.layout.specs.Refusals.{number_of}
 
 -- a chain of rows that hits none
 passed : (t : Bool) (k later : ℕ) → cond t (suc k) later ≡ 0 → (t ≡ false) × (later ≡ 0)
@@ -205,11 +209,15 @@ module _ (L : ℕ) (f : List ℕ) where
       let records = passed (group_records_bad L f) 13 _ directory.1 in
       record { footer = footer.0; directory = directory.0; records = records.0; store = records.1 }
 
-  pub open-refused : (k : ℕ) → k ≡ open_no L f → (k ≡ 0 → ⊥) → Refused k ≡ open_def L f
+  pub open-refused : (r : Refusal) → number_of r ≡ open_no L f → Err r ≡ open_def L f
   unfolding open_def
-  open-refused zero e h = absurd (h refl)
-  open-refused (suc k) e h = rw (← e) refl
+  open-refused r e = rw (← e) (sym (step-refused f r))
 
-  pub open-taken : open_no L f ≡ 0 → Opened (opened_of f) ≡ open_def L f
+  pub open-taken : open_no L f ≡ 0 → Ok (opened_of f) ≡ open_def L f
   unfolding open_def
   open-taken e = simp e
+
+  -- what opening answers has the number
+  pub load-number : load_no (open_def L f) ≡ open_no L f
+  unfolding open_def
+  load-number = step-number f (open_no L f) (open_no-most L f)

@@ -1,6 +1,6 @@
--- The lookups (document 01, rows 17 to 20). What 01 leaves free is held to `..Allowed`, what it fixes to `..Exact`.
+-- The lookups (rows 17 to 20). What an answer may be in every case is held to `..Allowed`, what it is for bytes and record of one opening to `..Exact`.
 -- A name that ends in By takes the group's length L; the same name without is for the groups that a record has.
-use Rattle.std.specs.Prelude.{ℕ, ◌+◌, ◌*◌, ◌≤◌, ◌<◌, ◌≡◌, List, ◌⊎◌, Bool, true, ◌||◌, cond, ltb, leb, length, take, drop}
+use Rattle.std.specs.Prelude.{ℕ, ◌+◌, ◌*◌, ◌≤◌, ◌<◌, ◌≡◌, List, ◌⊎◌, Bool, true, ◌||◌, cond, ltb, leb, length, take, drop, Option, Some, None}
 use Rattle.layout.specs.Layout.{max_blocks, meta_len}
 use Rattle.keys.specs.Order.{◌≺◌}
 use Rattle.group.specs.declared.BlockAddr.{BlockAddr}
@@ -10,8 +10,6 @@ use Rattle.store.specs.Store.{group_count}
 use Rattle.store.specs.Read.{Last}
 use Rattle.directory.specs.Read.{First, key_position, key_length, key_outside}
 use Rattle.index.specs.declared.SSTableIndexV3.{SSTableIndexV3}
-use Rattle.index.specs.declared.Place.{Place}
-use Rattle.index.specs.declared.Place.TheVariants.{Part, Missing}
 use Rattle.index.specs.Parts.{block_in, separator_in}
 use Rattle.index.specs.Opening.{OpensBy, group_of}
 
@@ -115,11 +113,11 @@ pub record GetBlockWithKeyBy (L : ℕ) (f : List ℕ) (opened : SSTableIndexV3) 
 abbrev pub GetBlockWithKey : List ℕ → SSTableIndexV3 → List ℕ → ℕ → ℕ → BlockAddr → Type 0
 GetBlockWithKey f opened key k id addr = GetBlockWithKeyBy (group_of opened) f opened key k id addr
 
--- where the separator of a block stands, or a miss (SPECIFICATION 9.5)
-unfoldable pub place_by : ℕ → SSTableIndexV3 → List ℕ → ℕ → Place
+-- where the separator of a block stands, its offset and its length, or a miss (SPECIFICATION 9.5)
+unfoldable pub place_by : ℕ → SSTableIndexV3 → List ℕ → ℕ → Option (ℕ × ℕ)
 place_by L opened f id =
-    cond (opened_bad_by L opened (length f) || leb opened.n id || key_outside (directory_at opened f) opened.n id) Missing
-    (Part (opened.directory + key_position (directory_at opened f) opened.n id) (key_length (directory_at opened f) id))
+    cond (opened_bad_by L opened (length f) || leb opened.n id || key_outside (directory_at opened f) opened.n id) None
+    (Some (opened.directory + key_position (directory_at opened f) opened.n id, key_length (directory_at opened f) id))
 
-abbrev pub place_def : SSTableIndexV3 → List ℕ → ℕ → Place
+abbrev pub place_def : SSTableIndexV3 → List ℕ → ℕ → Option (ℕ × ℕ)
 place_def opened f id = place_by (group_of opened) opened f id

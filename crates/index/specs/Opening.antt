@@ -1,14 +1,18 @@
--- Opening (document 01, rows 10 to 16): the number, and the opened record. L is the group's length.
+-- Opening (rows 10 to 16): the number, and the opened record. L is the group's length.
 use Rattle.std.specs.Prelude.{ℕ, zero, suc, ◌+◌, ◌-◌, ◌*◌, ◌≡◌, List, Bool, not, ◌||◌, cond, eqb, ltb, length}
+use Rattle.std.specs.Prelude.{◌∷◌, [], get_or, Result, Ok, Err}
 use Rattle.layout.specs.Layout.{meta_len, store_block_len}
+use Rattle.layout.specs.declared.refusals.Refusal.{Refusal}
+use Rattle.layout.specs.declared.refusals.Refusal.TheVariants.{AreaBad, KeyLong, NumbersBad, JoinBad, OrdinalBad, KeyBad, RoomBad, ListBad}
+use Rattle.layout.specs.declared.refusals.Refusal.TheVariants.{OutShort, FileShort, NoDirectory, DirectoryBad, KeysUnsorted, RecordsBad, GroupBad}
+use Rattle.layout.specs.declared.refusals.Refusal.TheVariants.{BlockBad, UnknownId, OrdinalBelow, KeyAbove, Unfit, TableBad, FlagBad, StateBad}
+use Rattle.layout.specs.declared.refusals.Refusal.TheVariants.{RoomShort, NoExample, KeyListBad, NotCanonical}
 use Rattle.group.specs.Rows.{or_row}
 use Rattle.store.specs.Store.{group_count}
 use Rattle.store.specs.Check.{store_no}
 use Rattle.directory.specs.Read.{directory_no}
 use Rattle.index.specs.Parts.{len_of_directory, directory_part, store_len, group_records_len, group_records_part, addrs_part, count_in}
 use Rattle.index.specs.declared.SSTableIndexV3.{SSTableIndexV3}
-use Rattle.index.specs.declared.Loaded.{Loaded}
-use Rattle.index.specs.declared.Loaded.TheVariants.{Opened, Refused}
 
 -- rows 10 and 11 in their three steps (SPECIFICATION 12.8)
 unfoldable pub footer_no : List ℕ → ℕ
@@ -37,17 +41,27 @@ opened_of f = record {
   addrs_len = store_len f - (8 + group_records_len f);
 }
 
-abbrev pub step_of_open : ℕ → List ℕ → Loaded
-step_of_open zero f = Opened (opened_of f)
-step_of_open (suc k) f = Refused (suc k)
+-- the refusals in the order of their numbers, and the refusal with a number from 1 to 27
+abbrev pub rows : List Refusal
+rows =
+    AreaBad ∷ KeyLong ∷ NumbersBad ∷ JoinBad ∷ OrdinalBad ∷ KeyBad ∷ RoomBad ∷ ListBad ∷ OutShort ∷ FileShort ∷ NoDirectory ∷ DirectoryBad
+    ∷ KeysUnsorted ∷ RecordsBad ∷ GroupBad ∷ BlockBad ∷ UnknownId ∷ OrdinalBelow ∷ KeyAbove ∷ Unfit ∷ TableBad ∷ FlagBad ∷ StateBad ∷ RoomShort
+    ∷ NoExample ∷ KeyListBad ∷ NotCanonical ∷ []
+
+unfoldable pub refusal_of : ℕ → Refusal
+refusal_of k = get_or rows (k - 1) Unfit
+
+abbrev pub step_of_open : ℕ → List ℕ → Result SSTableIndexV3 Refusal
+step_of_open zero f = Ok (opened_of f)
+step_of_open (suc k) f = Err (refusal_of (suc k))
 
 -- what opening the bytes f with groups of L blocks answers
-unfoldable pub open_def : ℕ → List ℕ → Loaded
+unfoldable pub open_def : ℕ → List ℕ → Result SSTableIndexV3 Refusal
 open_def L f = step_of_open (open_no L f) f
 
 -- a record that opening these bytes gives (SPECIFICATION 10.1)
 abbrev pub OpensBy : ℕ → List ℕ → SSTableIndexV3 → Type 0
-OpensBy L f opened = open_def L f ≡ Opened opened
+OpensBy L f opened = open_def L f ≡ Ok opened
 
 -- ---- the index as it is used
 
@@ -56,7 +70,7 @@ abbrev pub group_of : SSTableIndexV3 → ℕ
 group_of opened = store_block_len
 
 -- what `load` answers
-abbrev pub load_def : List ℕ → Loaded
+abbrev pub load_def : List ℕ → Result SSTableIndexV3 Refusal
 load_def f = open_def store_block_len f
 
 abbrev pub Opens : List ℕ → SSTableIndexV3 → Type 0

@@ -1,4 +1,4 @@
--- The parts of an index f (document 01, "Records"): directory, store, directory length 8. L is the group's length.
+-- The parts of an index f: directory, store, directory length 8. L is the group's length.
 use Rattle.std.specs.Prelude.{ℕ, ◌+◌, ◌-◌, List, length, take, drop}
 use Rattle.serialize.specs.Digits.{number_at}
 use Rattle.group.specs.declared.BlockAddr.{BlockAddr}

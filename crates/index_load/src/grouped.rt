@@ -1,36 +1,40 @@
 // Opening with groups of a given length: rows 10 to 16.
-ghost use Rattle.std.specs.Prelude.{◌≡◌, ◌+◌, ◌≤◌, length};
+ghost use Rattle.std.specs.Prelude.{◌≡◌, ◌+◌, ◌≤◌, length, IfOk};
 ghost use Rattle.layout.specs.Layout.{max_blocks};
+ghost use Rattle.layout.specs.Refusals.{no_of};
 ghost use Rattle.store.specs.Facts.{GroupLenOk};
 ghost use Rattle.directory.specs.Read.{directory_no};
 ghost use Rattle.index.specs.Parts.{len_of_directory, directory_part, count_in};
 ghost use Rattle.index.specs.Opening.{footer_no, group_records_bad, open_def};
 
-use index::{Loaded, SSTableIndexV3};
+use index::SSTableIndexV3;
 use layout::META_LEN;
-use layout::refusals::{FILE_SHORT, NO_DIRECTORY, RECORDS_BAD};
+use layout::refusals::Refusal;
+use store::grouping::Grouping;
+use store_read::BlockAddrStore;
 
 const FOOTER_LEN: usize = 8;
 
-// Rows 10 and 11.
-fn footer_no(data: &[u8]) -> u32
-    ensures { result ≡ footer_no «data».now }
+// Rows 10 and 11, and the directory's length where neither is hit.
+fn check_footer(data: &[u8]) -> Result<usize, Refusal>
+    ensures number { no_of result ≡ footer_no «data».now }
+    ensures value { IfOk result (λ len. len ≡ len_of_directory «data».now) }
 {
     let len = data.len();
     if len < FOOTER_LEN {
-        return FILE_SHORT;
+        return Err(Refusal::FileShort);
     }
     let directory = serialize::deserialize_u64(data, len - FOOTER_LEN);
     if directory == 0 {
-        return NO_DIRECTORY;
+        return Err(Refusal::NoDirectory);
     }
     if directory > len as u64 {
-        return FILE_SHORT;
+        return Err(Refusal::FileShort);
     }
     if len < directory as usize + 16 {
-        return FILE_SHORT;
+        return Err(Refusal::FileShort);
     }
-    0
+    Ok(directory as usize)
 }
 
 // Row 14: whether the records' length isn't that of the groups of n blocks, or is beyond the store.
@@ -42,7 +46,7 @@ fn records_bad(data: &[u8], directory_len: usize, n: usize, group_len: usize) ->
         × (n ≤ max_blocks) }
     ensures { result ≡ group_records_bad group_len «data».now }
 {
-    let metas_len = META_LEN * store::grouping::group_count(n, group_len);
+    let metas_len = META_LEN * Grouping { n, group_len }.group_count();
     if serialize::deserialize_u64(data, directory_len) != metas_len as u64 {
         return true;
     }
@@ -50,7 +54,11 @@ fn records_bad(data: &[u8], directory_len: usize, n: usize, group_len: usize) ->
 }
 
 // Rows 14 to 16 and the record, after a directory that keeps the rows before them.
-fn load_store(data: &[u8], directory_len: usize, group_len: usize) -> Loaded
+fn load_store(
+    data: &[u8],
+    directory_len: usize,
+    group_len: usize,
+) -> Result<SSTableIndexV3, Refusal>
     requires { GroupLenOk group_len
         × (footer_no «data».now ≡ 0)
         × (directory_len ≡ len_of_directory «data».now)
@@ -59,40 +67,35 @@ fn load_store(data: &[u8], directory_len: usize, group_len: usize) -> Loaded
 {
     let n = serialize::deserialize_u32(data, 0) as usize;
     if records_bad(data, directory_len, n, group_len) {
-        return Loaded::Refused(RECORDS_BAD);
+        return Err(Refusal::RecordsBad);
     }
     let metas_len = serialize::deserialize_u64(data, directory_len) as usize;
     let metas = directory_len + 8;
     let addrs = metas + metas_len;
     let end = data.len() - FOOTER_LEN;
-    let no = store_check::store_no(&data[metas..addrs], &data[addrs..end], n, group_len);
-    if no != 0 {
-        return Loaded::Refused(no);
-    }
-    Loaded::Opened(SSTableIndexV3 {
-        n: n,
+    store_check::check(&BlockAddrStore {
+        metas: &data[metas..addrs],
+        addrs: &data[addrs..end],
+        n,
+        group_len,
+    })?;
+    Ok(SSTableIndexV3 {
+        n,
         directory: 0,
-        directory_len: directory_len,
-        metas: metas,
-        metas_len: metas_len,
-        addrs: addrs,
+        directory_len,
+        metas,
+        metas_len,
+        addrs,
         addrs_len: end - addrs,
     })
 }
 
 // Opens the bytes of an index with groups of `group_len` blocks.
-pub fn load(data: &[u8], group_len: usize) -> Loaded
+pub fn load(data: &[u8], group_len: usize) -> Result<SSTableIndexV3, Refusal>
     requires { GroupLenOk group_len }
     ensures { result ≡ open_def group_len «data».now }
 {
-    let footer = footer_no(data);
-    if footer != 0 {
-        return Loaded::Refused(footer);
-    }
-    let directory_len = serialize::deserialize_u64(data, data.len() - FOOTER_LEN) as usize;
-    let keys = directory_check::directory_no(&data[..directory_len]);
-    if keys != 0 {
-        return Loaded::Refused(keys);
-    }
+    let directory_len = check_footer(data)?;
+    directory_check::directory_no(&data[..directory_len])?;
     load_store(data, directory_len, group_len)
 }

@@ -1,21 +1,22 @@
 // The lookups with groups of a given length, in an opened index whose record and bytes may not belong together.
-ghost use Rattle.std.specs.Prelude.{◌≡◌, ◌+◌, ◌≤◌, ◌<◌, ltb, length, take, drop};
+ghost use Rattle.std.specs.Prelude.{◌≡◌, true, false, ◌+◌, ◌≤◌, ◌<◌, ltb, length, take, drop, MatchResult};
+ghost use Rattle.layout.specs.Refusals.{number_of};
+ghost use Rattle.group.specs.Legal.{NumbersOk};
 ghost use Rattle.store.specs.Facts.{GroupLenOk};
-ghost use Rattle.store.specs.Read.{ord_found_no};
-ghost use Rattle.directory.specs.Read.{found_no};
 ghost use Rattle.index.specs.Parts.{block_in};
 ghost use Rattle.index.specs.Opening.{OpensBy};
-ghost use Rattle.index.specs.Answers.{by_id_no, by_id_addr, BlockByIdCased, id_no, id_of, LocatedIdCased};
-ghost use Rattle.index.specs.Answers.{located_no, located_id, located_addr, LocatedCased};
-ghost use Rattle.index.specs.Lookups.{opened_bad_by, OpenedFits, place_by};
+ghost use Rattle.index.specs.Answers.{by_id_no, by_id_addr, id_no, id_of, located_no, located_id, located_addr};
+ghost use Rattle.index.specs.Lookups.{opened_bad_by, OpenedFits, directory_at, place_by};
 ghost use Rattle.index.specs.Lookups.{GetBlockBy, LocateWithOrdBy, LocateWithKeyBy, GetBlockWithKeyBy};
 
-use directory::Found;
+use directory_read::Directory;
 use group::BlockAddr;
-use index::{BlockById, Located, LocatedId, Place, SSTableIndexV3};
-use layout::refusals::{KEY_ABOVE, ORDINAL_BELOW, UNFIT, UNKNOWN_ID};
+use index::SSTableIndexV3;
+use layout::refusals::Refusal;
 use layout::{MAX_BLOCKS, META_LEN};
-use store::OrdFound;
+use store::Located;
+use store::grouping::Grouping;
+use store_read::BlockAddrStore;
 
 // Whether a part lies outside `len` bytes.
 fn part_outside(offset: usize, part_len: usize, len: usize) -> bool
@@ -41,10 +42,7 @@ pub fn opened_bad(opened: SSTableIndexV3, len: usize, group_len: usize) -> bool
     requires { GroupLenOk group_len }
     ensures { result ≡ opened_bad_by group_len opened len }
 {
-    if opened.n < 1 {
-        return true;
-    }
-    if opened.n > MAX_BLOCKS {
+    if opened.n < 1 || opened.n > MAX_BLOCKS {
         return true;
     }
     if part_outside(opened.directory, opened.directory_len, len) {
@@ -56,157 +54,140 @@ pub fn opened_bad(opened: SSTableIndexV3, len: usize, group_len: usize) -> bool
     if part_outside(opened.addrs, opened.addrs_len, len) {
         return true;
     }
-    opened.metas_len < META_LEN * store::grouping::group_count(opened.n, group_len)
-}
-
-// Block `id` as the store gives it: where its group can't be read, its numbers break row 3.
-fn get(opened: SSTableIndexV3, data: &[u8], group_len: usize, id: usize) -> BlockAddr
-    requires { GroupLenOk group_len × OpenedFits group_len opened (length «data».now) × (id < opened.n) }
-    ensures { OpensBy group_len «data».now opened → result ≡ block_in group_len «data».now id }
-{
-    store_read::block(
-        part(data, opened.metas, opened.metas_len),
-        part(data, opened.addrs, opened.addrs_len),
-        opened.n,
+    let grouping = Grouping {
+        n: opened.n,
         group_len,
-        id,
-    )
-}
-
-// The row that a key's search without a block hits.
-fn refusal(found: Found) -> u32
-    ensures { result ≡ found_no found }
-{
-    match found {
-        Found::At(_) => 0,
-        Found::Above => KEY_ABOVE,
-        Found::Outside => UNFIT,
-    }
-}
-
-// The row that an ordinal's search without a block hits.
-fn ord_refusal(found: OrdFound) -> u32
-    ensures { result ≡ ord_found_no found }
-{
-    match found {
-        OrdFound::At(_, _) => 0,
-        OrdFound::Below => ORDINAL_BELOW,
-        OrdFound::Broken => UNFIT,
-    }
-}
-
-// The address of block `block_id`.
-pub fn get_block(opened: SSTableIndexV3, data: &[u8], group_len: usize, block_id: u64) -> BlockById
-    requires { GroupLenOk group_len }
-    ensures get_block_by { GetBlockBy group_len «data».now opened block_id (by_id_no result) (by_id_addr result) }
-    ensures block_by_id_cased { BlockByIdCased result }
-{
-    if opened_bad(opened, data.len(), group_len) {
-        return BlockById::Refused(UNFIT);
-    }
-    if block_id >= opened.n as u64 {
-        return BlockById::Refused(UNKNOWN_ID);
-    }
-    let block = get(opened, data, group_len, block_id as usize);
-    if group::rows::numbers_bad(block) {
-        return BlockById::Refused(UNFIT);
-    }
-    BlockById::Block(block)
-}
-
-// The last block whose first ordinal is at or below `ord`.
-pub fn locate_with_ord(opened: SSTableIndexV3, data: &[u8], group_len: usize, ord: u64) -> Located
-    requires { GroupLenOk group_len }
-    ensures locate_with_ord_by { LocateWithOrdBy group_len «data».now opened ord
-        (located_no result) (located_id result) (located_addr result) }
-    ensures located_cased { LocatedCased result }
-{
-    if opened_bad(opened, data.len(), group_len) {
-        return Located::Refused(UNFIT);
-    }
-    let found = store_read::binary_search_ord(
-        part(data, opened.metas, opened.metas_len),
-        part(data, opened.addrs, opened.addrs_len),
-        opened.n,
-        group_len,
-        ord,
-    );
-    let OrdFound::At(id, block) = found else {
-        return Located::Refused(ord_refusal(found));
     };
-    Located::At(id, block)
+    opened.metas_len < META_LEN * grouping.group_count()
 }
 
-// The first block whose separator isn't below `key`.
-pub fn locate_with_key(
-    opened: SSTableIndexV3,
-    data: &[u8],
-    group_len: usize,
-    key: &[u8],
-) -> LocatedId
-    requires { GroupLenOk group_len }
-    ensures locate_with_key_by { LocateWithKeyBy group_len «data».now opened key.now (id_no result) (id_of result) }
-    ensures located_id_cased { LocatedIdCased result }
-{
-    if opened_bad(opened, data.len(), group_len) {
-        return LocatedId::Refused(UNFIT);
-    }
-    let keys = part(data, opened.directory, opened.directory_len);
-    let found = directory_read::locate_with_key(keys, opened.n, key);
-    let Found::At(id) = found else {
-        return LocatedId::Refused(refusal(found));
-    };
-    LocatedId::Id(id)
+// An opened record with bytes that it can be one of, and the length of its groups.
+#[derive(Clone, Copy)]
+pub struct OpenedIndex<'a> {
+    pub opened: SSTableIndexV3,
+    pub data: &'a [u8],
+    pub group_len: usize,
+    pub ghost len: { GroupLenOk group_len },
+    pub ghost fits: { OpenedFits group_len opened (length «data».now) },
 }
 
-// The first block whose separator isn't below `key`, with its address.
-pub fn get_block_with_key(
-    opened: SSTableIndexV3,
-    data: &[u8],
-    group_len: usize,
-    key: &[u8],
-) -> Located
-    requires { GroupLenOk group_len }
-    ensures get_block_with_key_by { GetBlockWithKeyBy group_len «data».now opened key.now
-        (located_no result) (located_id result) (located_addr result) }
-    ensures located_cased { LocatedCased result }
-{
-    if opened_bad(opened, data.len(), group_len) {
-        return Located::Refused(UNFIT);
+impl<'a> OpenedIndex<'a> {
+    // The record with the bytes; refused with row 20 where it can't be one of them.
+    pub fn check(
+        opened: SSTableIndexV3,
+        data: &'a [u8],
+        group_len: usize,
+    ) -> Result<OpenedIndex<'a>, Refusal>
+        requires { GroupLenOk group_len }
+        ensures { MatchResult result
+            (λ index. (index.opened ≡ opened) × (index.«data».now ≡ «data».now) × (index.group_len ≡ group_len))
+            (λ refusal. (number_of refusal ≡ 20) × (opened_bad_by group_len opened (length «data».now) ≡ true)) }
+    {
+        if opened_bad(opened, data.len(), group_len) {
+            return Err(Refusal::Unfit);
+        }
+        Ok(OpenedIndex {
+            opened,
+            data,
+            group_len,
+        })
     }
-    let keys = part(data, opened.directory, opened.directory_len);
-    let found = directory_read::locate_with_key(keys, opened.n, key);
-    let Found::At(id) = found else {
-        return Located::Refused(refusal(found));
-    };
-    let block = get(opened, data, group_len, id);
-    if group::rows::numbers_bad(block) {
-        return Located::Refused(UNFIT);
-    }
-    Located::At(id, block)
-}
 
-// Where the separator of block `block_id` stands.
-pub fn separator_place(
-    opened: SSTableIndexV3,
-    data: &[u8],
-    group_len: usize,
-    block_id: u64,
-) -> Place
-    requires { GroupLenOk group_len }
-    ensures { result ≡ place_by group_len opened «data».now block_id }
-{
-    if opened_bad(opened, data.len(), group_len) {
-        return Place::Missing;
+    // The directory that the record names.
+    #[inline(always)]
+    pub fn directory(&self) -> Directory<'a>
+        ensures { (result.n ≡ self.now.opened.n) × (result.bytes.now ≡ directory_at self.now.opened self.now.«data».now) }
+    {
+        let opened = self.opened;
+        Directory {
+            bytes: part(self.data, opened.directory, opened.directory_len),
+            n: opened.n,
+        }
     }
-    if block_id >= opened.n as u64 {
-        return Place::Missing;
+
+    // The store that the record names.
+    #[inline(always)]
+    fn store(&self) -> BlockAddrStore<'a>
+        ensures { (result.n ≡ self.now.opened.n) × (result.group_len ≡ self.now.group_len)
+            × (result.metas.now ≡ take self.now.opened.metas_len (drop self.now.opened.metas self.now.«data».now))
+            × (result.addrs.now ≡ take self.now.opened.addrs_len (drop self.now.opened.addrs self.now.«data».now)) }
+    {
+        let opened = self.opened;
+        BlockAddrStore {
+            metas: part(self.data, opened.metas, opened.metas_len),
+            addrs: part(self.data, opened.addrs, opened.addrs_len),
+            n: opened.n,
+            group_len: self.group_len,
+        }
     }
-    let id = block_id as usize;
-    let keys = part(data, opened.directory, opened.directory_len);
-    if directory_read::key_outside(keys, opened.n, id) {
-        return Place::Missing;
+
+    // Block `id`; refused with row 20 where its numbers break row 3.
+    #[inline(always)]
+    fn block(&self, id: usize) -> Result<BlockAddr, Refusal>
+        requires { id < self.now.opened.n }
+        ensures { MatchResult result
+            (λ addr. NumbersOk addr × (OpensBy self.now.group_len self.now.«data».now self.now.opened
+            → addr ≡ block_in self.now.group_len self.now.«data».now id))
+            (λ refusal. (number_of refusal ≡ 20) × (OpensBy self.now.group_len self.now.«data».now self.now.opened → ⊥)) }
+    {
+        let addr = self.store().block(id);
+        if addr.numbers_bad() {
+            return Err(Refusal::Unfit);
+        }
+        Ok(addr)
     }
-    let position = opened.directory + directory_read::key_position(keys, opened.n, id);
-    Place::Part(position, directory_read::key(keys, opened.n, id).len())
+
+    // The address of block `block_id`.
+    pub fn get_block(&self, block_id: u64) -> Result<BlockAddr, Refusal>
+        ensures { GetBlockBy self.now.group_len self.now.«data».now self.now.opened block_id (by_id_no result) (by_id_addr result) }
+    {
+        if block_id >= self.opened.n as u64 {
+            return Err(Refusal::UnknownId);
+        }
+        self.block(block_id as usize)
+    }
+
+    // The last block whose first ordinal is at or below `ord`.
+    pub fn locate_with_ord(&self, ord: u64) -> Result<Located, Refusal>
+        ensures { LocateWithOrdBy self.now.group_len self.now.«data».now self.now.opened ord
+            (located_no result) (located_id result) (located_addr result) }
+    {
+        self.store().binary_search_ord(ord)
+    }
+
+    // The first block whose separator isn't below `key`.
+    pub fn locate_with_key(&self, key: &[u8]) -> Result<usize, Refusal>
+        ensures { LocateWithKeyBy self.now.group_len self.now.«data».now self.now.opened key.now (id_no result) (id_of result) }
+    {
+        self.directory().locate_with_key(key)
+    }
+
+    // The first block whose separator isn't below `key`, with its address.
+    pub fn get_block_with_key(&self, key: &[u8]) -> Result<Located, Refusal>
+        ensures { GetBlockWithKeyBy self.now.group_len self.now.«data».now self.now.opened key.now
+            (located_no result) (located_id result) (located_addr result) }
+    {
+        let found = self.directory().locate_with_key(key);
+        let Ok(block_id) = found else {
+            return Err(found.unwrap_err());
+        };
+        let addr = self.block(block_id)?;
+        Ok(Located { block_id, addr })
+    }
+
+    // Where the separator of block `block_id` stands: its offset and its length.
+    pub fn separator_place(&self, block_id: u64) -> Option<(usize, usize)>
+        ensures { result ≡ place_by self.now.group_len self.now.opened self.now.«data».now block_id }
+    {
+        if block_id >= self.opened.n as u64 {
+            return None;
+        }
+        let id = block_id as usize;
+        let directory = self.directory();
+        if directory.key_outside(id) {
+            return None;
+        }
+        let position = self.opened.directory + directory.key_position(id);
+        Some((position, directory.key(id).len()))
+    }
 }

@@ -4,12 +4,15 @@
 pub mod grouped;
 
 ghost use Rattle.std.specs.Prelude.{◌≡◌};
-ghost use Rattle.index.specs.Answers.{by_id_no, by_id_addr, BlockByIdCased, id_no, id_of, LocatedIdCased, part_at};
-ghost use Rattle.index.specs.Answers.{located_no, located_id, located_addr, LocatedCased};
+ghost use Rattle.index.specs.Answers.{by_id_no, by_id_addr, id_no, id_of, located_no, located_id, located_addr, part_at};
 ghost use Rattle.index.specs.Lookups.{opened_bad, GetBlock, LocateWithOrd, LocateWithKey, GetBlockWithKey, place_def};
 
-use index::{BlockById, Located, LocatedId, Place, SSTableIndexV3};
+use group::BlockAddr;
+pub use grouped::OpenedIndex;
+use index::SSTableIndexV3;
 use layout::STORE_BLOCK_LEN;
+use layout::refusals::Refusal;
+use store::Located;
 
 // Row 20 for the record: whether it can't be one of `len` bytes.
 pub fn opened_bad(opened: SSTableIndexV3, len: usize) -> bool
@@ -19,49 +22,52 @@ pub fn opened_bad(opened: SSTableIndexV3, len: usize) -> bool
 }
 
 // The address of block `block_id`.
-pub fn get_block(opened: SSTableIndexV3, data: &[u8], block_id: u64) -> BlockById
-    ensures get_block { GetBlock «data».now opened block_id (by_id_no result) (by_id_addr result) }
-    ensures block_by_id_cased { BlockByIdCased result }
+pub fn get_block(opened: SSTableIndexV3, data: &[u8], block_id: u64) -> Result<BlockAddr, Refusal>
+    ensures { GetBlock «data».now opened block_id (by_id_no result) (by_id_addr result) }
 {
-    grouped::get_block(opened, data, STORE_BLOCK_LEN, block_id)
+    OpenedIndex::check(opened, data, STORE_BLOCK_LEN)?.get_block(block_id)
 }
 
 // The block that holds the ordinal.
-pub fn locate_with_ord(opened: SSTableIndexV3, data: &[u8], ord: u64) -> Located
-    ensures locate_with_ord { LocateWithOrd «data».now opened ord (located_no result) (located_id result) (located_addr result) }
-    ensures located_cased { LocatedCased result }
+pub fn locate_with_ord(opened: SSTableIndexV3, data: &[u8], ord: u64) -> Result<Located, Refusal>
+    ensures { LocateWithOrd «data».now opened ord (located_no result) (located_id result) (located_addr result) }
 {
-    grouped::locate_with_ord(opened, data, STORE_BLOCK_LEN, ord)
+    OpenedIndex::check(opened, data, STORE_BLOCK_LEN)?.locate_with_ord(ord)
 }
 
 // The block that may hold the key.
-pub fn locate_with_key(opened: SSTableIndexV3, data: &[u8], key: &[u8]) -> LocatedId
-    ensures locate_with_key { LocateWithKey «data».now opened key.now (id_no result) (id_of result) }
-    ensures located_id_cased { LocatedIdCased result }
+pub fn locate_with_key(opened: SSTableIndexV3, data: &[u8], key: &[u8]) -> Result<usize, Refusal>
+    ensures { LocateWithKey «data».now opened key.now (id_no result) (id_of result) }
 {
-    grouped::locate_with_key(opened, data, STORE_BLOCK_LEN, key)
+    OpenedIndex::check(opened, data, STORE_BLOCK_LEN)?.locate_with_key(key)
 }
 
 // The block that may hold the key, with its address.
-pub fn get_block_with_key(opened: SSTableIndexV3, data: &[u8], key: &[u8]) -> Located
-    ensures get_block_with_key { GetBlockWithKey «data».now opened key.now (located_no result) (located_id result) (located_addr result) }
-    ensures located_cased { LocatedCased result }
+pub fn get_block_with_key(
+    opened: SSTableIndexV3,
+    data: &[u8],
+    key: &[u8],
+) -> Result<Located, Refusal>
+    ensures { GetBlockWithKey «data».now opened key.now (located_no result) (located_id result) (located_addr result) }
 {
-    grouped::get_block_with_key(opened, data, STORE_BLOCK_LEN, key)
+    OpenedIndex::check(opened, data, STORE_BLOCK_LEN)?.get_block_with_key(key)
 }
 
-// Where the separator of block `block_id` stands.
-pub fn separator_place(opened: SSTableIndexV3, data: &[u8], block_id: u64) -> Place
+// Where the separator of block `block_id` stands: its offset and its length.
+pub fn separator_place(opened: SSTableIndexV3, data: &[u8], block_id: u64) -> Option<(usize, usize)>
     ensures { result ≡ place_def opened «data».now block_id }
 {
-    grouped::separator_place(opened, data, STORE_BLOCK_LEN, block_id)
+    match OpenedIndex::check(opened, data, STORE_BLOCK_LEN) {
+        Ok(index) => index.separator_place(block_id),
+        Err(_) => None,
+    }
 }
 
 // The separator of block `block_id`, as a part of the bytes; an empty part where there is none.
 pub fn separator(opened: SSTableIndexV3, data: &[u8], block_id: u64) -> &[u8]
     ensures { result.now ≡ part_at «data».now (place_def opened «data».now block_id) }
 {
-    let Place::Part(offset, len) = separator_place(opened, data, block_id) else {
+    let Some((offset, len)) = separator_place(opened, data, block_id) else {
         return &data[..0];
     };
     let end = offset + len;

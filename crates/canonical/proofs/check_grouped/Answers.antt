@@ -1,0 +1,12 @@
+-- A file that doesn't open is refused with opening's row.
+use Rattle.std.proofs.Common.{sym}
+use Rattle.std.proofs.lemmas.Result.{err_from_is_err_and}
+use Rattle.builder.specs.Index.{settings_of}
+use Rattle.canonical.proofs.Opened.{refused-number}
+use Rattle.canonical.proofs.check_grouped.Goals as goal
+
+pub returns-in_err-opened : goal.returns-in_err-opened
+returns-in_err-opened c =
+    let a = c.args in
+    let p = err_from_is_err_and c.from_residual.result c.from_residual.ensures.1 in
+    rw (p.1, p.2) (refused-number (settings_of a.group_len) a.«data».now c.in_err-opened.field-0.0 (sym c.in_err-opened.ensures))
