@@ -34,6 +34,17 @@ byte_at t small at j h =
 pub place : (t : List ℕ) (at n k : ℕ) → get_or t (at + n + k) 0 ≡ get_or t (at + (n + k)) 0
 place t at n k = let e : at + n + k ≡ at + (n + k) = omega arith in ap (λ (x : ℕ). get_or t x 0) e
 
+pub place_2 : (t : List ℕ) (at m n k : ℕ) → get_or t (at + m + n + k) 0 ≡ get_or t (at + (m + n + k)) 0
+place_2 t at m n k = let e : at + m + n + k ≡ at + (m + n + k) = omega arith in ap (λ (x : ℕ). get_or t x 0) e
+
+-- the same eight, from a place within a part
+pub eight-place : (t : List ℕ) (at m n : ℕ) {eight : ℕ} → eight ≡ eight_at t (at + m + n) → eight ≡ eight_at t (at + (m + n))
+eight-place t at m n is = let e : at + m + n ≡ at + (m + n) = omega arith in rw e at is
+
+pub holds-place : (t : List ℕ) (at m n : ℕ) {w : ℕ} → ((b : ℕ) → b < 8 → bit w (get_or t (at + m + n + b) 0) ≡ 1)
+    → ((s : ℕ) → bit w s ≡ 1 → (b : ℕ) × (b < 8) × (get_or t (at + m + n + b) 0 ≡ s)) → Holds (λ k. get_or t (at + (m + n) + k) 0) 8 w
+holds-place t at m n f g = let e : at + m + n ≡ at + (m + n) = omega arith in record { has = rw e at f; only = rw e at g }
+
 byte-is : (t : List ℕ) → DigitsBelow 8 t → (at eight m j : ℕ) → eight ≡ eight_at t (at + m) → j < 8 → byte_of eight j ≡ get_or t (at + (m + j)) 0
 byte-is t small at eight m j is l = ap (λ (x : ℕ). byte_of x j) is ∙ byte_at t small (at + m) j l ∙ place t at m j
 
@@ -102,9 +113,6 @@ module _ {t : List ℕ} (small : DigitsBelow 8 t) (at : ℕ) where
 pub record Differ (f : ℕ → ℕ) (last n d : ℕ) : Type 0 where
   pub up : d ≡ 0 → (k : ℕ) → k < n → f k ≡ last
   pub down : ((k : ℕ) → k < n → f k ≡ last) → d ≡ 0
-
-pub differ-none : (f : ℕ → ℕ) (last : ℕ) → Differ f last 0 0
-differ-none f last = record { up = λ z k l. absurd (omega arith); down = λ h. refl }
 
 -- `d | (f n ^ last)`
 pub differ-more : {f : ℕ → ℕ} {last n d : ℕ} → Differ f last n d → (x : ℕ) → x ≡ f n → Differ f last (n + 1) (bit_or d (bit_xor x last))

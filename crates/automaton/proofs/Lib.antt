@@ -1,6 +1,8 @@
 pub mod Exact
 pub mod Word
+pub mod SetBits
 pub mod Built
+pub mod Rows
 pub mod Eights
 pub mod Refusal
 pub mod Strings

@@ -1,11 +1,10 @@
--- Loops over the set bits of a word, the lowest first: which bits they set in an array of words, and what a first look at the rows finds and keeps.
+-- Loops over the set bits of a word: which bits they set in an array of words, and what a first look at the rows finds and keeps.
 use mathlib.Core.Path.{◌≡◌, refl, sym, ap, ◌∙◌, subst}
 use mathlib.Core.List.{List}
 use mathlib.Core.Logic.{◌≢◌, ⊎_elim}
 use Prim.Native.Nat.{ℕ, zero, suc, ◌-◌, ◌*◌, ◌%◌, ◌^◌, ◌<◌}
 use native.Mathlib.Omega.{arith}
 use lib.Bits.{bit_and, bit_or, or_lt}
-use lib.Count.{count_trailing_zeros}
 use lib.ListN.{length, get_or, set, replicate, length-set}
 use lib.Pow.{pow-lt, pow_pos}
 use lib.Seq.{get_or-set_same, get_or-set_other}
@@ -13,33 +12,10 @@ use Rattle.automaton.specs.Bits.{bit}
 use Rattle.automaton.specs.Table.{states, next}
 use Rattle.automaton.specs.Words.{CanMatch}
 use Rattle.automaton.proofs.Exact.{same_or}
-use Rattle.automaton.proofs.Word.{bit-lt, bit-off, bit-zero, bit-clear, bit-clear-other, bit-cleared, bit-or, bit-pow, bit-pow-other, or-keeps, and-some, shl_one}
+use Rattle.automaton.proofs.Word.{bit_below, bit-lt, bit-off, bit-zero, bit-clear, bit-clear-other, bit-or, bit-pow, bit-pow-other, or-keeps, and-some, shl_one}
+use Rattle.automaton.proofs.SetBits.{Passed, passed_none, passed-more}
 use Rattle.automaton.proofs.Built.{Holds}
 use Rattle.automaton.proofs.Strings.{can-match-step}
-
--- ---- `without_lowest`, where s is `lowest`: bit s is cleared, and the word falls
-pub lowest-left : (w : ℕ) {s v : ℕ} → s ≡ count_trailing_zeros 64 w → v ≡ w - 2 ^ count_trailing_zeros 64 w → v ≡ w - 2 ^ s
-lowest-left w e f = f ∙ ap (λ (k : ℕ). w - 2 ^ k) (sym e)
-
-pub lowest-falls : {w v : ℕ} → 0 < w → v ≡ w - 2 ^ count_trailing_zeros 64 w → v < w
-lowest-falls {w} h f = omega (arith, f, pow_pos (count_trailing_zeros 64 w))
-
--- ---- of the set bits of w those of `left` are still to come, and P holds of the others
-pub record Passed (P : ℕ → Type 0) (w left : ℕ) : Type 0 where
-  pub sub : (s : ℕ) → bit left s ≡ 1 → bit w s ≡ 1
-  pub done : (s : ℕ) → bit w s ≡ 1 → bit left s ≡ 0 → P s
-
-pub passed_none : {P : ℕ → Type 0} (w : ℕ) → Passed P w w
-passed_none w = record { sub = λ s e. e; done = λ s e z. absurd (omega arith) }
-
-pub passed-more : {P Q : ℕ → Type 0} {w left : ℕ} → Passed P w left → (s : ℕ) → bit left s ≡ 1 → ((k : ℕ) → k ≢ s → P k → Q k) → Q s → Passed Q w (left - 2 ^ s)
-passed-more {P} {Q} {w} {left} i s e f q = record {
-  sub = λ k g. i.sub k (bit-cleared left s k e g);
-  done = λ k g z. ⊎_elim (λ x. subst Q (sym x) q) (λ n. f k n (i.done k g (sym (bit-clear-other left s k e n) ∙ z))) (same_or k s);
-}
-
-pub passed-all : {P : ℕ → Type 0} {w left : ℕ} → Passed P w left → left ≡ 0 → (s : ℕ) → bit w s ≡ 1 → P s
-passed-all i z s e = i.done s e (ap (λ (x : ℕ). bit x s) z ∙ bit-zero s)
 
 -- ---- bit p is set in the words of the states passed; the other words are as they were
 abbrev Put : ℕ → (old new : List ℕ) → ℕ → Type 0
@@ -113,6 +89,10 @@ led-none t w found words none = record {
   only = λ p s e. let z = ap (λ (x : ℕ). bit x p) (none s) ∙ bit-zero p in absurd (omega arith);
   small = λ s. subst (λ (x : ℕ). x < 2 ^ states t) (sym (none s)) (pow_pos (states t));
 }
+
+-- a state that is still to come is one of the table's
+pub led-below : {t : List ℕ} {w left found : ℕ} {words : List ℕ} → Led t w left found words → w < 2 ^ states t → (p : ℕ) → bit left p ≡ 1 → p < states t
+led-below {t} {w} i h p e = bit_below (states t) w p h (i.leads.sub p e)
 
 -- one turn: p is found
 pub led-found : {t : List ℕ} {w left found : ℕ} {words : List ℕ} → Led t w left found words → (p : ℕ) → bit left p ≡ 1 → p < 64

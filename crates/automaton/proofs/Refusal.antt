@@ -129,3 +129,10 @@ ok-table t w =
 -- a part that goes on to the end
 pub part-rest : (l : List ℕ) (n : ℕ) → take (length l - n) (drop n l) ≡ drop n l
 part-rest l n = take_all (length l - n) (drop n l) (le_of_eq (length-drop n l))
+
+-- ---- the parts that the check looks at, as their ranges give them
+pub flags-tested : (t : List ℕ) (r : Bool) → r ≡ any_from 2 (take (1 + states t - 1) (drop 1 t)) → flags_bad t ≡ r
+flags-tested t r e = let n : 1 + states t - 1 ≡ states t = omega arith in sym (rw n at e)
+
+pub next-tested : (t : List ℕ) (r : Bool) → r ≡ any_from (states t) (take (length t - (1 + states t)) (drop (1 + states t) t)) → next_bad t ≡ r
+next-tested t r e = sym (rw (part-rest t (1 + states t)) at e)

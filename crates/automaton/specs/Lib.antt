@@ -1,4 +1,5 @@
 pub mod Bits
+pub mod SetBits
 pub mod Table
 pub mod Words
 pub mod Live

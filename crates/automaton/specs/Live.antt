@@ -1,5 +1,5 @@
 -- Which bytes lead from a state to one that can match, and the lowest and the highest of them, kept from when they are first asked for.
-use Rattle.std.specs.Prelude.{ℕ, ◌≤◌, ◌<◌, ◌≡◌, List, ltb, length, get_or}
+use Rattle.std.specs.Prelude.{ℕ, ◌≤◌, ◌<◌, ◌≡◌, List, ltb, length, get_or, Option, None, Some}
 use Rattle.automaton.specs.Bits.{Exactly}
 use Rattle.automaton.specs.Table.{states, next}
 use Rattle.automaton.specs.Words.{CanMatch}
@@ -19,12 +19,12 @@ FirstLive t s first = (hi : ℕ) → hi ≤ 256 → Exactly (ltb first hi) (Live
 abbrev pub EndLive : List ℕ → ℕ → ℕ → Type 0
 EndLive t s end = (lo : ℕ) → Exactly (ltb lo end) (LiveByte t s lo 256)
 
--- for each state the lowest, or 65,535 where it isn't worked out yet
-pub record Firsts (t firsts : List ℕ) : Type 0 where
+-- for each state the lowest, where it is worked out
+pub record Firsts (t : List ℕ) (firsts : List (Option ℕ)) : Type 0 where
   pub long : length firsts ≡ 64
-  pub each : (s : ℕ) → s < states t → (get_or firsts s 0 ≡ 65535 → ⊥) → FirstLive t s (get_or firsts s 0)
+  pub each : (s first : ℕ) → s < states t → get_or firsts s None ≡ Some first → FirstLive t s first
 
--- for each state one more than the highest, or 65,535 where it isn't worked out yet
-pub record Ends (t ends : List ℕ) : Type 0 where
+-- for each state one more than the highest, where it is worked out
+pub record Ends (t : List ℕ) (ends : List (Option ℕ)) : Type 0 where
   pub long : length ends ≡ 64
-  pub each : (s : ℕ) → s < states t → (get_or ends s 0 ≡ 65535 → ⊥) → EndLive t s (get_or ends s 0)
+  pub each : (s end : ℕ) → s < states t → get_or ends s None ≡ Some end → EndLive t s end

@@ -1,6 +1,5 @@
 // Bits of one word.
-ghost use Rattle.std.specs.Prelude.{◌≡◌, ℕ, ◌-◌, ◌^◌, ◌<◌};
-ghost use Rattle.std.specs.Int.Count.{count_trailing_zeros};
+ghost use Rattle.std.specs.Prelude.{◌≡◌, ◌<◌};
 ghost use Rattle.automaton.specs.Bits.{bit, Exactly};
 
 pub fn is_set(word: u64, s: usize) -> bool
@@ -10,18 +9,28 @@ pub fn is_set(word: u64, s: usize) -> bool
     (word >> s) & 1 == 1
 }
 
-// The place of the lowest set bit.
-pub fn lowest(word: u64) -> usize
-    requires { 0 < word }
-    ensures { (result < 64) × (result ≡ count_trailing_zeros 64 word) × (bit word result ≡ 1) × ((s : ℕ) → s < result → bit word s ≡ 0) }
-{
-    u64::trailing_zeros(word) as usize
+// The places of a word's set bits, the lowest first: `left` has those that are still to come.
+#[derive(Clone, Copy)]
+pub struct SetBits {
+    pub left: u64,
 }
 
-// The word without its lowest set bit.
-pub fn without_lowest(word: u64) -> u64
-    requires { 0 < word }
-    ensures { result ≡ word - 2 ^ count_trailing_zeros 64 word }
-{
-    word & (word - 1)
+impl Iterator for SetBits {
+    ghost use Rattle.std.specs.Iterator.{at_most};
+    ghost use Rattle.automaton.specs.SetBits.{TakesLowest};
+
+    type Item = usize;
+
+    ghost next_gives = { λ before answer after. TakesLowest before.left answer after.left };
+
+    ghost remaining = { λ bits. at_most bits.left };
+
+    fn next(&mut self) -> Option<usize> {
+        let word = self.left;
+        if word == 0 {
+            return None;
+        }
+        self.left = word & (word - 1);
+        Some(u64::trailing_zeros(word) as usize)
+    }
 }

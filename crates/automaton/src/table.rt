@@ -1,63 +1,86 @@
 // The table: its check, the start state, one step, acceptance.
-ghost use Rattle.std.specs.Prelude.{◌≡◌, ◌+◌, ◌*◌, ◌<◌};
+ghost use Rattle.std.specs.Prelude.{◌≡◌, ◌+◌, ◌*◌, ◌<◌, IfOk};
+ghost use Rattle.layout.specs.Refusals.{no_of};
 ghost use Rattle.automaton.specs.Bits.{Exactly};
 ghost use Rattle.automaton.specs.Table.{table_no, WellFormed, states, flag, next, any_from};
 
-use layout::refusals::{FLAG_BAD, STATE_BAD, TABLE_BAD};
+use layout::refusals::Refusal;
 
 // Whether some byte is at or above the bound. It looks at all of them, byte against byte: so the loop takes many at once.
 fn any_from(bytes: &[u8], bound: u8) -> bool
     ensures { result ≡ any_from bound bytes.now }
 {
     let mut found = false;
-    let mut i: usize = 0;
-    while i < bytes.len() {
-        found = found | (bytes[i] >= bound);
-        i += 1;
+    for byte in bytes {
+        found = found | (*byte >= bound);
     }
     found
 }
 
-// The number by which a table is refused; 0 for one that is taken.
-pub fn check(table: &[u8]) -> u32
-    ensures { result ≡ table_no table.now }
-{
-    if table.len() == 0 {
-        return TABLE_BAD;
-    }
-    let m = table[0] as usize;
-    if m < 1 {
-        return TABLE_BAD;
-    }
-    if m > 64 {
-        return TABLE_BAD;
-    }
-    if table.len() != 1 + 257 * m {
-        return TABLE_BAD;
-    }
-    let rows = 1 + m;
-    if any_from(&table[1..rows], 2) {
-        return FLAG_BAD;
-    }
-    if any_from(&table[rows..], m as u8) {
-        return STATE_BAD;
-    }
-    0
+// The bytes of a table that keeps the rules.
+#[derive(Clone, Copy)]
+pub struct Table<'a> {
+    pub bytes: &'a [u8],
+    pub ghost well_formed: { WellFormed bytes.now },
 }
 
-// The state after one byte.
-pub fn accept(table: &[u8], state: usize, byte: u8) -> usize
-    requires { WellFormed table.now × (state < states table.now) }
-    ensures { (result ≡ next table.now state byte) × (result < states table.now) }
-{
-    let m = table[0] as usize;
-    table[1 + m + state * 256 + byte as usize] as usize
-}
+impl<'a> Table<'a> {
+    // The table, or the rule that its bytes break.
+    pub fn check(bytes: &'a [u8]) -> Result<Table<'a>, Refusal>
+        ensures number { no_of result ≡ table_no bytes.now }
+        ensures bytes { IfOk result (λ t. t.bytes.now ≡ bytes.now) }
+    {
+        if bytes.len() == 0 {
+            return Err(Refusal::TableBad);
+        }
+        let m = bytes[0] as usize;
+        if m < 1 {
+            return Err(Refusal::TableBad);
+        }
+        if m > 64 {
+            return Err(Refusal::TableBad);
+        }
+        if bytes.len() != 1 + 257 * m {
+            return Err(Refusal::TableBad);
+        }
+        let rows = 1 + m;
+        if any_from(&bytes[1..rows], 2) {
+            return Err(Refusal::FlagBad);
+        }
+        if any_from(&bytes[rows..], m as u8) {
+            return Err(Refusal::StateBad);
+        }
+        Ok(Table { bytes })
+    }
 
-// Whether a state accepts.
-pub fn is_match(table: &[u8], state: usize) -> bool
-    requires { WellFormed table.now × (state < states table.now) }
-    ensures { Exactly result (flag table.now state ≡ 1) }
-{
-    table[1 + state] == 1
+    // How many states there are.
+    pub fn states(self) -> usize
+        ensures { result ≡ states self.entry.bytes.now }
+    {
+        self.bytes[0] as usize
+    }
+
+    // Where the 256 next states of a state begin.
+    pub fn row(self, state: usize) -> usize
+        requires { state < states self.bytes.now }
+        ensures { result ≡ 1 + states self.entry.bytes.now + state * 256 }
+    {
+        1 + self.states() + state * 256
+    }
+
+    // The state after one byte.
+    pub fn accept(self, state: usize, byte: u8) -> usize
+        requires { state < states self.bytes.now }
+        ensures { (result ≡ next self.entry.bytes.now state byte) × (result < states self.entry.bytes.now) }
+    {
+        self.bytes[self.row(state) + byte as usize] as usize
+    }
+
+    // Whether a state accepts.
+    pub fn is_match(self, state: usize) -> bool
+        requires { state < states self.bytes.now }
+        ensures { Exactly result (flag self.entry.bytes.now state ≡ 1) }
+    {
+        self.bytes[1 + state] == 1
+    }
 }

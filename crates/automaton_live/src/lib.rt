@@ -1,144 +1,136 @@
 // Which bytes lead to a state that can match.
 #![tactic(auto)]
 
-ghost use Rattle.std.specs.Prelude.{◌≡◌, ℕ, ◌+◌, ◌≤◌, ◌<◌, length, get_or};
+ghost use Rattle.std.specs.Prelude.{◌≡◌, ℕ, ◌+◌, ◌-◌, ◌≤◌, ◌<◌, cond, length, get_or};
 ghost use Rattle.automaton.specs.Bits.{bit, Exactly};
-ghost use Rattle.automaton.specs.Table.{WellFormed, states};
-ghost use Rattle.automaton.specs.Words.{Reach};
-ghost use Rattle.automaton.specs.Live.{LiveByte, FirstLive, EndLive, Firsts, Ends};
+ghost use Rattle.automaton.specs.Table.{states, next};
+ghost use Rattle.automaton.specs.Words.{CanMatch, Reach};
+ghost use Rattle.automaton.specs.Live.{LiveByte, FirstLive, EndLive};
+ghost use Rattle.automaton_live.specs.Nearest.{place, Nearest};
+ghost use Rattle.automaton_live.specs.Prepared.{IsPrepared};
 
 use automaton::bits::is_set;
+use automaton::table::Table;
 
-// In a list of bytes: not worked out yet.
-pub const UNKNOWN: u16 = 65535;
-
-// Whether a byte from lo on and below hi leads on.
-pub fn any_byte(table: &[u8], reach: u64, state: usize, lo: usize, hi: usize) -> bool
-    requires { WellFormed table.now × Reach table.now reach × (state < states table.now) × (hi ≤ 256) }
-    ensures { Exactly result (LiveByte table.now state lo hi) }
-{
-    let row = 1 + table[0] as usize + state * 256;
-    let mut b = lo;
-    while b < hi {
-        if is_set(reach, table[row + b] as usize) {
-            return true;
-        }
-        b += 1;
-    }
-    false
+// What the walks along keys have of a table: the word of the states that can match, and for the states asked for so far the
+// lowest byte that leads on, and one more than the highest. That they are right stands in the contracts and not in a ghost
+// field: it has strings, so more than one proof, and a truncated fact doesn't give the string back.
+#[derive(Drop)]
+pub struct Prepared<'a> {
+    pub table: Table<'a>,
+    pub reach: u64,
+    pub firsts: [Option<u16>; 64],
+    pub ends: [Option<u16>; 64],
 }
 
-// Of the eight next states from `at` on, how many stand before the first that can match; 8 where none can.
-fn first_of_eight(table: &[u8], reach: u64, at: usize) -> usize
-    requires { (at + 8 ≤ length table.now) × ((j : ℕ) → j < 8 → get_or table.now (at + j) 0 < 64) }
-    ensures by_index { (j : ℕ) → j < 8 → j < result → bit reach (get_or table.now (at + j) 0) ≡ 0 }
-    ensures upper_bound { (result ≤ 8) × (result < 8 → bit reach (get_or table.now (at + result) 0) ≡ 1) }
+// The k-th of n places, from the front or from the back.
+#[inline(always)]
+fn place(back: bool, n: usize, k: usize) -> usize
+    requires { k < n }
+    ensures { result ≡ place back n k }
 {
-    let mut j: usize = 0;
-    while j < 8 {
-        if is_set(reach, table[at + j] as usize) {
-            return j;
-        }
-        j += 1;
-    }
-    j
+    if back { n - 1 - k } else { k }
 }
 
-// Of the eight next states from `at` on, how many stand up to the last that can match; 0 where none can.
-fn end_of_eight(table: &[u8], reach: u64, at: usize) -> usize
-    requires { (at + 8 ≤ length table.now) × ((j : ℕ) → j < 8 → get_or table.now (at + j) 0 < 64) }
-    ensures by_index { (j : ℕ) → j < 8 → result ≤ j → bit reach (get_or table.now (at + j) 0) ≡ 0 }
-    ensures upper_bound { (result ≤ 8) × ((j : ℕ) → j + 1 ≡ result → bit reach (get_or table.now (at + j) 0) ≡ 1) }
+// Of the eight next states from `at` on the first that can match, from the front or from the back.
+#[inline(always)]
+fn nearest_of_eight(back: bool, bytes: &[u8], reach: u64, at: usize) -> Option<usize>
+    requires { (at + 8 ≤ length bytes.now) × ((j : ℕ) → j < 8 → get_or bytes.now (at + j) 0 < 64) }
+    ensures { Nearest (λ j. bit reach (get_or bytes.now (at + j) 0) ≡ 1) back 8 result }
 {
-    let mut j: usize = 8;
-    while j > 0 {
-        if is_set(reach, table[at + j - 1] as usize) {
-            return j;
+    for k in 0..8 {
+        let j = place(back, 8, k);
+        if is_set(reach, bytes[at + j] as usize) {
+            return Some(j);
         }
-        j -= 1;
     }
-    j
+    None
 }
 
-// The lowest byte that leads on from a state; 256 where there is none. Eight next states that equal eight that lead
-// nowhere are passed over.
-fn first_byte(table: &[u8], reach: u64, state: usize) -> u16
-    requires { WellFormed table.now × Reach table.now reach × (state < states table.now) }
-    ensures { FirstLive table.now state result }
+// The first byte that leads on from a state, from the front or from the back. Eight next states that equal eight that lead
+// nowhere are passed over; no eight equal those that the loop begins with.
+#[inline(always)]
+fn nearest(back: bool, table: Table, reach: u64, state: usize) -> Option<usize>
+    requires { Reach table.bytes.now reach × (state < states table.bytes.now) }
+    ensures { Nearest (λ b. CanMatch table.entry.bytes.now (next table.entry.bytes.now state b)) back 256 result }
 {
-    let row = 1 + table[0] as usize + state * 256;
-    let front = first_of_eight(table, reach, row);
-    if front < 8 {
-        return front as u16;
-    }
-    let mut dead = serialize::deserialize_u64(table, row);
-    let mut b: usize = 8;
-    while b < 256 {
-        let eight = serialize::deserialize_u64(table, row + b);
+    let row = table.row(state);
+    let mut dead = u64::MAX;
+    for k in 0..32 {
+        let from = 8 * place(back, 32, k);
+        let eight = serialize::deserialize_u64(table.bytes, row + from);
         if eight != dead {
-            let j = first_of_eight(table, reach, row + b);
-            if j < 8 {
-                return (b + j) as u16;
-            }
-            dead = eight;
-        }
-        b += 8;
-    }
-    256
-}
-
-// One more than the highest byte that leads on from a state; 0 where there is none. The same from the back.
-fn end_byte(table: &[u8], reach: u64, state: usize) -> u16
-    requires { WellFormed table.now × Reach table.now reach × (state < states table.now) }
-    ensures { EndLive table.now state result }
-{
-    let row = 1 + table[0] as usize + state * 256;
-    let back = end_of_eight(table, reach, row + 248);
-    if back > 0 {
-        return (248 + back) as u16;
-    }
-    let mut dead = serialize::deserialize_u64(table, row + 248);
-    let mut b: usize = 248;
-    while b > 0 {
-        b -= 8;
-        let eight = serialize::deserialize_u64(table, row + b);
-        if eight != dead {
-            let j = end_of_eight(table, reach, row + b);
-            if j > 0 {
-                return (b + j) as u16;
+            if let Some(j) = nearest_of_eight(back, table.bytes, reach, row + from) {
+                return Some(from + j);
             }
             dead = eight;
         }
     }
-    0
+    None
 }
 
-// The lowest byte that leads on from a state, worked out when it is first asked for.
-pub fn first(table: &[u8], reach: u64, firsts: &mut [u16; 64], state: usize) -> u16
-    requires { WellFormed table.now × Reach table.now reach × Firsts table.now firsts.old × (state < states table.now) }
-    ensures first_live { FirstLive table.now state result }
-    ensures firsts { Firsts table.now firsts.new }
-{
-    let known = firsts[state];
-    if known != UNKNOWN {
-        return known;
+impl<'a> Prepared<'a> {
+    pub fn new(table: Table<'a>) -> Prepared<'a>
+        ensures { IsPrepared table.entry.bytes.now result }
+    {
+        Prepared {
+            table,
+            reach: automaton_reach::reach(table),
+            firsts: [None; 64],
+            ends: [None; 64],
+        }
     }
-    let byte = first_byte(table, reach, state);
-    firsts[state] = byte;
-    byte
-}
 
-// One more than the highest byte that leads on from a state, worked out when it is first asked for.
-pub fn end(table: &[u8], reach: u64, ends: &mut [u16; 64], state: usize) -> u16
-    requires { WellFormed table.now × Reach table.now reach × Ends table.now ends.old × (state < states table.now) }
-    ensures end_live { EndLive table.now state result }
-    ensures ends { Ends table.now ends.new }
-{
-    let known = ends[state];
-    if known != UNKNOWN {
-        return known;
+    // Whether a state can match.
+    pub fn can_match(&self, state: usize) -> bool
+        requires { state < 64 }
+        ensures { Exactly result (bit self.now.reach state ≡ 1) }
+    {
+        is_set(self.reach, state)
     }
-    let byte = end_byte(table, reach, state);
-    ends[state] = byte;
-    byte
+
+    // Whether a byte from lo on and below hi leads on.
+    pub fn any_byte(&self, state: usize, lo: usize, hi: usize) -> bool
+        requires { IsPrepared self.now.table.bytes.now self.now × (state < states self.now.table.bytes.now) × (hi ≤ 256) }
+        ensures { Exactly result (LiveByte self.now.table.bytes.now state lo hi) }
+    {
+        let row = self.table.row(state);
+        for b in lo..hi {
+            if is_set(self.reach, self.table.bytes[row + b] as usize) {
+                return true;
+            }
+        }
+        false
+    }
+
+    // The lowest byte that leads on from a state, worked out when it is first asked for; 256 where there is none: a bound, which
+    // is compared as one.
+    pub fn first(&mut self, state: usize) -> u16
+        requires { IsPrepared self.old.table.bytes.now self.old × (state < states self.old.table.bytes.now) }
+        ensures first_live { FirstLive self.old.table.bytes.now state result }
+        ensures prepared { IsPrepared self.old.table.bytes.now self.new }
+    {
+        if let Some(known) = self.firsts[state] {
+            return known;
+        }
+        let byte = nearest(false, self.table, self.reach, state);
+        let first = byte.map_or(256, |b| b) as u16;
+        self.firsts[state] = Some(first);
+        first
+    }
+
+    // One more than the highest byte that leads on from a state, worked out when it is first asked for; 0 where there is none.
+    pub fn end(&mut self, state: usize) -> u16
+        requires { IsPrepared self.old.table.bytes.now self.old × (state < states self.old.table.bytes.now) }
+        ensures end_live { EndLive self.old.table.bytes.now state result }
+        ensures prepared { IsPrepared self.old.table.bytes.now self.new }
+    {
+        if let Some(known) = self.ends[state] {
+            return known;
+        }
+        let byte = nearest(true, self.table, self.reach, state);
+        let end = byte.map_or(0, |b| b + 1) as u16;
+        self.ends[state] = Some(end);
+        end
+    }
 }

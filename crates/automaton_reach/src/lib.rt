@@ -8,94 +8,84 @@ ghost use Rattle.automaton.specs.Bits.{bit, Exactly};
 ghost use Rattle.automaton.specs.Table.{WellFormed, states, flag, next};
 ghost use Rattle.automaton.specs.Words.{CanMatch, Reach};
 
-use automaton::bits::{is_set, lowest, without_lowest};
+use automaton::bits::{SetBits, is_set};
+use automaton::table::Table;
 
 // The word of the accepting states.
-pub fn flags(table: &[u8]) -> u64
-    requires { WellFormed table.now }
-    ensures upper_bound { result < 2 ^ states table.now }
-    ensures by_index { (s : ℕ) → s < states table.now → bit result s ≡ flag table.now s }
+pub fn flags(table: Table) -> u64
+    ensures upper_bound { result < 2 ^ states table.entry.bytes.now }
+    ensures by_index { (s : ℕ) → s < states table.entry.bytes.now → bit result s ≡ flag table.entry.bytes.now s }
 {
-    let m = table[0] as usize;
     let mut word: u64 = 0;
-    let mut s: usize = 0;
-    while s < m {
-        word |= (table[1 + s] as u64) << s;
-        s += 1;
+    for s in 0..table.states() {
+        word |= (table.bytes[1 + s] as u64) << s;
     }
     word
 }
 
 // The word of the next states that stand in the eight bytes from `at` on.
-fn states_of(table: &[u8], at: usize) -> u64
-    requires { (at + 8 ≤ length table.now) × ((b : ℕ) → b < 8 → get_or table.now (at + b) 0 < 64) }
-    ensures by_index { (b : ℕ) → b < 8 → bit result (get_or table.now (at + b) 0) ≡ 1 }
-    ensures by_index_2 { (s : ℕ) → bit result s ≡ 1 → (b : ℕ) × (b < 8) × (get_or table.now (at + b) 0 ≡ s) }
+fn states_of(bytes: &[u8], at: usize) -> u64
+    requires { (at + 8 ≤ length bytes.now) × ((b : ℕ) → b < 8 → get_or bytes.now (at + b) 0 < 64) }
+    ensures by_index { (b : ℕ) → b < 8 → bit result (get_or bytes.now (at + b) 0) ≡ 1 }
+    ensures by_index_2 { (s : ℕ) → bit result s ≡ 1 → (b : ℕ) × (b < 8) × (get_or bytes.now (at + b) 0 ≡ s) }
 {
     let mut word: u64 = 0;
-    let mut b: usize = 0;
-    while b < 8 {
-        word |= 1u64 << table[at + b];
-        b += 1;
+    for b in 0..8 {
+        word |= 1u64 << bytes[at + b];
     }
     word
 }
 
 // Whether the eight words from `at` on all equal `last`. The loop has no branch, so that it is unrolled whole.
-fn repeats(table: &[u8], at: usize, last: u64) -> bool
-    requires { at + 64 ≤ length table.now }
-    ensures { Exactly result ((k : ℕ) → k < 8 → number_at table.now (at + 8 * k) 8 ≡ last) }
+fn repeats(bytes: &[u8], at: usize, last: u64) -> bool
+    requires { at + 64 ≤ length bytes.now }
+    ensures { Exactly result ((k : ℕ) → k < 8 → number_at bytes.now (at + 8 * k) 8 ≡ last) }
 {
     let mut differ: u64 = 0;
-    let mut k: usize = 0;
-    while k < 8 {
-        differ |= serialize::deserialize_u64(table, at + 8 * k) ^ last;
-        k += 1;
+    for k in 0..8 {
+        differ |= serialize::deserialize_u64(bytes, at + 8 * k) ^ last;
     }
     differ == 0
 }
 
 // The word of the next states that stand in the 256 bytes from `at` on. Those that repeat the eight looked at last are in
 // it: 64 of them are passed at once. The rest isn't looked at once the word has a bit of `wanted`.
-fn next_states(table: &[u8], at: usize, wanted: u64) -> u64
-    requires { (at + 256 ≤ length table.now) × ((b : ℕ) → b < 256 → get_or table.now (at + b) 0 < 64) }
-    ensures b_value { bit_and result wanted ≡ 0 → (b : ℕ) → b < 256 → bit result (get_or table.now (at + b) 0) ≡ 1 }
-    ensures by_index { (s : ℕ) → bit result s ≡ 1 → (b : ℕ) × (b < 256) × (get_or table.now (at + b) 0 ≡ s) }
+fn next_states(bytes: &[u8], at: usize, wanted: u64) -> u64
+    requires { (at + 256 ≤ length bytes.now) × ((b : ℕ) → b < 256 → get_or bytes.now (at + b) 0 < 64) }
+    ensures b_value { bit_and result wanted ≡ 0 → (b : ℕ) → b < 256 → bit result (get_or bytes.now (at + b) 0) ≡ 1 }
+    ensures by_index { (s : ℕ) → bit result s ≡ 1 → (b : ℕ) × (b < 256) × (get_or bytes.now (at + b) 0 ≡ s) }
 {
-    let mut last = serialize::deserialize_u64(table, at);
-    let mut word = states_of(table, at);
-    let mut b: usize = 0;
-    while b < 256 {
-        if word & wanted != 0 {
-            return word;
-        }
-        if b % 64 == 0 && repeats(table, at + b, last) {
-            b += 64;
+    let mut last = serialize::deserialize_u64(bytes, at);
+    let mut word = states_of(bytes, at);
+    for quarter in 0..4 {
+        let from = at + 64 * quarter;
+        if repeats(bytes, from, last) {
             continue;
         }
-        let eight = serialize::deserialize_u64(table, at + b);
-        if eight != last {
-            word |= states_of(table, at + b);
-            last = eight;
+        for k in 0..8 {
+            if word & wanted != 0 {
+                return word;
+            }
+            let eight = serialize::deserialize_u64(bytes, from + 8 * k);
+            if eight != last {
+                word |= states_of(bytes, from + 8 * k);
+                last = eight;
+            }
         }
-        b += 8;
     }
     word
 }
 
 // For each state the word of those that a byte leads to from it.
-pub fn successors(table: &[u8]) -> [u64; 64]
-    requires { WellFormed table.now }
-    ensures by_index { (p b : ℕ) → p < states table.now → b < 256 → bit (get_or result p 0) (next table.now p b) ≡ 1 }
-    ensures by_index_2 { (p s : ℕ) → p < states table.now → bit (get_or result p 0) s ≡ 1
-        → (b : ℕ) × (b < 256) × (next table.now p b ≡ s) }
+pub fn successors(table: Table) -> [u64; 64]
+    ensures by_index { (p b : ℕ) → p < states table.entry.bytes.now → b < 256
+        → bit (get_or result p 0) (next table.entry.bytes.now p b) ≡ 1 }
+    ensures by_index_2 { (p s : ℕ) → p < states table.entry.bytes.now → bit (get_or result p 0) s ≡ 1
+        → (b : ℕ) × (b < 256) × (next table.entry.bytes.now p b ≡ s) }
 {
-    let m = table[0] as usize;
     let mut words: [u64; 64] = [0; 64];
-    let mut p: usize = 0;
-    while p < m {
-        words[p] = next_states(table, 1 + m + p * 256, 0);
-        p += 1;
+    for p in 0..table.states() {
+        words[p] = next_states(table.bytes, table.row(p), 0);
     }
     words
 }
@@ -116,10 +106,7 @@ fn mark(words: &mut [u64; 64], states: u64, p: usize)
     ensures by_index { (s : ℕ) → bit states s ≡ 1 → get_or words.new s 0 ≡ bit_or (get_or words.old s 0) (2 ^ p) }
     ensures by_index_2 { (s : ℕ) → bit states s ≡ 0 → get_or words.new s 0 ≡ get_or words.old s 0 }
 {
-    let mut left = states;
-    while left != 0 {
-        let s = lowest(left);
-        left = without_lowest(left);
+    for s in (SetBits { left: states }) {
         words[s] |= 1u64 << p;
     }
 }
@@ -127,24 +114,21 @@ fn mark(words: &mut [u64; 64], states: u64, p: usize)
 // Looks at the rows of the states of `unfound`, the lowest first, and gives the states found by it. A state with a next
 // state that is found is found itself, and its row isn't looked at any further; of any other each next state keeps that
 // it leads there.
-fn first_look(table: &[u8], accepting: u64, unfound: u64, before: &mut [u64; 64]) -> u64
-    requires well_formed { WellFormed table.now × (accepting < 2 ^ states table.now) × (unfound < 2 ^ states table.now)
-        × ((s : ℕ) → bit accepting s ≡ 1 → CanMatch table.now s) }
+fn first_look(table: Table, accepting: u64, unfound: u64, before: &mut [u64; 64]) -> u64
+    requires accepting { (accepting < 2 ^ states table.bytes.now) × ((s : ℕ) → bit accepting s ≡ 1 → CanMatch table.bytes.now s) }
+    requires unfound { unfound < 2 ^ states table.bytes.now }
     requires before_len { (length before.old ≡ 64) × ((s : ℕ) → get_or before.old s 0 ≡ 0) }
-    ensures upper_bound { (result < 2 ^ states table.now) × ((s : ℕ) → bit accepting s ≡ 1 → bit result s ≡ 1)
-        × ((s : ℕ) → bit result s ≡ 1 → CanMatch table.now s) }
-    ensures by_index { (s : ℕ) → get_or before.new s 0 < 2 ^ states table.now }
+    ensures upper_bound { (result < 2 ^ states table.entry.bytes.now) × ((s : ℕ) → bit accepting s ≡ 1 → bit result s ≡ 1)
+        × ((s : ℕ) → bit result s ≡ 1 → CanMatch table.entry.bytes.now s) }
+    ensures by_index { (s : ℕ) → get_or before.new s 0 < 2 ^ states table.entry.bytes.now }
     ensures by_index_2 { (p b : ℕ) → bit unfound p ≡ 1 → bit result p ≡ 0 → b < 256
-        → bit (get_or before.new (next table.now p b) 0) p ≡ 1 }
-    ensures by_index_3 { (p s : ℕ) → bit (get_or before.new s 0) p ≡ 1 → (b : ℕ) × (b < 256) × (next table.now p b ≡ s) }
+        → bit (get_or before.new (next table.entry.bytes.now p b) 0) p ≡ 1 }
+    ensures by_index_3 { (p s : ℕ) → bit (get_or before.new s 0) p ≡ 1
+        → (b : ℕ) × (b < 256) × (next table.entry.bytes.now p b ≡ s) }
 {
-    let m = table[0] as usize;
     let mut found = accepting;
-    let mut left = unfound;
-    while left != 0 {
-        let p = lowest(left);
-        left = without_lowest(left);
-        let states = next_states(table, 1 + m + p * 256, found);
+    for p in (SetBits { left: unfound }) {
+        let states = next_states(table.bytes, table.row(p), found);
         if states & found != 0 {
             found |= 1u64 << p;
         } else {
@@ -155,25 +139,22 @@ fn first_look(table: &[u8], accepting: u64, unfound: u64, before: &mut [u64; 64]
 }
 
 // The word of the states that can match. Where no state accepts, or all do, it is that of the accepting states.
-pub fn reach(table: &[u8]) -> u64
-    requires { WellFormed table.now }
-    ensures reach { Reach table.now result }
-    ensures upper_bound { result < 2 ^ states table.now }
+pub fn reach(table: Table) -> u64
+    ensures reach { Reach table.entry.bytes.now result }
+    ensures upper_bound { result < 2 ^ states table.entry.bytes.now }
 {
     let accepting = flags(table);
-    let unfound = others(accepting, table[0] as usize);
+    let unfound = others(accepting, table.states());
     if accepting == 0 || unfound == 0 {
         return accepting;
     }
     let mut before: [u64; 64] = [0; 64];
     let mut found = first_look(table, accepting, unfound, &mut before);
-    let mut waiting = found;
-    while waiting != 0 {
-        let s = lowest(waiting);
-        waiting = without_lowest(waiting);
+    let mut waiting = SetBits { left: found };
+    while let Some(s) = waiting.next() {
         let more = before[s] & !found;
         found |= more;
-        waiting |= more;
+        waiting.left |= more;
     }
     found
 }

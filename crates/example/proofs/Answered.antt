@@ -3,9 +3,8 @@ use mathlib.Core.Path.{◌≡◌, refl, sym, subst}
 use mathlib.Core.List.{List, [], ◌∷◌}
 use mathlib.Core.Bool.{Bool, true, false}
 use mathlib.Core.Option.{Option, none, some}
-use mathlib.Core.Logic.{⊎_elim}
-use Prim.Native.Nat.{ℕ, ◌+◌, ◌≤◌, ◌<◌, zero-le}
-use native.Mathlib.Nat.{eq-zero-or-pos, le_refl}
+use Prim.Native.Nat.{ℕ, ◌+◌, ◌≤◌, zero-le}
+use native.Mathlib.Nat.{le_refl}
 use native.Mathlib.Omega.{arith}
 use lib.Dec.{leb}
 use lib.ListN.{length}
@@ -16,54 +15,40 @@ use Rattle.automaton.specs.Bits.{Exactly}
 use Rattle.automaton.specs.Table.{table_no, flag}
 use Rattle.automaton.specs.Words.{Accepts}
 use Rattle.automaton.proofs.Strings.{hits-nil, word-cases, hits-cons}
-use Rattle.pruning.specs.Interval.{start_of, Marked}
+use Rattle.pruning.specs.Interval.{Marked}
 use Rattle.example.specs.Example.{longer, ExampleNo, Shown, example_answer_no, example_answer_len, ExampleAnswerCased, ExampleFor}
-use Rattle.example_walk.specs.Walk.{FromByte, InFront}
-use Rattle.example.specs.declared.ExampleAnswer.{ExampleAnswer}
-use Rattle.example.specs.declared.ExampleAnswer.TheVariants.{Written, Refused}
+use Rattle.example_walk.specs.Walk.{FromByte, InFront, Walked}
+use Rattle.std.specs.Prelude.{Result, Ok, Err, Option as MayBe, Some, None}
+use Rattle.std.specs.Option.{ok_or}
+use Rattle.layout.specs.declared.refusals.Refusal.{Refusal}
+use Rattle.layout.specs.declared.refusals.Refusal.TheVariants.{NoExample}
+use Rattle.layout.specs.Refusals.{number_of}
+use Rattle.layout.proofs.Numbers.{number_positive}
 use Rattle.example_walk.proofs.Bounds.{next-string}
 
--- ---- room
-pub longer-end : (h : Bool) (start end : List ℕ) → length end ≤ longer (start_of h start) end
-longer-end true start end = omega arith
-longer-end false start end = le_refl (length end)
-
-pub exactly-leb : (a b : ℕ) → Exactly (leb a b) (a ≤ b)
-exactly-leb a b = go (leb a b) refl
-  where
-    go : (r : Bool) → leb a b ≡ r → Exactly r (a ≤ b)
-    go true e = leb-true a b e
-    go false e = λ h. let l = leb-false a b e in omega arith
-
--- ---- an answer: what the call promises, and its case
-abbrev pub Answered : List ℕ → Option (List ℕ) → List ℕ → List ℕ → List ℕ → ExampleAnswer → Type 0
-Answered t start end out new r = ExampleFor t start end out new (example_answer_no r) (example_answer_len r) × ExampleAnswerCased r
+-- ---- an answer: what the call promises
+abbrev pub Answered : List ℕ → Option (List ℕ) → List ℕ → List ℕ → List ℕ → Result ℕ Refusal → Type 0
+Answered t start end out new r = ExampleFor t start end out new (example_answer_no r) (example_answer_len r)
 
 -- a refusal leaves the output as it was
-pub answered-refused : {t : List ℕ} {start : Option (List ℕ)} {end out : List ℕ} (k : ℕ) → 0 < k → ExampleNo t start end (length out) k
-    → Answered t start end out out (Refused k)
-answered-refused k h row =
-    (record { number = row; leaves = record { taken = λ e. absurd (let z : ⊥ = omega arith in z); refused = λ p. (refl, refl) } }, h)
+pub answered-refused : {t : List ℕ} {start : Option (List ℕ)} {end out : List ℕ} (refusal : Refusal) → ExampleNo t start end (length out) (number_of refusal)
+    → Answered t start end out out (Err refusal)
+answered-refused refusal row = record {
+  number = row;
+  leaves = record { taken = λ e. absurd (let h = number_positive refusal in let z : ⊥ = omega arith in z); refused = λ p. (refl, refl) };
+}
 
-module _ {t : List ℕ} {start : Option (List ℕ)} {end out new : List ℕ} where
-  shown-marked : {len : ℕ} → Shown t start end out new len → Marked t start end
+module _ {t : List ℕ} {start : Option (List ℕ)} {end out : List ℕ} where
+  shown-marked : {new : List ℕ} {len : ℕ} → Shown t start end out new len → Marked t start end
   shown-marked x = record { string = x.string; hits = x.hits; good = (x.above, x.not-above) }
 
   module _ (ok : table_no t ≡ 0) (fits : longer start end + 64 ≤ length out) where
-    pub answered-shown : (len : ℕ) → Shown t start end out new len → Answered t start end out new (Written len)
-    answered-shown len x = (
-      record { number = ExampleNo.accepted ok fits (shown-marked x); leaves = record { taken = λ e. x; refused = λ p. absurd (let z : ⊥ = omega arith in z) } },
-      tt,
-    )
+    pub answered-shown : (new : List ℕ) (len : ℕ) → Shown t start end out new len → Answered t start end out new (Ok len)
+    answered-shown new len x =
+        record { number = ExampleNo.accepted ok fits (shown-marked x); leaves = record { taken = λ e. x; refused = λ p. absurd (let z : ⊥ = omega arith in z) } }
 
-    pub answered : (len : ℕ) (r : ExampleAnswer) → (len ≡ 0 → r ≡ Refused 25) → (0 < len → r ≡ Written len)
-        → (len ≡ 0 → (new ≡ out) × (Marked t start end → ⊥)) → (0 < len → Shown t start end out new len) → Answered t start end out new r
-    answered len r f g nothing something =
-        ⊎_elim
-        (λ z. subst (Answered t start end out new) (sym (f z))
-        (subst (λ (x : List ℕ). Answered t start end out x (Refused 25)) (sym (nothing z).0) (answered-refused 25 (omega arith) (ExampleNo.nothing ok fits (nothing z).1))))
-        (λ p. subst (Answered t start end out new) (sym (g p)) (answered-shown len (something p)))
-        (eq-zero-or-pos len)
+    pub answered-none : (Marked t start end → ⊥) → Answered t start end out out (Err NoExample)
+    answered-none n = answered-refused NoExample (ExampleNo.nothing ok fits n)
 
 -- ---- no start: the empty string, or one not below a 0
 module _ (t end : List ℕ) where
@@ -81,3 +66,16 @@ module _ (t end : List ℕ) where
 -- ---- a start
 pub between-shown : {t start end out new : List ℕ} {len : ℕ} → len ≤ longer (some start) end + 64 → InFront t (λ w. start ≺ w) (λ w. w ≼ end) out new len → Shown t (some start) end out new len
 between-shown h m = record { string = m.string; hits = m.hits; above = m.good.0; not-above = m.good.1; whole = m.good.2; short = h; bytes = m.good.3 }
+
+-- ---- a refusal has a number above 0
+pub example_answer_cased : (r : Result ℕ Refusal) → ExampleAnswerCased r
+example_answer_cased (Ok len) = tt
+example_answer_cased (Err refusal) = number_positive refusal
+
+-- ---- what a walk answers, none being the row 25
+pub answered-walk : {t end out : List ℕ} {start : Option (List ℕ)} (new : List ℕ) (L U : List ℕ → Type 0) (most : ℕ) (r : MayBe ℕ) → table_no t ≡ 0 → longer start end + 64 ≤ length out
+    → ((Accepts t 0 (λ w. L w × U w) → ⊥) → Marked t start end → ⊥) → ((len : ℕ) → len ≤ most → InFront t L U out new len → Shown t start end out new len)
+    → Walked t L U most out new r → Answered t start end out new (ok_or r NoExample)
+answered-walk {t} {end} {out} {start} new L U most None ok fits nothing shown w =
+    subst (λ (x : List ℕ). Answered t start end out x (Err NoExample)) (sym w.0) (answered-none ok fits (nothing w.1))
+answered-walk new L U most (Some len) ok fits nothing shown w = answered-shown ok fits new len (shown len w.0 w.1)

@@ -1,13 +1,13 @@
 -- The example call (SPECIFICATION 11.8, rows 21 to 25): an accepted string of an interval is written, and no word on which.
-use Rattle.std.specs.Prelude.{ℕ, ◌+◌, ◌≤◌, ◌<◌, max, ◌≡◌, List, length}
+use Rattle.std.specs.Prelude.{ℕ, ◌+◌, ◌≤◌, ◌<◌, max, ◌≡◌, List, length, Result, Ok, Err}
 use Rattle.std.proofs.Math.Option.{Option, none, some}
 use Rattle.std.proofs.lemmas.List.Edits.{sets}
+use Rattle.layout.specs.declared.refusals.Refusal.{Refusal}
+use Rattle.layout.specs.Refusals.{number_of, no_of}
 use Rattle.keys.specs.Order.{◌≼◌}
 use Rattle.automaton.specs.Table.{table_no}
 use Rattle.automaton.specs.Words.{Hits}
 use Rattle.pruning.specs.Interval.{AboveStart, Marked}
-use Rattle.example.specs.declared.ExampleAnswer.{ExampleAnswer}
-use Rattle.example.specs.declared.ExampleAnswer.TheVariants.{Written, Refused}
 
 -- the longer key's length; an absent start is no key
 abbrev pub longer : Option (List ℕ) → List ℕ → ℕ
@@ -31,19 +31,18 @@ pub record Shown (t : List ℕ) (start : Option (List ℕ)) (end out written : L
   pub short : len ≤ longer start end + 64
   pub bytes : written ≡ sets out 0 string
 
--- document 01's number and length for each answer; a refusal has all else zero
-abbrev pub example_answer_no : ExampleAnswer → ℕ
-example_answer_no (Written len) = 0
-example_answer_no (Refused k) = k
+-- the number and the length of each answer; a refusal has all else zero
+abbrev pub example_answer_no : Result ℕ Refusal → ℕ
+example_answer_no = no_of
 
-abbrev pub example_answer_len : ExampleAnswer → ℕ
-example_answer_len (Written len) = len
-example_answer_len (Refused k) = 0
+abbrev pub example_answer_len : Result ℕ Refusal → ℕ
+example_answer_len (Ok len) = len
+example_answer_len (Err refusal) = 0
 
 -- a refusal has a number above 0
-abbrev pub ExampleAnswerCased : ExampleAnswer → Type 0
-ExampleAnswerCased (Written len) = Unit {0}
-ExampleAnswerCased (Refused k) = 0 < k
+abbrev pub ExampleAnswerCased : Result ℕ Refusal → Type 0
+ExampleAnswerCased (Ok len) = Unit {0}
+ExampleAnswerCased (Err refusal) = 0 < number_of refusal
 
 -- what a call with the number k leaves: its length, and the output
 pub record ExampleLeaves (t : List ℕ) (start : Option (List ℕ)) (end out written : List ℕ) (k len : ℕ) : Type 0 where

@@ -15,6 +15,7 @@ use Rattle.automaton.specs.Table.{WellFormed, states, flag, next}
 use Rattle.automaton.specs.Words.{run, Hits, Accepts}
 use Rattle.automaton.proofs.Exact.{same_or, lt-or-le}
 use Rattle.automaton.proofs.Word.{bit-lt, bit-off, bit-zero, bit_below, bit-trailing, bit-or, bit-and, bit_not}
+use Rattle.automaton.proofs.SetBits.{Passed, passed_none, passed-more}
 use Rattle.automaton.proofs.Strings.{hits-tail, word-nil, word-cons}
 use Rattle.example_distance.specs.Distance.{Distances}
 
@@ -211,29 +212,15 @@ module _ {t : List ℕ} where
       far = λ s hs m. omega (arith, (i.done s (all_found m.string s hs m.hits)).0, i.count, ones-le 64 f (fits wf i.small));
     }
 
--- ---- the distance k written for the states of l, of those below n
-pub record PutTo (n l k : ℕ) (old new : List ℕ) : Type 0 where
+-- ---- the distance k written for the states of l, of which those of `left` are still to come
+pub record PutTo (l left k : ℕ) (old new : List ℕ) : Type 0 where
   pub long : length new ≡ length old
-  pub put : (q : ℕ) → q < n → bit l q ≡ 1 → get_or new q 0 ≡ k
+  pub put : Passed (λ q. get_or new q 0 ≡ k) l left
   pub kept : (q : ℕ) → bit l q ≡ 0 → get_or new q 0 ≡ get_or old q 0
 
-pub put-none : (l k : ℕ) (old : List ℕ) → PutTo 0 l k old old
-put-none l k old = record { long = refl; put = λ q h. absurd (omega arith); kept = λ q e. refl }
-
-module _ {n l k : ℕ} {old new : List ℕ} (i : PutTo n l k old new) where
-  pub put-yes : n < length old → bit l n ≡ 1 → PutTo (n + 1) l k old (set new n k)
-  put-yes h e = record {
-    long = length-set new n k ∙ i.long;
-    put = λ q g b. ⊎_elim
-        (λ z. ap (λ (x : ℕ). get_or (set new n k) x 0) z ∙ get_or-set_same new n k 0 (omega (arith, i.long)))
-        (λ z. get_or-set_other new n q k 0 z ∙ i.put q (omega arith) b)
-        (same_or q n);
-    kept = λ q b. get_or-set_other new n q k 0 (λ z. let y = subst (λ (x : ℕ). bit l x ≡ 0) z b in omega arith) ∙ i.kept q b;
-  }
-
-  pub put-no : (bit l n ≡ 1 → ⊥) → PutTo (n + 1) l k old new
-  put-no e = record {
-    long = i.long;
-    put = λ q g b. ⊎_elim (λ z. absurd (e (subst (λ (x : ℕ). bit l x ≡ 1) z b))) (λ z. i.put q (omega arith) b) (same_or q n);
-    kept = i.kept;
-  }
+pub put-more : {l left k : ℕ} {old new : List ℕ} → PutTo l left k old new → (s : ℕ) → s < length new → bit left s ≡ 1 → (rest : ℕ) → rest ≡ left - 2 ^ s → PutTo l rest k old (set new s k)
+put-more {l} {left} {k} {old} {new} i s h e rest is = rw is (record {
+  long = length-set new s k ∙ i.long;
+  put = passed-more i.put s e (λ q n f. get_or-set_other new s q k 0 n ∙ f) (get_or-set_same new s k 0 h);
+  kept = λ q b. get_or-set_other new s q k 0 (λ z. let y = subst (λ (x : ℕ). bit l x ≡ 0) z b in let o = i.put.sub s e in omega arith) ∙ i.kept q b;
+})

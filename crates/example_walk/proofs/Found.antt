@@ -10,7 +10,8 @@ use Rattle.automaton.specs.Table.{next}
 use Rattle.automaton.specs.Words.{Bytes, run, Hits, Accepts}
 use Rattle.automaton.proofs.Strings.{hits-cons, hits-append, bytes_take}
 use Rattle.serialize.proofs.Stores.{sets-append, copied}
-use Rattle.example_walk.specs.Walk.{FromByte, UnderByte, InFront}
+use Rattle.std.specs.Prelude.{Option, None, Some}
+use Rattle.example_walk.specs.Walk.{FromByte, UnderByte, InFront, Walked}
 use Rattle.example_walk.proofs.Bounds.{leaving}
 
 -- in another interval, where the output was untouched till then
@@ -47,3 +48,10 @@ module _ (t key out a : List ℕ) (len : ℕ) (within : len ≤ length key) (roo
           rw (add-one len) (ap (λ (x : List ℕ). sets x len (b ∷ m.string)) (copy ∙ copied out (take len key) (omega (arith, long)))
           ∙ ap (λ (n : ℕ). sets (sets out 0 (take len key)) n (b ∷ m.string)) e
           ∙ sets-append out (take len key) (b ∷ m.string) 0)
+
+-- the same of a walk
+pub walked_map : {t old old' : List ℕ} (new : List ℕ) {most most' : ℕ} (L U L' U' : List ℕ → Type 0) (r : Option ℕ) → most ≤ most' → old ≡ old'
+    → ((w : List ℕ) → L w → U w → L' w × U' w) → ((Accepts t 0 (λ w. L w × U w) → ⊥) → Accepts t 0 (λ w. L' w × U' w) → ⊥)
+    → Walked t L U most old new r → Walked t L' U' most' old' new r
+walked_map new L U L' U' None h e f g w = (w.0 ∙ e, g w.1)
+walked_map new L U L' U' (Some r) h e f g w = (omega (arith, w.0), found_map L U L' U' e f w.1)

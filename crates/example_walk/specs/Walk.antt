@@ -1,5 +1,5 @@
 -- What a walk along a key writes to the front of the output: an accepted string of an interval, of which L and U are the bounds.
-use Rattle.std.specs.Prelude.{ℕ, ◌≤◌, ◌<◌, ◌≡◌, List, [], ◌∷◌, ◌++◌, length, take}
+use Rattle.std.specs.Prelude.{ℕ, ◌≤◌, ◌≡◌, List, [], ◌∷◌, ◌++◌, length, take, Option, None, Some}
 use Rattle.std.proofs.lemmas.List.Edits.{sets}
 use Rattle.keys.specs.Order.{◌≺◌, ◌≼◌}
 use Rattle.automaton.specs.Words.{Accepts}
@@ -16,7 +16,7 @@ UnderByte key n hi w = w ≺ (take n key ++ (hi ∷ []))
 abbrev pub InFront : (t : List ℕ) (L U : List ℕ → Type 0) (out written : List ℕ) (r : ℕ) → Type 0
 InFront t L U out written r = Accepts t 0 (λ w. L w × U w × (r ≡ length w) × (written ≡ sets out 0 w))
 
--- a string of r bytes is written, `most` at most; or r is 0, there is none, and nothing is written
-pub record Walked (t : List ℕ) (L U : List ℕ → Type 0) (most : ℕ) (out written : List ℕ) (r : ℕ) : Type 0 where
-  pub none : r ≡ 0 → (written ≡ out) × (Accepts t 0 (λ w. L w × U w) → ⊥)
-  pub some : 0 < r → (r ≤ most) × InFront t L U out written r
+-- a string of r bytes is written, `most` at most; or there is none, and nothing is written
+abbrev pub Walked : (t : List ℕ) (L U : List ℕ → Type 0) (most : ℕ) (out written : List ℕ) → Option ℕ → Type 0
+Walked t L U most out written None = (written ≡ out) × (Accepts t 0 (λ w. L w × U w) → ⊥)
+Walked t L U most out written (Some r) = (r ≤ most) × InFront t L U out written r

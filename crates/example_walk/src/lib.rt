@@ -1,171 +1,142 @@
-// The walk along a key to where an example leaves it, and the example written from there. A length of 0 stands for none:
-// nothing is written then.
+// The walk along a key to where an example leaves it, and the example written from there: its length, or None where there
+// is none, and nothing is written then.
 #![tactic(auto)]
 
 mod tail;
 
-ghost use Rattle.std.specs.Prelude.{◌≡◌, ◌+◌, ◌≤◌, ◌<◌, max, length, take, get_or};
+ghost use Rattle.std.specs.Prelude.{◌≡◌, ◌+◌, ◌≤◌, ◌<◌, max, length, take, get_or, MatchOption};
 ghost use Rattle.keys.specs.Order.{◌≺◌, ◌≼◌};
-ghost use Rattle.automaton.specs.Table.{WellFormed, states, next};
+ghost use Rattle.automaton.specs.Table.{states, next};
 ghost use Rattle.automaton.specs.Words.{run};
 ghost use Rattle.automaton.specs.Live.{LiveByte};
-ghost use Rattle.example_distance.specs.Distance.{Distances};
+ghost use Rattle.example_distance.specs.Measured.{IsMeasured};
 ghost use Rattle.example_walk.specs.Walk.{FromByte, UnderByte, Walked};
 
 use crate::tail::write_tail;
-use automaton::table::accept;
+use example_distance::Measured;
 use pruning::block_match_automaton::accept_prefix;
 
-// The first byte from lo on and below hi that leads to a state that can match; hi or more where there is none.
-fn first_byte(table: &[u8], distances: &[u8; 64], state: usize, lo: usize, hi: usize) -> usize
-    requires { WellFormed table.now × Distances table.now distances.now × (state < states table.now) × (hi ≤ 256) }
-    ensures lower_bound { result < hi → (lo ≤ result) × (get_or distances.now (next table.now state result) 0 < 64) }
-    ensures fact { hi ≤ result → LiveByte table.now state lo hi → ⊥ }
+// The first byte from lo on and below hi that leads to a state that can match.
+fn first_byte(measured: &Measured, state: usize, lo: usize, hi: usize) -> Option<usize>
+    requires { IsMeasured measured.now × (state < states measured.now.table.bytes.now) × (hi ≤ 256) }
+    ensures { MatchOption result (LiveByte measured.now.table.bytes.now state lo hi → ⊥)
+        (λ byte. (lo ≤ byte) × (byte < hi)
+        × (get_or measured.now.distances (next measured.now.table.bytes.now state byte) 0 < 64)) }
 {
-    let mut byte = lo;
-    while byte < hi {
-        let to = accept(table, state, byte as u8);
-        if distances[to] < 64 {
-            return byte;
+    for byte in lo..hi {
+        let to = measured.table.accept(state, byte as u8);
+        if measured.distances[to] < 64 {
+            return Some(byte);
         }
-        byte += 1;
     }
-    byte
+    None
 }
 
 // Writes the key's first `len` bytes, which lead to the state, and behind them a string that begins with a byte from lo on and below hi.
 fn write_leaving(
-    table: &[u8],
-    distances: &[u8; 64],
+    measured: &Measured,
     key: &[u8],
     len: usize,
     state: usize,
     lo: usize,
     hi: usize,
     out: &mut [u8],
-) -> usize
-    requires well_formed { WellFormed table.now × Distances table.now distances.now × (state < states table.now)
-        × (state ≡ run table.now 0 (take len key.now)) }
+) -> Option<usize>
+    requires measured { IsMeasured measured.now × (state < states measured.now.table.bytes.now)
+        × (state ≡ run measured.now.table.bytes.now 0 (take len key.now)) }
     requires len_in_bounds { (len ≤ length key.now) × (length key.now + 64 ≤ length out.old) × (hi ≤ 256) }
-    ensures { Walked table.now (FromByte key.now len lo) (UnderByte key.now len hi)
+    ensures { Walked measured.now.table.bytes.now (FromByte key.now len lo) (UnderByte key.now len hi)
         (length key.now + 64) out.old out.new result }
 {
-    let byte = first_byte(table, distances, state, lo, hi);
-    if byte >= hi {
-        return 0;
-    }
+    let byte = first_byte(measured, state, lo, hi)?;
     byte_copy::copy(&key[..len], out);
     out[len] = byte as u8;
-    write_tail(
-        table,
-        distances,
-        accept(table, state, byte as u8),
-        out,
-        len + 1,
-    )
+    let to = measured.table.accept(state, byte as u8);
+    Some(write_tail(measured, to, out, len + 1))
 }
 
 // Writes a string above the key that begins with its first n bytes, which lead to the state.
 fn write_range_start(
-    table: &[u8],
-    distances: &[u8; 64],
+    measured: &Measured,
     key: &[u8],
     n: usize,
     state: usize,
     out: &mut [u8],
-) -> usize
-    requires well_formed { WellFormed table.now × Distances table.now distances.now × (state < states table.now)
-        × (state ≡ run table.now 0 (take n key.now)) }
+) -> Option<usize>
+    requires measured { IsMeasured measured.now × (state < states measured.now.table.bytes.now)
+        × (state ≡ run measured.now.table.bytes.now 0 (take n key.now)) }
     requires n_in_bounds { (n ≤ length key.now) × (length key.now + 64 ≤ length out.old) }
-    ensures { Walked table.now (λ w. key.now ≺ w) (UnderByte key.now n 256)
+    ensures { Walked measured.now.table.bytes.now (λ w. key.now ≺ w) (UnderByte key.now n 256)
         (length key.now + 64) out.old out.new result }
 {
     let mut at = state;
-    let mut i = n;
-    while i < key.len() {
+    for i in n..key.len() {
         let kb = key[i];
-        let len = write_leaving(table, distances, key, i, at, kb as usize + 1, 256, out);
-        if len != 0 {
-            return len;
+        if let Some(len) = write_leaving(measured, key, i, at, kb as usize + 1, 256, out) {
+            return Some(len);
         }
-        at = accept(table, at, kb);
-        i += 1;
+        at = measured.table.accept(at, kb);
     }
-    write_leaving(table, distances, key, i, at, 0, 256, out)
+    write_leaving(measured, key, key.len(), at, 0, 256, out)
 }
 
 // Writes a string not above the key and not below the key's first n bytes, which lead to the state, with lo behind them.
 pub fn write_range_end(
-    table: &[u8],
-    distances: &[u8; 64],
+    measured: &Measured,
     key: &[u8],
     n: usize,
     state: usize,
     lo: usize,
     out: &mut [u8],
-) -> usize
-    requires well_formed { WellFormed table.now × Distances table.now distances.now × (state < states table.now)
-        × (state ≡ run table.now 0 (take n key.now)) }
+) -> Option<usize>
+    requires measured { IsMeasured measured.now × (state < states measured.now.table.bytes.now)
+        × (state ≡ run measured.now.table.bytes.now 0 (take n key.now)) }
     requires n_in_bounds { (n ≤ length key.now) × (lo ≤ get_or key.now n 0) × (length key.now + 64 ≤ length out.old) }
-    ensures { Walked table.now (FromByte key.now n lo) (λ w. w ≼ key.now)
+    ensures { Walked measured.now.table.bytes.now (FromByte key.now n lo) (λ w. w ≼ key.now)
         (length key.now + 64) out.old out.new result }
 {
     let mut at = state;
     let mut low = lo;
-    let mut i = n;
-    while i < key.len() {
+    for i in n..key.len() {
         let kb = key[i];
-        let len = write_leaving(table, distances, key, i, at, low, kb as usize, out);
-        if len != 0 {
-            return len;
+        if let Some(len) = write_leaving(measured, key, i, at, low, kb as usize, out) {
+            return Some(len);
         }
-        at = accept(table, at, kb);
-        i += 1;
-        if distances[at] == 0 {
-            return byte_copy::copy(&key[..i], out);
+        at = measured.table.accept(at, kb);
+        if measured.distances[at] == 0 {
+            return Some(byte_copy::copy(&key[..i + 1], out));
         }
         low = 0;
     }
-    0
+    None
 }
 
 // Writes a string above the start key and not above the end key.
 pub fn write_between(
-    table: &[u8],
-    distances: &[u8; 64],
+    measured: &Measured,
     start_key: &[u8],
     end_key: &[u8],
     out: &mut [u8],
-) -> usize
-    requires { WellFormed table.now × Distances table.now distances.now
-        × (max (length start_key.now) (length end_key.now) + 64 ≤ length out.old) }
-    ensures { Walked table.now (λ w. start_key.now ≺ w) (λ w. w ≼ end_key.now)
+) -> Option<usize>
+    requires { IsMeasured measured.now × (max (length start_key.now) (length end_key.now) + 64 ≤ length out.old) }
+    ensures { Walked measured.now.table.bytes.now (λ w. start_key.now ≺ w) (λ w. w ≼ end_key.now)
         (max (length start_key.now) (length end_key.now) + 64) out.old out.new result }
 {
     let n = keys::common_prefix_len(start_key, end_key);
     if n == end_key.len() {
-        return 0;
+        return None;
     }
-    let base = accept_prefix(table, end_key, n);
+    let base = accept_prefix(measured.table, &end_key[..n]);
     if n == start_key.len() {
-        return write_range_end(table, distances, end_key, n, base, 0, out);
+        return write_range_end(measured, end_key, n, base, 0, out);
     }
     let start_range = start_key[n];
     if end_key[n] < start_range {
-        return 0;
+        return None;
     }
-    let state = accept(table, base, start_range);
-    let len = write_range_start(table, distances, start_key, n + 1, state, out);
-    if len != 0 {
-        return len;
+    let state = measured.table.accept(base, start_range);
+    if let Some(len) = write_range_start(measured, start_key, n + 1, state, out) {
+        return Some(len);
     }
-    write_range_end(
-        table,
-        distances,
-        end_key,
-        n,
-        base,
-        start_range as usize + 1,
-        out,
-    )
+    write_range_end(measured, end_key, n, base, start_range as usize + 1, out)
 }

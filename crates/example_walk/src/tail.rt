@@ -1,50 +1,43 @@
 // The rest of an example: a shortest string from a state to acceptance.
 ghost use Rattle.std.specs.Prelude.{◌≡◌, ◌+◌, ◌≤◌, ◌<◌, length, get_or};
 ghost use Rattle.std.proofs.lemmas.List.Edits.{sets};
-ghost use Rattle.automaton.specs.Table.{WellFormed, states, next};
+ghost use Rattle.automaton.specs.Table.{states, next};
 ghost use Rattle.automaton.specs.Words.{Accepts};
-ghost use Rattle.example_distance.specs.Distance.{Distances};
+ghost use Rattle.example_distance.specs.Measured.{IsMeasured};
 
-use automaton::table::accept;
+use example_distance::Measured;
 
 // The first byte that leads to a state one nearer.
-fn nearer(table: &[u8], distances: &[u8; 64], state: usize) -> u8
-    requires { WellFormed table.now × Distances table.now distances.now × (state < states table.now)
-        × (0 < get_or distances.now state 0) × (get_or distances.now state 0 < 64) }
-    ensures { get_or distances.now (next table.now state result) 0 + 1 ≡ get_or distances.now state 0 }
+fn nearer(measured: &Measured, state: usize) -> u8
+    requires { IsMeasured measured.now × (state < states measured.now.table.bytes.now)
+        × (0 < get_or measured.now.distances state 0) × (get_or measured.now.distances state 0 < 64) }
+    ensures { get_or measured.now.distances (next measured.now.table.bytes.now state result) 0 + 1
+        ≡ get_or measured.now.distances state 0 }
 {
-    let mut byte: u8 = 0;
-    while byte < 255 {
-        let to = accept(table, state, byte);
+    let distances = &measured.distances;
+    for byte in 0..255u8 {
+        let to = measured.table.accept(state, byte);
         if distances[to] < distances[state] {
             return byte;
         }
-        byte += 1;
     }
     255
 }
 
 // Writes a shortest string that leads from a state to acceptance, from `at` on. Returns where it ends.
-pub fn write_tail(
-    table: &[u8],
-    distances: &[u8; 64],
-    state: usize,
-    out: &mut [u8],
-    at: usize,
-) -> usize
-    requires { WellFormed table.now × Distances table.now distances.now × (state < states table.now)
-        × (get_or distances.now state 0 < 64) × (at + get_or distances.now state 0 ≤ length out.old) }
-    ensures value { result ≡ at + get_or distances.now state 0 }
-    ensures accepts { Accepts table.now state
-        (λ w. (length w ≡ get_or distances.now state 0) × (out.new ≡ sets out.old at w)) }
+pub fn write_tail(measured: &Measured, state: usize, out: &mut [u8], at: usize) -> usize
+    requires { IsMeasured measured.now × (state < states measured.now.table.bytes.now)
+        × (get_or measured.now.distances state 0 < 64) × (at + get_or measured.now.distances state 0 ≤ length out.old) }
+    ensures value { result ≡ at + get_or measured.now.distances state 0 }
+    ensures accepts { Accepts measured.now.table.bytes.now state
+        (λ w. (length w ≡ get_or measured.now.distances state 0) × (out.new ≡ sets out.old at w)) }
 {
+    let end = at + measured.distances[state] as usize;
     let mut s = state;
-    let mut i = at;
-    while distances[s] != 0 {
-        let byte = nearer(table, distances, s);
+    for i in at..end {
+        let byte = nearer(measured, s);
         out[i] = byte;
-        i += 1;
-        s = accept(table, s, byte);
+        s = measured.table.accept(s, byte);
     }
-    i
+    end
 }

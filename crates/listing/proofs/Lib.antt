@@ -3,3 +3,4 @@ pub mod ListedOnce
 pub mod Outside
 pub mod Rows
 pub mod Turns
+pub mod Cased

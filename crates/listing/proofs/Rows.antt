@@ -10,7 +10,8 @@ use Rattle.group.specs.Rows.{or_row}
 use Rattle.group.proofs.RowOrder.{or_row-first}
 use Rattle.automaton.specs.Table.{table_no}
 use Rattle.index.specs.declared.SSTableIndexV3.{SSTableIndexV3}
-use Rattle.index.specs.Lookups.{opened_bad, directory_at}
+use Rattle.index.specs.Lookups.{opened_bad, OpenedFits, directory_at}
+use Rattle.index.proofs.Fits.{fits-passes}
 use Rattle.listing.specs.Listing.{keys_outside, listing_no}
 
 module _ (opened : SSTableIndexV3) (f t : List ℕ) (room : ℕ) where
@@ -36,3 +37,11 @@ module _ (opened : SSTableIndexV3) (f t : List ℕ) (room : ℕ) where
 
       pub none-refused : table_no t ≡ 0 → opened.n ≤ room → listing_no opened f t room ≡ 0
       none-refused e h = rw (past-20, e, le-ltb room opened.n h)
+
+-- ---- the record and the directory, as the code has them
+module _ {L : ℕ} {o : SSTableIndexV3} {d : List ℕ} (opened : SSTableIndexV3) (f : List ℕ) (is : (o ≡ opened) × (d ≡ f) × (L ≡ 128)) where
+  pub passed-record : OpenedFits L o (length d) → opened_bad opened (length f) ≡ false
+  passed-record h = fits-passes 128 opened (length f) (rw (is.0, is.1, is.2) at h)
+
+  pub same-directory : {n : ℕ} {b : List ℕ} → (n ≡ o.n) × (b ≡ directory_at o d) → (b ≡ directory_at opened f) × (n ≡ opened.n)
+  same-directory e = (rw (is.0, is.1) at e.1, rw is.0 at e.0)

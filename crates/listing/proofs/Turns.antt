@@ -81,26 +81,7 @@ module _ (t : List ℕ) (separator : ℕ → List ℕ) where
     listing-turn true x after m p q = rw (p, q) (listing-one m)
     listing-turn false x after m p q = rw (p, q, add-zero count) (listing-zero m)
 
--- ---- marks of which the first was written before
-sets_over : (d ms : List ℕ) (x : ℕ) → 1 ≤ length ms → sets (set d 0 x) 0 ms ≡ sets d 0 ms
-sets_over d [] x h = absurd (omega arith)
-sets_over d (y ∷ ms) x h = ap (λ (l : List ℕ). sets l 1 ms) (set-set d 0 x y)
-
-module _ (marks first : List ℕ) (x : ℕ) (e : first ≡ set marks 0 x) where
-  same-sets : {n : ℕ} (ms : List ℕ) → 1 ≤ n → length ms ≡ n → sets first 0 ms ≡ sets marks 0 ms
-  same-sets ms h l = rw e (sets_over marks ms x (omega arith))
-
-  module _ {t : List ℕ} {separator : ℕ → List ℕ} {n : ℕ} {written : List ℕ} {count : ℕ} (some : 1 ≤ n) where
-    pub listing-over : Listing t separator n first written count → Listing t separator n marks written count
-    listing-over l = record { list = l.list; right = l.right; counted = l.counted; bytes = l.bytes ∙ same-sets l.list some l.right.long }
-
-    pub listing-under : Listing t separator n marks written count → Listing t separator n first written count
-    listing-under l = record { list = l.list; right = l.right; counted = l.counted; bytes = l.bytes ∙ sym (same-sets l.list some l.right.long) }
-
 -- ---- what the loop asks of it
 module _ {t : List ℕ} {separator : ℕ → List ℕ} {n : ℕ} {marks written : List ℕ} {count : ℕ} (l : Listing t separator n marks written count) where
-  pub listing-length : length written ≡ length marks
-  listing-length = rw l.bytes (length-sets marks 0 l.list)
-
   pub listing-count : count ≤ n
   listing-count = omega (arith, l.counted, count_ones-le l.list, l.right.long)

@@ -1,14 +1,14 @@
--- The listing call (document 01, rows 20 to 24), for all inputs.
-use Rattle.std.specs.Prelude.{ℕ, zero, suc, ◌<◌, ◌≡◌, List, Bool, false, ◌||◌, cond, ltb, length}
+-- The listing call (rows 20 to 24), for all inputs.
+use Rattle.std.specs.Prelude.{ℕ, zero, suc, ◌<◌, ◌≡◌, List, Bool, false, ◌||◌, cond, ltb, length, Result, Ok, Err}
 use Rattle.std.proofs.lemmas.List.Edits.{sets}
+use Rattle.layout.specs.declared.refusals.Refusal.{Refusal}
+use Rattle.layout.specs.Refusals.{number_of, no_of}
 use Rattle.group.specs.Rows.{or_row}
 use Rattle.automaton.specs.Table.{table_no}
 use Rattle.directory.specs.Read.{key_of, key_outside}
 use Rattle.index.specs.declared.SSTableIndexV3.{SSTableIndexV3}
 use Rattle.index.specs.Lookups.{opened_bad, directory_at}
 use Rattle.listing.specs.Marks.{Marks, count_ones}
-use Rattle.listing.specs.declared.Listed.{Listed}
-use Rattle.listing.specs.declared.Listed.TheVariants.{Count, Refused}
 
 -- one of the first m keys or its pair lies outside the bytes
 unfoldable pub keys_outside : List ℕ → ℕ → ℕ → Bool
@@ -42,15 +42,14 @@ pub record GetBlockForAutomaton (f : List ℕ) (opened : SSTableIndexV3) (t mark
   pub number : k ≡ listing_no opened f t (length marks)
   pub leaves : ListingLeaves t (separator_at opened f) opened.n marks written k count
 
--- document 01's number and count for each answer; a refusal has all else zero, and a number above 0
-abbrev pub listed_no : Listed → ℕ
-listed_no (Count count) = 0
-listed_no (Refused k) = k
+-- the number and the count of each answer; a refusal has all else zero, and a number above 0
+abbrev pub listed_no : Result ℕ Refusal → ℕ
+listed_no = no_of
 
-abbrev pub listed_count : Listed → ℕ
-listed_count (Count count) = count
-listed_count (Refused k) = 0
+abbrev pub listed_count : Result ℕ Refusal → ℕ
+listed_count (Ok count) = count
+listed_count (Err refusal) = 0
 
-abbrev pub ListedCased : Listed → Type 0
-ListedCased (Count count) = Unit {0}
-ListedCased (Refused k) = 0 < k
+abbrev pub ListedCased : Result ℕ Refusal → Type 0
+ListedCased (Ok count) = Unit {0}
+ListedCased (Err refusal) = 0 < number_of refusal

@@ -9,7 +9,7 @@ use lib.Dec.{eqb}
 use lib.ListN.{length, take, get_or, set, length-set, replicate}
 use lib.Seq.{get_or-set_same, get_or-set_other, take-take, sets}
 use Rattle.keys.specs.Order.{common_prefix_len}
-use Rattle.keys.proofs.Order.{by-test, common_prefix_len-take}
+use Rattle.keys.proofs.Order.{by-test, common_prefix_len-take, common_prefix_len-right}
 use Rattle.automaton.specs.Bits.{bit}
 use Rattle.automaton.specs.Table.{WellFormed, states, next}
 use Rattle.automaton.specs.Words.{Bytes, run, Reach}
@@ -17,7 +17,8 @@ use Rattle.automaton.proofs.Exact.{same_or}
 use Rattle.automaton.proofs.Strings.{run_more, run-states, bytes_take, word-any}
 use Rattle.pruning.specs.Interval.{MatchBetween}
 use Rattle.pruning.proofs.Intervals.{shared-run}
-use Rattle.listing_follow.specs.Followed.{Followed}
+use Rattle.listing_follow.specs.declared.Trail.{Trail}
+use Rattle.listing_follow.specs.Followed.{Followed, IsTrail}
 
 module _ (t : List ℕ) where
   pub followed-none : (key kept : List ℕ) → length kept ≡ 1025 → get_or kept 0 0 ≡ 0 → Followed t key kept 0
@@ -77,3 +78,17 @@ followed-dead t a b kept reach known w r bytes f z h m =
     let s = followed-state t a kept known known f w bytes (le_refl known) in
     let one = r.down (get_or kept known 0) s (word-any _ ((shared-run t 0 a b known (same-front a b known h) bytes (f.each known (le_refl known))).0 m)) in
     omega (arith, z, one)
+
+-- ---- the states along a key, as the code keeps them
+module _ {t key : List ℕ} {trail : Trail} (z : IsTrail t key trail) where
+  -- its last state
+  pub trail-state : WellFormed t → Bytes key → get_or trail.states trail.known 0 < 64
+  trail-state w bytes = omega (arith, followed-state t key trail.states trail.known trail.known z.followed w bytes (le_refl trail.known), w.few)
+
+-- where the last state can't match, no key between them matches, and a trail along the one is one along the other
+module _ (t a b : List ℕ) {trail : Trail} (z : IsTrail t a trail) (h : trail.known ≤ common_prefix_len a b) where
+  pub trail-next : IsTrail t b trail
+  trail-next = record { followed = followed-next t a b trail.states trail.known z.followed h; few = z.few; within = omega (arith, common_prefix_len-right a b) }
+
+  pub trail-dead : (reach : ℕ) → WellFormed t → Reach t reach → Bytes a → bit reach (get_or trail.states trail.known 0) ≡ 0 → MatchBetween t 0 a b → ⊥
+  trail-dead reach w r bytes e = followed-dead t a b trail.states reach trail.known w r bytes z.followed e h

@@ -1,31 +1,35 @@
 // The state behind each byte of a key: followed from where the key before it is left, and past loops eight bytes at a time.
 #![tactic(auto)]
 
-ghost use Rattle.std.specs.Prelude.{◌≡◌, true, ℕ, ◌+◌, ◌≤◌, ◌<◌, length, take, get_or, replicate};
+ghost use Rattle.std.specs.Prelude.{◌≡◌, List, ℕ, ◌+◌, ◌≤◌, ◌<◌, length, take, get_or, replicate};
 ghost use Rattle.std.proofs.lemmas.List.Edits.{sets};
 ghost use Rattle.layout.specs.Layout.{max_key_len};
-ghost use Rattle.automaton.specs.Bits.{Exactly};
-ghost use Rattle.automaton.specs.Table.{WellFormed, states as state_count, next};
+ghost use Rattle.automaton.specs.Bits.{bit, Exactly};
+ghost use Rattle.automaton.specs.Table.{states as state_count, next};
 ghost use Rattle.automaton.specs.Words.{run};
-ghost use Rattle.listing_follow.specs.Followed.{Followed};
+ghost use Rattle.listing_follow.specs.Followed.{Followed, IsTrail};
 
-use automaton::table::accept;
-use automaton_reach::can_match;
+use automaton::table::Table;
+use automaton_live::Prepared;
 use layout::MAX_KEY_LEN;
 use pruning::block_match_automaton::accept_prefix;
 
+// The states behind the first bytes of a key: behind none of them, and so on up to `known`.
+#[derive(Drop)]
+pub struct Trail {
+    pub states: [u8; 1025],
+    pub known: usize,
+}
+
 // Whether each of the eight bytes from `at` on leads from the state to itself. It looks at all of them, so that no look
 // waits for another.
-fn stays(table: &[u8], key: &[u8], at: usize, state: usize) -> bool
-    requires { WellFormed table.now × (state < state_count table.now) × (at + 8 ≤ length key.now) }
-    ensures { Exactly result ((j : ℕ) → j < 8 → next table.now state (get_or key.now (at + j) 0) ≡ state) }
+fn stays(table: Table, key: &[u8], at: usize, state: usize) -> bool
+    requires { (state < state_count table.bytes.now) × (at + 8 ≤ length key.now) }
+    ensures { Exactly result ((j : ℕ) → j < 8 → next table.entry.bytes.now state (get_or key.now (at + j) 0) ≡ state) }
 {
-    let row = 1 + table[0] as usize + state * 256;
     let mut all = true;
-    let mut j: usize = 0;
-    while j < 8 {
-        all = all & (table[row + key[at + j] as usize] as usize == state);
-        j += 1;
+    for j in 0..8 {
+        all = all & (table.accept(state, key[at + j]) == state);
     }
     all
 }
@@ -35,66 +39,63 @@ fn fill_eight(states: &mut [u8; 1025], at: usize, state: u8)
     requires { at + 8 ≤ max_key_len }
     ensures { states.new ≡ sets states.old (at + 1) (replicate 8 state) }
 {
-    let mut i: usize = 0;
-    while i < 8 {
+    for i in 0..8 {
         states[at + 1 + i] = state;
-        i += 1;
     }
 }
 
 // As long as the next eight bytes lead back to the state, they are followed at once. Returns how many bytes are followed.
 // It is tried behind every eighth byte alone, so that a state that is soon left costs little.
 fn follow_loops(
-    table: &[u8],
+    table: Table,
     key: &[u8],
     states: &mut [u8; 1025],
     from: usize,
     end: usize,
     state: usize,
 ) -> usize
-    requires { WellFormed table.now × Followed table.now key.now states.old from
-        × ((state ≡ run table.now 0 (take from key.now)) × (state < state_count table.now))
+    requires { Followed table.bytes.now key.now states.old from
+        × ((state ≡ run table.bytes.now 0 (take from key.now)) × (state < state_count table.bytes.now))
         × (from ≤ end) × ((end ≤ max_key_len) × (end ≤ length key.now)) }
     ensures { ((from ≤ result) × (result ≤ end))
-        × Followed table.now key.now states.new result
-        × (state ≡ run table.now 0 (take result key.now)) }
+        × Followed table.entry.bytes.now key.now states.new result
+        × (state ≡ run table.entry.bytes.now 0 (take result key.now)) }
 {
     if from % 8 != 0 {
         return from;
     }
-    let mut i = from;
-    while i + 8 <= end {
-        if !stays(table, key, i, state) {
-            return i;
+    let eights = (end - from) / 8;
+    for k in 0..eights {
+        let at = from + 8 * k;
+        if !stays(table, key, at, state) {
+            return at;
         }
-        fill_eight(states, i, state as u8);
-        i += 8;
+        fill_eight(states, at, state as u8);
     }
-    i
+    from + 8 * eights
 }
 
 // The states behind the first bytes of a key, up to n bytes or 1,024, and no further than to a dead one: those behind at
-// most `known` bytes are there. Returns how many bytes are followed.
+// most `known` bytes are there. Returns how many bytes are followed. Loops are passed at once, so that no `for` counts them.
 pub fn follow(
-    table: &[u8],
-    reach: u64,
+    prepared: &Prepared,
     key: &[u8],
     states: &mut [u8; 1025],
     known: usize,
     n: usize,
 ) -> usize
-    requires { WellFormed table.now × Followed table.now key.now states.old known × (known ≤ max_key_len)
-        × (n ≤ length key.now) }
-    ensures { (result ≤ n) × (result ≤ max_key_len) × Followed table.now key.now states.new result }
+    requires { Followed prepared.now.table.bytes.now key.now states.old known × (known ≤ max_key_len) × (n ≤ length key.now) }
+    ensures { (result ≤ n) × (result ≤ max_key_len) × Followed prepared.now.table.bytes.now key.now states.new result }
 {
-    let end = if n < MAX_KEY_LEN { n } else { MAX_KEY_LEN };
-    let mut i = if known < end { known } else { end };
+    let table = prepared.table;
+    let end = n.min(MAX_KEY_LEN);
+    let mut i = known.min(end);
     let mut state = states[i] as usize;
     while i < end {
-        if !can_match(reach, state) {
+        if !prepared.can_match(state) {
             return i;
         }
-        let behind = accept(table, state, key[i]);
+        let behind = table.accept(state, key[i]);
         i += 1;
         states[i] = behind as u8;
         if behind == state {
@@ -105,14 +106,41 @@ pub fn follow(
     end
 }
 
-// The state behind the first n bytes of a key, where `known` are followed: all of them, but in a key that no file has.
-pub fn state_behind(table: &[u8], key: &[u8], states: &[u8; 1025], known: usize, n: usize) -> usize
-    requires { WellFormed table.now × Followed table.now key.now states.now known × (known ≤ max_key_len)
-        × (n ≤ length key.now) }
-    ensures { (result ≡ run table.now 0 (take n key.now)) × (result < state_count table.now) }
-{
-    if n == known {
-        return states[n] as usize;
+impl Trail {
+    // The start state, which is behind no byte of any key.
+    pub fn new() -> Trail
+        ensures { (t key : List ℕ) → IsTrail t key result }
+    {
+        Trail {
+            states: [0; 1025],
+            known: 0,
+        }
     }
-    accept_prefix(table, key, n)
+
+    // Follows the first n bytes of the key, or 1,024, and no further than to a dead state.
+    pub fn follow(&mut self, prepared: &Prepared, key: &[u8], n: usize)
+        requires { IsTrail prepared.now.table.bytes.now key.now self.old × (n ≤ length key.now) }
+        ensures { IsTrail prepared.now.table.bytes.now key.now self.new × (self.new.known ≤ n) }
+    {
+        self.known = follow(prepared, key, &mut self.states, self.known, n);
+    }
+
+    // Whether the last state can't match.
+    pub fn is_dead(&self, prepared: &Prepared) -> bool
+        requires { (self.now.known ≤ max_key_len) × (get_or self.now.states self.now.known 0 < 64) }
+        ensures { Exactly result (bit prepared.now.reach (get_or self.now.states self.now.known 0) ≡ 0) }
+    {
+        !prepared.can_match(self.states[self.known] as usize)
+    }
+
+    // The state behind the first n bytes of the key. All of them are followed, but in a key that no file has.
+    pub fn state_behind(&self, table: Table, key: &[u8], n: usize) -> usize
+        requires { IsTrail table.bytes.now key.now self.now × (n ≤ length key.now) }
+        ensures { (result ≡ run table.entry.bytes.now 0 (take n key.now)) × (result < state_count table.entry.bytes.now) }
+    {
+        if n == self.known {
+            return self.states[n] as usize;
+        }
+        accept_prefix(table, &key[..n])
+    }
 }

@@ -1,3 +1,3 @@
 pub mod Intervals
 pub mod Looks
-pub mod Kept
+pub mod Cased

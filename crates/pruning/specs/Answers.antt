@@ -1,25 +1,24 @@
--- `can_block_match_automaton`: document 01's number and value for each answer, and what a call promises.
-use Rattle.std.specs.Prelude.{ℕ, ◌<◌, ◌≡◌, List, Bool, false}
+-- `can_block_match_automaton`: the number and the value of each answer, and what a call promises.
+use Rattle.std.specs.Prelude.{ℕ, ◌<◌, ◌≡◌, List, Bool, false, Result, Ok, Err}
 use Rattle.std.proofs.Math.Option.{Option}
+use Rattle.layout.specs.declared.refusals.Refusal.{Refusal}
+use Rattle.layout.specs.Refusals.{number_of, no_of}
 use Rattle.automaton.specs.Bits.{Exactly}
 use Rattle.automaton.specs.Table.{table_no}
 use Rattle.pruning.specs.Interval.{Marked}
-use Rattle.pruning.specs.declared.Matched.{Matched}
-use Rattle.pruning.specs.declared.Matched.TheVariants.{Matches, Refused}
 
-abbrev pub matched_no : Matched → ℕ
-matched_no (Matches b) = 0
-matched_no (Refused k) = k
+abbrev pub matched_no : Result Bool Refusal → ℕ
+matched_no = no_of
 
 -- a refusal has all else zero
-abbrev pub matches : Matched → Bool
-matches (Matches b) = b
-matches (Refused k) = false
+abbrev pub matches : Result Bool Refusal → Bool
+matches (Ok b) = b
+matches (Err refusal) = false
 
 -- a refusal has a number above 0
-abbrev pub MatchedCased : Matched → Type 0
-MatchedCased (Matches b) = Unit {0}
-MatchedCased (Refused k) = 0 < k
+abbrev pub MatchedCased : Result Bool Refusal → Type 0
+MatchedCased (Ok b) = Unit {0}
+MatchedCased (Err refusal) = 0 < number_of refusal
 
 -- a call with the number k and this answer for the interval (start, end]
 pub record CanBlockMatch (t : List ℕ) (start : Option (List ℕ)) (end : List ℕ) (k : ℕ) (answer : Bool) : Type 0 where

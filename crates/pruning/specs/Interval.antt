@@ -1,5 +1,6 @@
 -- The interval of a block's keys (SPECIFICATION 11.4): above its start, if it has one, and not above its end.
-use Rattle.std.specs.Prelude.{ℕ, List, Bool, true, false}
+use Rattle.std.specs.Prelude.{ℕ, List, Bool, true, false, Option as MayBe, Some, None}
+use Rattle.std.specs.Borrow.{Bor}
 use Rattle.std.proofs.Math.Option.{Option, none, some}
 use Rattle.keys.specs.Order.{◌≺◌, ◌≼◌}
 use Rattle.automaton.specs.Words.{Accepts}
@@ -8,6 +9,11 @@ use Rattle.automaton.specs.Words.{Accepts}
 abbrev pub start_of : Bool → List ℕ → Option (List ℕ)
 start_of true key = some key
 start_of false key = none
+
+-- the start that a lent key gives, if there is one
+abbrev pub start_now : MayBe (Bor (List ℕ)) → Option (List ℕ)
+start_now (Some key) = some key.now
+start_now None = none
 
 -- w is above the start, if there is one
 abbrev pub AboveStart : Option (List ℕ) → List ℕ → Type 0

@@ -1,3 +1,2 @@
 pub mod Interval
-pub mod Prepared
 pub mod Answers

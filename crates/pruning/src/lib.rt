@@ -2,10 +2,3 @@
 #![tactic(auto)]
 
 pub mod block_match_automaton;
-
-// Whether a block can match, or the row that the automaton's table breaks.
-#[derive(Clone, Copy)]
-pub enum Matched {
-    Matches(bool),
-    Refused(u32),
-}

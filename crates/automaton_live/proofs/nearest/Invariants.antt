@@ -1,0 +1,12 @@
+-- The loop keeps: no byte of the eights passed leads on, nor do those of the eight that were looked at last.
+use Rattle.automaton.specs.Table.{next}
+use Rattle.automaton.specs.Words.{CanMatch}
+use Rattle.automaton.proofs.Eights.{Blank}
+use Rattle.automaton_live.proofs.Places.{Past, InEight}
+use Rattle.automaton_live.proofs.nearest.Given as goal
+
+abbrev pub invariant-loop-k : goal.invariant-loop-k
+invariant-loop-k l = record {
+  past : Past (InEight (λ b. CanMatch l.table.bytes.now (next l.table.bytes.now l.state b))) l.back 32 l.k;
+  blank : Blank l.reach l.dead;
+}
