@@ -1,7 +1,7 @@
 -- Demand 3 (SPECIFICATION 18.3 to 18.10, 18.14, 18.15): one claim about any list of calls that begins with a fresh builder, then
 -- finish, opening and what is found there. The calls are those of the contracts; the plain machine sees their arguments and the
 -- areas' lengths.
-use Rattle.std.specs.Prelude.{ℕ, ◌+◌, ◌*◌, ◌≤◌, ◌<◌, ◌≡◌, cond, List, [], ltb, length, get_or, take}
+use Rattle.std.specs.Prelude.{ℕ, ◌+◌, ◌*◌, ◌≤◌, ◌<◌, ◌≡◌, cond, List, [], ltb, length, get_or, take, Option, Some, None}
 use Rattle.layout.specs.Layout.{max_blocks, pair_len}
 use Rattle.group.specs.declared.BlockAddr.{BlockAddr}
 use Rattle.group.specs.Rows.{or_row}
@@ -13,8 +13,6 @@ use Rattle.machine.specs.Finished.{plain_finish}
 use Rattle.machine.specs.Runs.{FreshState, rooms_of, run_numbers, finished_after}
 use Rattle.automaton.specs.Table.{table_no}
 use Rattle.index.specs.declared.SSTableIndexV3.{SSTableIndexV3}
-use Rattle.index.specs.declared.Place.{Place}
-use Rattle.index.specs.declared.Place.TheVariants.{Part, Missing}
 use Rattle.index.specs.Opening.{Opens, opened_of}
 use Rattle.index.specs.Answers.{part_at}
 use Rattle.index.specs.Lookups.{
@@ -41,9 +39,9 @@ abbrev pub entry_separator : List Entry → ℕ → List ℕ
 entry_separator es i = get_or (separators_of es) i []
 
 -- where separator i stands in the index: after n, the pairs and the separators before it; other ids have no place
-unfoldable pub entry_place : List Entry → ℕ → Place
+unfoldable pub entry_place : List Entry → ℕ → Option (ℕ × ℕ)
 entry_place es i =
-    cond (ltb i (length es)) (Part (4 + pair_len * length es + lengths_before (separators_of es) i) (length (entry_separator es i))) Missing
+    cond (ltb i (length es)) (Some (4 + pair_len * length es + lengths_before (separators_of es) i, length (entry_separator es i))) None
 
 -- what is found in the index f of the entries, opened
 pub record Finds (es : List Entry) (f : List ℕ) (opened : SSTableIndexV3) : Type 0 where

@@ -2,6 +2,12 @@
 use Prim.Native.Nat.{ℕ, zero, suc, ◌+◌, ◌-◌, ◌≤◌}
 use mathlib.Core.Path.{◌≡◌, refl, sym, ap, ap₂, ◌∙◌}
 use mathlib.Core.List.{List, [], ◌++◌}
+use Rattle.std.specs.Prelude.{Option, Some, None, Result, Ok, Err, MatchResult, MatchOption}
+use Rattle.layout.specs.declared.refusals.Refusal.{Refusal}
+use Rattle.layout.specs.Refusals.{number_of}
+use Rattle.layout.proofs.Numbers.{number_positive}
+use Rattle.store.specs.declared.Located.{Located}
+use Rattle.index.specs.Answers.{by_id_no, by_id_addr, id_no, id_of, located_no, located_id, located_addr}
 use native.Mathlib.Nat.{zero-add, le_refl}
 use native.Mathlib.Omega.{arith}
 use lib.Dec.{ltb}
@@ -15,9 +21,8 @@ use Rattle.builder.specs.Index.{Settings}
 use Rattle.machine.specs.Plain.{Entry}
 use Rattle.automaton.specs.Table.{table_no}
 use Rattle.index.specs.declared.SSTableIndexV3.{SSTableIndexV3}
-use Rattle.index.specs.declared.Place.{Place}
 use Rattle.index.specs.Lookups.{GetBlock, LocateWithOrd, LocateWithKey, GetBlockWithKey, place_def}
-use Rattle.listing.specs.Listing.{Listing, GetBlockForAutomaton}
+use Rattle.listing.specs.Listing.{Listing, GetBlockForAutomaton, listed_no, listed_count}
 use Rattle.demands.specs.Demand3.{entry_separator}
 use Rattle.replay.specs.Made.{cells}
 use Rattle.replay.specs.Replay.{IdAnswer, OrdAnswer, KeyAnswer, AddrAnswer, place_cells, SeparatorAnswer, MarkAnswer}
@@ -42,59 +47,119 @@ over_zeros l w h zeros i =
     (λ t. get_or-append w (drop (length w) l) 0 i (ltb-true i (length w) t))
     (λ t.
     let behind : length w ≤ i = ltb-false i (length w) t in
-    let place : i ≡ length w + (i - length w) = omega arith in
+    let rest : ℕ = i - length w in
+    let place : i ≡ length w + rest = omega arith in
     ap (λ (j : ℕ). get_or (w ++ drop (length w) l) j 0) place
-    ∙ get_or-append-add w (drop (length w) l) (i - length w) 0 ∙ get_or-drop (length w) l (i - length w) 0 ∙ zeros (length w + (i - length w))
+    ∙ get_or-append-add w (drop (length w) l) rest 0 ∙ get_or-drop (length w) l rest 0 ∙ zeros (length w + rest)
     ∙ sym (get_or-eq_default w 0 behind)))
 
 or-none : (k : ℕ) → or_row k 0 ≡ k
 or-none zero = refl
 or-none (suc k) = refl
 
-module _ (S : Settings) (es : List Entry) (f : List ℕ) (opened : SSTableIndexV3) (x : Indexed S es f opened) where
-  pub id-answer : (id k : ℕ) (addr : BlockAddr) (cs : List ℕ) → GetBlock f opened id k addr → cs ≡ cells k 0 addr.start addr.end addr.first_ordinal
-      → IdAnswer es id cs
-  id-answer id k addr cs g w = record { no = k; addr = addr; written = w; right = x.finds.by-id id k addr g }
+-- ---- an answer's five numbers, from what Cells::answered says
 
-  pub ord-answer : (ord k id : ℕ) (addr : BlockAddr) (cs : List ℕ) → LocateWithOrd f opened ord k id addr
-      → cs ≡ cells k id addr.start addr.end addr.first_ordinal → OrdAnswer es ord cs
-  ord-answer ord k id addr cs g w = record { no = k; id = id; addr = addr; written = w; right = x.finds.by-ordinal ord k id addr g }
+abbrev Refused : List ℕ → Refusal → Type 0
+Refused cs e = cs ≡ cells (number_of e) 0 0 0 0
 
-  pub key-answer : (key : List ℕ) (k id : ℕ) (cs : List ℕ) → LocateWithKey f opened key k id → cs ≡ cells k id 0 0 0 → KeyAnswer es key cs
-  key-answer key k id cs g w = record { no = k; id = id; written = w; right = x.finds.by_key key k id g }
+id_written : (r : Result BlockAddr Refusal) (cs : List ℕ) → MatchResult r (λ b. cs ≡ cells 0 0 b.start b.end b.first_ordinal) (Refused cs)
+    → cs ≡ cells (by_id_no r) 0 (by_id_addr r).start (by_id_addr r).end (by_id_addr r).first_ordinal
+id_written (Ok b) cs w = w
+id_written (Err e) cs w = w
 
-  pub addr-answer : (key : List ℕ) (k id : ℕ) (addr : BlockAddr) (cs : List ℕ) → GetBlockWithKey f opened key k id addr
-      → cs ≡ cells k id addr.start addr.end addr.first_ordinal → AddrAnswer es key cs
-  addr-answer key k id addr cs g w = record { no = k; id = id; addr = addr; written = w; right = x.finds.address-by-key key k id addr g }
+key_written : (r : Result ℕ Refusal) (cs : List ℕ) → MatchResult r (λ id. cs ≡ cells 0 id 0 0 0) (Refused cs)
+    → cs ≡ cells (id_no r) (id_of r) 0 0 0
+key_written (Ok id) cs w = w
+key_written (Err e) cs w = w
+
+abbrev Located_as : List ℕ → Located → Type 0
+Located_as cs l = cs ≡ cells 0 l.block_id l.addr.start l.addr.end l.addr.first_ordinal
+
+located_written : (r : Result Located Refusal) (cs : List ℕ) → MatchResult r (Located_as cs) (Refused cs)
+    → cs ≡ cells (located_no r) (located_id r) (located_addr r).start (located_addr r).end (located_addr r).first_ordinal
+located_written (Ok l) cs w = w
+located_written (Err e) cs w = w
+
+place_written : (p : Option (ℕ × ℕ)) (cs : List ℕ) → MatchOption p (cs ≡ cells 0 0 0 0 0) (λ at. cs ≡ cells 0 at.0 at.1 1 0)
+    → cs ≡ place_cells p
+place_written None cs w = w
+place_written (Some at) cs w = w
+
+module _ {S : Settings} {es : List Entry} {f : List ℕ} {opened : SSTableIndexV3} (x : Indexed S es f opened) where
+  pub id_answer : (id : ℕ) (r : Result BlockAddr Refusal) (cs : List ℕ) → GetBlock f opened id (by_id_no r) (by_id_addr r)
+      → MatchResult r (λ b. cs ≡ cells 0 0 b.start b.end b.first_ordinal) (Refused cs) → IdAnswer es id cs
+  id_answer id r cs g w = record {
+    no = by_id_no r;
+    addr = by_id_addr r;
+    written = id_written r cs w;
+    right = x.finds.by-id id _ _ g;
+  }
+
+  pub ord_answer : (ord : ℕ) (r : Result Located Refusal) (cs : List ℕ)
+      → LocateWithOrd f opened ord (located_no r) (located_id r) (located_addr r)
+      → MatchResult r (Located_as cs) (Refused cs) → OrdAnswer es ord cs
+  ord_answer ord r cs g w = record {
+    no = located_no r;
+    id = located_id r;
+    addr = located_addr r;
+    written = located_written r cs w;
+    right = x.finds.by-ordinal ord _ _ _ g;
+  }
+
+  pub key_answer : (key : List ℕ) (r : Result ℕ Refusal) (cs : List ℕ) → LocateWithKey f opened key (id_no r) (id_of r)
+      → MatchResult r (λ id. cs ≡ cells 0 id 0 0 0) (Refused cs) → KeyAnswer es key cs
+  key_answer key r cs g w = record { no = id_no r; id = id_of r; written = key_written r cs w; right = x.finds.by_key key _ _ g }
+
+  pub addr_answer : (key : List ℕ) (r : Result Located Refusal) (cs : List ℕ)
+      → GetBlockWithKey f opened key (located_no r) (located_id r) (located_addr r)
+      → MatchResult r (Located_as cs) (Refused cs) → AddrAnswer es key cs
+  addr_answer key r cs g w = record {
+    no = located_no r;
+    id = located_id r;
+    addr = located_addr r;
+    written = located_written r cs w;
+    right = x.finds.address-by-key key _ _ _ g;
+  }
 
   -- a separator's place
-  pub place-answer : (id : ℕ) (place : Place) → place ≡ place_def opened f id → SeparatorAnswer S es id (place_cells place)
-  place-answer id place e = record {
-    place = ap place_cells (e ∙ x.finds.separator-place id);
+  pub place_answer : (id : ℕ) (p : Option (ℕ × ℕ)) (cs : List ℕ) → p ≡ place_def opened f id
+      → MatchOption p (cs ≡ cells 0 0 0 0 0) (λ at. cs ≡ cells 0 at.0 at.1 1 0) → SeparatorAnswer S es id cs
+  place_answer id p cs e w = record {
+    place = place_written p cs w ∙ ap place_cells (e ∙ x.finds.separator-place id);
     bytes = λ h. rw (sym x.bytes, sym (x.finds.separator-place id)) (x.finds.separator id h);
   }
 
   -- a listing
-  module _ (i : ℕ) (t marks written : List ℕ) (k count : ℕ) (g : GetBlockForAutomaton f opened t marks written k count) (room : 65536 ≤ length marks) where
+  module _ (i : ℕ) (t marks written : List ℕ) (r : Result ℕ Refusal)
+      (g : GetBlockForAutomaton f opened t marks written (listed_no r) (listed_count r)) (room : 65536 ≤ length marks) where
     fits : length es ≤ length marks
     fits = omega (arith, x.few)
 
     -- refused for the table alone: there is room for all marks
-    number : k ≡ table_no t
-    number = (x.finds.listing t marks written k count g).0 ∙ rw (le-ltb (length marks) (length es) fits) (or-none (table_no t))
+    number : listed_no r ≡ table_no t
+    number =
+        (x.finds.listing t marks written (listed_no r) (listed_count r) g).0
+        ∙ rw (le-ltb (length marks) (length es) fits) (or-none (table_no t))
 
-    pub unlisted-answer : (k ≡ 0 → ⊥) → MarkAnswer es i t (cells k 0 0 0 0)
-    unlisted-answer f = record {
-      refused = λ h. ap (λ (j : ℕ). cells j 0 0 0 0) number;
-      marks = [];
-      listed = λ z. absurd (f (number ∙ z));
-    }
-
-    pub listed_answer : k ≡ 0 → ((j : ℕ) → get_or marks j 0 ≡ 0) → MarkAnswer es i t (cells 0 count (get_or written i 0) 0 0)
-    listed_answer z zeros =
-        let l : Listing t (entry_separator es) (length es) marks written count = (x.finds.listing t marks written k count g).1.taken z in
+    pub unlisted_answer : (e : Refusal) → r ≡ Err e → MarkAnswer es i t (cells (number_of e) 0 0 0 0)
+    unlisted_answer e is =
+        let same : number_of e ≡ table_no t = rw is at number in
         record {
-          refused = λ h. absurd (let y : ⊥ = omega (arith, number) in y);
+          refused = λ h. ap (λ (j : ℕ). cells j 0 0 0 0) same;
+          marks = [];
+          listed = λ z. absurd (let y : ⊥ = omega (arith, number_positive e) in y);
+        }
+
+    pub listed_answer : (count : ℕ) → r ≡ Ok count → ((j : ℕ) → get_or marks j 0 ≡ 0)
+        → MarkAnswer es i t (cells 0 count (get_or written i 0) 0 0)
+    listed_answer count is zeros =
+        let none : table_no t ≡ 0 = sym (rw is at number) in
+        let l : Listing t (entry_separator es) (length es) marks written count
+        = rw is at ((x.finds.listing t marks written (listed_no r) (listed_count r) g).1.taken (number ∙ none)) in
+        let mark : get_or written i 0 ≡ get_or l.list i 0
+        = ap (λ (w : List ℕ). get_or w i 0) l.bytes ∙ over_zeros marks l.list (omega (arith, l.right.long, fits)) zeros i in
+        record {
+          refused = λ h. absurd (let y : ⊥ = omega arith in y);
           marks = l.list;
-          listed = λ e. (l.right, ap₂ (λ (a b : ℕ). cells 0 a b 0 0) l.counted (ap (λ (w : List ℕ). get_or w i 0) l.bytes ∙ over_zeros marks l.list (omega (arith, l.right.long, fits)) zeros i));
+          listed = λ e. (l.right, ap₂ (λ (a b : ℕ). cells 0 a b 0 0) l.counted mark);
         }

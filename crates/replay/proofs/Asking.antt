@@ -8,19 +8,21 @@ use lib.ListN.{length}
 use lib.Seq.{sets, length-sets}
 use Rattle.builder.specs.Index.{Settings}
 use Rattle.machine.specs.Plain.{Entry}
-use Rattle.index.specs.declared.Loaded.{Loaded}
-use Rattle.index.specs.declared.Loaded.TheVariants.{Opened as Index, Refused}
-use Rattle.index.specs.Answers.{load_no}
+use Rattle.std.specs.Prelude.{Result, Ok, Err}
+use Rattle.layout.specs.declared.refusals.Refusal.{Refusal}
+use Rattle.layout.specs.Refusals.{no_of}
+use Rattle.index.specs.declared.SSTableIndexV3.{SSTableIndexV3}
 use Rattle.replay.specs.Format.{Question, question_len, question_at, items, behind}
 use Rattle.replay.specs.Made.{cells}
 use Rattle.replay.specs.Replay.{AnswerIn, no_more, one_more}
 use Rattle.replay.specs.Asked.{OpenedAs, QuestionsAnswered, OpeningAnswered}
-use Rattle.replay.proofs.Items.{behind-next, behind-there}
+use Rattle.replay.proofs.Items.{behind_next, behind_there}
 use Rattle.replay.proofs.Turns.{cells-turn}
 
 -- one answer, then the rest
-pub asks-more : (k : ℕ) (S : Settings) (es : List Entry) (q : Question) (qs : List Question) (i : ℕ) (w answers answers' final : List ℕ) → AnswerIn k S es q w → length w ≡ 5
-    → answers' ≡ sets answers (5 * i) w → QuestionsAnswered k S es qs (i + 1) answers' final → QuestionsAnswered k S es (q ∷ qs) i answers final
+pub asks-more : (k : ℕ) (S : Settings) (es : List Entry) (q : Question) (qs : List Question) (i : ℕ) (w answers answers' final : List ℕ)
+    → AnswerIn k S es q w → length w ≡ 5 → answers' ≡ sets answers (5 * i) w
+    → QuestionsAnswered k S es qs (i + 1) answers' final → QuestionsAnswered k S es (q ∷ qs) i answers final
 asks-more k S es q qs i w answers answers' final a five e rest = record {
   asked = w ++ rest.asked;
   answered = one_more a rest.answered;
@@ -28,7 +30,8 @@ asks-more k S es q qs i w answers answers' final a five e rest = record {
 }
 
 -- behind i of the questions: whoever answers those left has answered all
-pub record Asking (s f : List ℕ) (from count : ℕ) (loaded : Loaded) (first : ℕ) (answers : List ℕ) (at i : ℕ) (answers' : List ℕ) : Type 0 where
+pub record Asking (s f : List ℕ) (from count : ℕ) (loaded : Result SSTableIndexV3 Refusal) (first : ℕ) (answers : List ℕ)
+    (at i : ℕ) (answers' : List ℕ) : Type 0 where
   pub within : i ≤ count
   pub long : length answers' ≡ length answers
   pub place : behind (question_len s) at (count - i) ≡ behind (question_len s) from count
@@ -36,54 +39,60 @@ pub record Asking (s f : List ℕ) (from count : ℕ) (loaded : Loaded) (first :
       → QuestionsAnswered k S es (items (question_len s) (question_at s) at (count - i)) (first + i) answers' final
       → QuestionsAnswered k S es (items (question_len s) (question_at s) from count) first answers final
 
-module _ (s f : List ℕ) (from count : ℕ) (loaded : Loaded) (first : ℕ) (answers : List ℕ) where
-  pub asking-start : Asking s f from count loaded first answers from 0 answers
-  asking-start = record {
+module _ {s f : List ℕ} {from count : ℕ} {loaded : Result SSTableIndexV3 Refusal} {first : ℕ} {answers : List ℕ} where
+  pub asking_start : Asking s f from count loaded first answers from 0 answers
+  asking_start = record {
     within = omega arith;
     long = refl;
     place = rw (sub-zero count);
     rest = λ k S es g final a. rw (sub-zero count, add-zero first) at a;
   }
 
-  module _ (at i : ℕ) (answers' : List ℕ) (l : Asking s f from count loaded first answers at i answers') where
+  module _ {at i : ℕ} {answers' : List ℕ} (l : Asking s f from count loaded first answers at i answers') where
     -- a question is there
-    pub question-left : (behind (question_len s) from count ≡ 0 → ⊥) → i < count → 0 < question_len s at
-    question-left f h = behind-there (question_len s) at (count - i) (omega arith) (λ z. f (sym l.place ∙ z))
+    pub question_left : (behind (question_len s) from count ≡ 0 → ⊥) → i < count → 0 < question_len s at
+    question_left f h = behind_there (question_len s) at (count - i) (omega arith) (λ z. f (sym l.place ∙ z))
 
     -- and is answered
-    pub asking-turn : i < count → 0 < question_len s at → (w answers'' : List ℕ) (m : ℕ) → m ≡ question_len s at → length w ≡ 5
+    pub asking_turn : i < count → {w answers'' : List ℕ} {m : ℕ} → m ≡ question_len s at → 0 < m → length w ≡ 5
         → ((k : ℕ) (S : Settings) (es : List Entry) → OpenedAs k S es f loaded → AnswerIn k S es (question_at s at) w)
         → answers'' ≡ sets answers' (5 * (first + i)) w
         → Asking s f from count loaded first answers (at + m) (i + 1) answers''
     unfolding items
-    asking-turn h there w answers'' m p five a e =
+    asking_turn h {w} {answers''} {m} len there five a e =
         let left : count - i ≡ suc (count - (i + 1)) = omega arith in
         let fewer : count - i - 1 ≡ count - (i + 1) = omega arith in
         let next : first + (i + 1) ≡ first + i + 1 = omega arith in
         record {
           within = omega arith;
           long = rw e (length-sets answers' (5 * (first + i)) w) ∙ l.long;
-          place = rw fewer at (sym (behind-next (question_len s) at (count - i) m (omega arith) p (λ z. omega arith))) ∙ l.place;
+          place =
+              rw len (rw fewer at (sym (behind_next (question_len s) at (count - i) (omega arith) (omega arith)))) ∙ l.place;
           rest = λ k S es g final z.
               l.rest k S es g final
-              (rw left (asks-more k S es (question_at s at) _ (first + i) w answers' answers'' final (a k S es g) five e (rw (p, next) at z)));
+              (rw left
+              (asks-more k S es (question_at s at) _ (first + i) w answers' answers'' final (a k S es g) five e (rw (len, next) at z)));
         }
 
     -- none is left
-    pub asking-none : count ≤ i → (k : ℕ) (S : Settings) (es : List Entry) → OpenedAs k S es f loaded → QuestionsAnswered k S es (items (question_len s) (question_at s) from count) first answers answers'
+    pub asking_none : count ≤ i → (k : ℕ) (S : Settings) (es : List Entry) → OpenedAs k S es f loaded
+        → QuestionsAnswered k S es (items (question_len s) (question_at s) from count) first answers answers'
     unfolding items
-    asking-none h k S es g =
+    asking_none h k S es g =
         let none_left : count - i ≡ 0 = omega arith in
         l.rest k S es g answers' (rw none_left (record { asked = []; answered = no_more; written = refl }))
 
 -- ---- the opening in front of them
 
-pub given-number : (k : ℕ) (S : Settings) (es : List Entry) (f : List ℕ) (loaded : Loaded) → OpenedAs k S es f loaded → load_no loaded ≡ k
-given-number k S es f (Index opened) g = sym g.0
-given-number k S es f (Refused j) g = sym g.0
+pub given-number : (k : ℕ) (S : Settings) (es : List Entry) (f : List ℕ) (loaded : Result SSTableIndexV3 Refusal)
+    → OpenedAs k S es f loaded → no_of loaded ≡ k
+given-number k S es f (Ok opened) g = sym g.0
+given-number k S es f (Err refusal) g = sym g.0
 
-pub opened-asks : (k : ℕ) (S : Settings) (es : List Entry) (qs : List Question) (i j l : ℕ) (answers answers' answers'' : List ℕ) → j ≡ k → l ≡ k
-    → answers' ≡ sets answers (5 * i) (cells j l 0 0 0) → QuestionsAnswered k S es qs (i + 1) answers' answers'' → OpeningAnswered k S es qs i answers answers''
+pub opened-asks : (k : ℕ) (S : Settings) (es : List Entry) (qs : List Question) (i j l : ℕ) (answers answers' answers'' : List ℕ)
+    → j ≡ k → l ≡ k
+    → answers' ≡ sets answers (5 * i) (cells j l 0 0 0) → QuestionsAnswered k S es qs (i + 1) answers' answers''
+    → OpeningAnswered k S es qs i answers answers''
 opened-asks k S es qs i j l answers answers' answers'' n m e a = record {
   asked = a.asked;
   answered = a.answered;

@@ -2,7 +2,6 @@ pub mod Items
 pub mod Turns
 pub mod Entries
 pub mod Answers
-pub mod Tags
 pub mod Asking
 pub mod Opening
 pub mod Whole

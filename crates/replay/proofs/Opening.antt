@@ -4,9 +4,9 @@ use mathlib.Core.Path.{◌≡◌, refl, sym, ap, subst, ◌∙◌}
 use mathlib.Core.List.{List, []}
 use mathlib.Core.Logic.{⊎_elim}
 use native.Mathlib.Omega.{arith}
-use lib.Dec.{eqb, ltb}
+use lib.Dec.{eqb}
 use lib.ListN.{length, take}
-use borrow.Author.Tests.{eqb-true, eqb-false, ltb-true, ltb-false}
+use borrow.Author.Tests.{eqb-true, eqb-false}
 use Rattle.keys.proofs.Order.{by-test}
 use Rattle.serialize.proofs.Stores.{sets-part}
 use Rattle.builder.specs.Index.{Settings}
@@ -14,8 +14,8 @@ use Rattle.builder.specs.Finish.{Finish}
 use Rattle.machine.specs.Plain.{Entry, plain_index}
 use Rattle.machine.specs.Finished.{plain_finish}
 use Rattle.machine.proofs.PlainFinish.{plain-none, plain-refused, plain-taken, plain-number}
-use Rattle.index.specs.declared.Loaded.{Loaded}
-use Rattle.index.specs.Opening.{footer_no, open_no, open_def, load_def, opened_of}
+use Rattle.std.specs.Prelude.{Ok}
+use Rattle.index.specs.Opening.{footer_no, open_no, refusal_of, open_def, load_def, opened_of}
 use Rattle.canonical.specs.Canonical.{canonical_no}
 use Rattle.demands.specs.Demand3.{Finishes, index_of_calls}
 use Rattle.replay.specs.Format.{calls}
@@ -38,10 +38,7 @@ module _ (S : Settings) (es : List Entry) (out : List ℕ) where
   take_none n l e = rw e
 
   has-two : (length (plain_index S es) ≡ 0 → ⊥) → 2 ≤ length es
-  has-two f =
-      by-test (ltb (length es) 2)
-      (λ u. absurd (f (ap length (plain-none es S (ltb-true (length es) 2 u)))))
-      (λ u. ltb-false (length es) 2 u)
+  has-two f = grind (arith, plain-none es S, f)
 
   pub finish-parts : FinishParts S es out (plain_finish S es out)
   finish-parts =
@@ -64,7 +61,7 @@ module _ (S : Settings) (es : List Entry) (out : List ℕ) where
 
 -- no bytes get 10
 opens-none : (S : Settings) (es : List Entry) → CheckedAs 10 S es []
-unfolding open_def canonical_no open_no footer_no
+unfolding open_def canonical_no open_no footer_no refusal_of
 opens-none S es = record { opening = (refl, omega arith); checked = refl }
 
 -- ---- the bytes after a list's calls and finish
@@ -91,7 +88,7 @@ module _ (s B K out : List ℕ) where
   opened_some some =
       let d = list-demand s B K out in
       let finishes = list-finishes some in
-      let opens : load_def (take f.total f.out) ≡ Loaded.Opened (opened_of (take f.total f.out)) = rw list-after at (d.opens finishes) in
+      let opens : load_def (take f.total f.out) ≡ Ok (opened_of (take f.total f.out)) = rw list-after at (d.opens finishes) in
       record {
         opening = rw opens (
           refl,

@@ -1,60 +1,34 @@
 -- The parts of a replayed list together: its numbers, and its answers one behind the other.
-use Prim.Native.Nat.{ℕ, zero, suc, ◌+◌, ◌*◌, ◌≤◌, ◌<◌}
+use Prim.Native.Nat.{ℕ, zero, suc, ◌+◌, ◌*◌, ◌≤◌}
 use mathlib.Core.Path.{◌≡◌, refl, sym, ap, ◌∙◌}
 use mathlib.Core.List.{List, [], ◌∷◌, ◌++◌}
-use mathlib.Core.Bool.{true, false}
+use mathlib.Core.Bool.{false}
 use native.Mathlib.Omega.{arith}
-use lib.Dec.{ltb}
 use lib.ListN.{length, take}
 use lib.Seq.{sets}
-use borrow.Author.Tests.{lt-ltb, le-ltb, ltb-true, ltb-false}
-use Rattle.keys.proofs.Order.{by-test}
 use Rattle.serialize.proofs.Stores.{sets-append}
 use Rattle.builder.specs.Calls.{State}
 use Rattle.builder.specs.Finish.{Finish, finish_def}
 use Rattle.machine.specs.Plain.{Call}
 use Rattle.machine.specs.Runs.{run_numbers, run_end}
-use Rattle.replay.specs.Format.{call_len, call_at, question_len, question_at, behind, items, calls, questions, call_count, question_count, calls_from, questions_from, list_bad}
+use Rattle.replay.specs.Format.{call_len, call_at, question_len, question_at, behind, items, calls, questions}
+use Rattle.replay.specs.Format.{call_count, question_count, calls_from, questions_from, head_bad, list_bad}
 use Rattle.replay.specs.Made.{call_cells, finish_cells, opening_cells, list_settings, fresh_of, entries_of, finish_of_list, open_number}
 use Rattle.replay.specs.Steps.{state_of}
 use Rattle.replay.specs.Replay.{replay_no, Replayed}
 use Rattle.replay.specs.Asked.{CheckedAs, OpeningAnswered}
-use Rattle.replay.specs.declared.calls.Called.{Called}
-use Rattle.replay.proofs.Items.{head_ok, ListOk}
+use Rattle.builder.specs.declared.SSTableIndexBuilder.{SSTableIndexBuilder}
+use Rattle.replay.proofs.Items.{list_ok}
+use Rattle.std.proofs.lemmas.Bool.Decides.{nat_tests}
 use Rattle.replay.proofs.Turns.{cells-turn}
 use Rattle.replay.proofs.Entries.{numbers-plain, list-finish}
 use Rattle.replay.proofs.Opening.{list-opened, list-fits}
 
--- ---- the number
+-- ---- the room
 
-module _ (s : List ℕ) (room : ℕ) where
-  pub no-list : list_bad s ≡ true → replay_no s room ≡ 101
-  unfolding replay_no
-  no-list e = rw e
-
-  module _ (e : list_bad s ≡ false) (m n : ℕ) (c : m ≡ call_count s) (q : n ≡ question_count s) where
-    pub no_room : room < 5 * (m + 2 + n) → replay_no s room ≡ 102
-    unfolding replay_no
-    no_room h = rw (e, ← c, ← q, lt-ltb room (5 * (m + 2 + n)) h)
-
-    pub has_room : 5 * (m + 2 + n) ≤ room → replay_no s room ≡ 0
-    unfolding replay_no
-    has_room h = rw (e, ← c, ← q, le-ltb room (5 * (m + 2 + n)) h)
-
-  pub record ReplayOk : Type 0 where
-    pub list : list_bad s ≡ false
-    pub fits : 5 * (call_count s + 2 + question_count s) ≤ room
-
-  pub replay-ok : replay_no s room ≡ 0 → ReplayOk
-  replay-ok e =
-      by-test (list_bad s)
-      (λ t. absurd (let z : ◌≡◌ {A = ℕ} 101 0 = sym (no-list t) ∙ e in let y : ⊥ = omega arith in y))
-      (λ t. record {
-        list = t;
-        fits = by-test (ltb room (5 * (call_count s + 2 + question_count s)))
-            (λ u. absurd (let z : ◌≡◌ {A = ℕ} 102 0 = sym (no_room t _ _ refl refl (ltb-true room (5 * (call_count s + 2 + question_count s)) u)) ∙ e in let y : ⊥ = omega arith in y))
-            (λ u. ltb-false room (5 * (call_count s + 2 + question_count s)) u);
-      })
+pub replay_ok : (s : List ℕ) (room : ℕ) → replay_no s room ≡ 0 → 5 * (call_count s + 2 + question_count s) ≤ room
+unfolding replay_no
+replay_ok s room e = grind (arith, nat_tests, e)
 
 -- ---- the answers
 
@@ -76,20 +50,31 @@ length-items len item at (suc k) = ap suc (length-items len item (at + len at) k
 call-answers : (s : List ℕ) (a : State) → length (call_cells (run_numbers (calls s) a)) ≡ 5 * call_count s
 unfolding calls
 call-answers s a =
-    omega (arith, length-call_cells (run_numbers (calls s) a), length_run (calls s) a, length-items (call_len s) (call_at s) (calls_from s) (call_count s))
+    omega (
+      arith,
+      length-call_cells (run_numbers (calls s) a),
+      length_run (calls s) a,
+      length-items (call_len s) (call_at s) (calls_from s) (call_count s),
+    )
 
-list-questions : (s : List ℕ) (from : ℕ) → from ≡ questions_from s → items (question_len s) (question_at s) from (question_count s) ≡ questions s
+list-questions : (s : List ℕ) (from : ℕ) → from ≡ questions_from s
+    → items (question_len s) (question_at s) from (question_count s) ≡ questions s
 unfolding questions
 list-questions s from e = rw e
 
 -- the questions are there
-pub questions-there : (s : List ℕ) (from : ℕ) → from ≡ questions_from s → ListOk s → behind (question_len s) from (question_count s) ≡ 0 → ⊥
-questions-there s from e ok z = let none : length s ≡ 0 = sym ok.ends ∙ rw e at z in omega (arith, (head_ok s ok.head).four)
+pub questions_there : (s : List ℕ) (from : ℕ) → from ≡ questions_from s → head_bad s ≡ false → list_bad s ≡ false
+    → behind (question_len s) from (question_count s) ≡ 0 → ⊥
+unfolding head_bad
+questions_there s from e head whole z =
+    let none : length s ≡ 0 = sym (list_ok s whole).ends ∙ rw e at z in
+    let some : 12 ≤ length s = grind (arith, nat_tests, head) in
+    omega arith
 
-module _ (s B K out B' K' : List ℕ) (made : Called) (m : state_of made B' K' ≡ run_end (calls s) (fresh_of B K)) where
+module _ (s B K out B' K' : List ℕ) (b : SSTableIndexBuilder) (m : state_of b B' K' ≡ run_end (calls s) (fresh_of B K)) where
   -- the finish on what the calls left
   abbrev left : Finish
-  left = finish_def (list_settings s) made.builder B' K' out
+  left = finish_def (list_settings s) b B' K' out
 
   made-finish : left ≡ finish_of_list s B K out
   made-finish = ap (λ (a : State). finish_def (list_settings s) a.builder a.blocks a.keys out) m ∙ list-finish s B K out
@@ -105,10 +90,11 @@ module _ (s B K out B' K' : List ℕ) (made : Called) (m : state_of made B' K' �
       → answers₁ ≡ sets answers 0 (call_cells (run_numbers (calls s) (fresh_of B K)))
       → out' ≡ left.out
       → answers₂ ≡ sets answers₁ (5 * count) (finish_cells left)
-      → made.next ≡ questions_from s
-      → OpeningAnswered (open_number (finish_of_list s B K out)) (list_settings s) (entries_of s B K) (items (question_len s) (question_at s) made.next (question_count s)) (count + 1) answers₂ answers₃
+      → (from : ℕ) → from ≡ questions_from s
+      → OpeningAnswered (open_number (finish_of_list s B K out)) (list_settings s) (entries_of s B K)
+      (items (question_len s) (question_at s) from (question_count s)) (count + 1) answers₂ answers₃
       → Replayed s B K out answers B' K' out' answers₃
-  replayed answers count c answers₁ answers₂ answers₃ out' called written finished next opened =
+  replayed answers count c answers₁ answers₂ answers₃ out' called written finished from next opened =
       let f = finish_of_list s B K out in
       let rest : List ℕ = opening_cells f ++ opened.asked in
       let after : List ℕ = finish_cells f ++ rest in
@@ -119,9 +105,10 @@ module _ (s B K out B' K' : List ℕ) (made : Called) (m : state_of made B' K' �
         keys = ap (λ (a : State). a.keys) m;
         output = written ∙ ap (λ (x : Finish). x.out) made-finish;
         asked = opened.asked;
-        answered = rw (list-questions s made.next next) at opened.answered;
+        answered = rw (list-questions s from next) at opened.answered;
         written = opened.written
-            ∙ sym (cells-turn answers₁ answers₂ (finish_cells f) rest count refl (finished ∙ ap (λ (x : Finish). sets answers₁ (5 * count) (finish_cells x)) made-finish))
+            ∙ sym (cells-turn answers₁ answers₂ (finish_cells f) rest count refl
+            (finished ∙ ap (λ (x : Finish). sets answers₁ (5 * count) (finish_cells x)) made-finish))
             ∙ ap (λ (o : List ℕ). sets o (5 * count) after) called
             ∙ ap (λ (j : ℕ). sets (sets answers 0 all) j after) place
             ∙ sets-append answers all after 0

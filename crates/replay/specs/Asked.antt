@@ -1,12 +1,12 @@
 -- What the code's answers rest on: an opened index of entries, or a refused opening.
-use Rattle.std.specs.Prelude.{ℕ, ◌*◌, ◌≤◌, ◌<◌, ◌≡◌, List, ◌++◌, length}
+use Rattle.std.specs.Prelude.{ℕ, ◌*◌, ◌≤◌, ◌<◌, ◌≡◌, List, ◌++◌, length, Result, Ok, Err}
 use Rattle.std.proofs.lemmas.List.Edits.{sets}
 use Rattle.layout.specs.Layout.{max_blocks}
+use Rattle.layout.specs.declared.refusals.Refusal.{Refusal}
+use Rattle.layout.specs.Refusals.{number_of}
 use Rattle.builder.specs.Index.{Settings, standard}
 use Rattle.machine.specs.Plain.{Entry, plain_index}
 use Rattle.index.specs.declared.SSTableIndexV3.{SSTableIndexV3}
-use Rattle.index.specs.declared.Loaded.{Loaded}
-use Rattle.index.specs.declared.Loaded.TheVariants.{Opened, Refused}
 use Rattle.index.specs.Opening.{load_def}
 use Rattle.canonical.specs.Canonical.{canonical_no}
 use Rattle.demands.specs.Demand3.{Finds}
@@ -21,9 +21,9 @@ pub record Indexed (S : Settings) (es : List Entry) (f : List ℕ) (opened : SST
   pub finds : Finds es f opened
 
 -- an opening of f with number k
-abbrev pub OpenedAs : ℕ → Settings → List Entry → List ℕ → Loaded → Type 0
-OpenedAs k S es f (Opened opened) = (k ≡ 0) × Indexed S es f opened
-OpenedAs k S es f (Refused j) = (k ≡ j) × (0 < k)
+abbrev pub OpenedAs : ℕ → Settings → List Entry → List ℕ → Result SSTableIndexV3 Refusal → Type 0
+OpenedAs k S es f (Ok opened) = (k ≡ 0) × Indexed S es f opened
+OpenedAs k S es f (Err refusal) = (k ≡ number_of refusal) × (0 < k)
 
 -- f, opened and checked: the check of document 02's wish 3 has opening's number for what finish wrote, 0 for an index of two blocks or
 -- more, 10 for no bytes

@@ -1,13 +1,11 @@
 -- What replaying a list answers and leaves, from the plain machine and its entries: demand 3 on running code.
-use Rattle.std.specs.Prelude.{ℕ, ◌+◌, ◌*◌, ◌<◌, ◌≡◌, List, [], ◌∷◌, ◌++◌, cond, ◌⊎◌, ltb, length, get_or}
+use Rattle.std.specs.Prelude.{ℕ, ◌+◌, ◌*◌, ◌<◌, ◌≡◌, List, [], ◌∷◌, ◌++◌, cond, ◌⊎◌, ltb, length, get_or, Option, Some, None}
 use Rattle.std.proofs.lemmas.List.Edits.{sets}
 use Rattle.group.specs.declared.BlockAddr.{BlockAddr}
 use Rattle.builder.specs.Index.{Settings}
 use Rattle.machine.specs.Plain.{Entry, plain_numbers, plain_index}
 use Rattle.machine.specs.Runs.{rooms_of, run_end}
 use Rattle.automaton.specs.Table.{table_no}
-use Rattle.index.specs.declared.Place.{Place}
-use Rattle.index.specs.declared.Place.TheVariants.{Part, Missing}
 use Rattle.index.specs.Answers.{part_at}
 use Rattle.index.specs.Lookups.{ByIdExact, ByOrdExact, ByKeyExact, AddrByKeyExact}
 use Rattle.listing.specs.Marks.{Marks, count_ones}
@@ -60,9 +58,9 @@ pub record AddrAnswer (es : List Entry) (key : List ℕ) (cs : List ℕ) : Type 
   pub right : AddrByKeyExact (entry_separator es) (entry_block es) (length es) key no id addr
 
 -- a separator's place as five numbers: offset, length and 1, or zeros where there is none
-abbrev pub place_cells : Place → List ℕ
-place_cells (Part offset len) = cells 0 offset len 1 0
-place_cells Missing = cells 0 0 0 0 0
+abbrev pub place_cells : Option (ℕ × ℕ) → List ℕ
+place_cells (Some place) = cells 0 place.0 place.1 1 0
+place_cells None = cells 0 0 0 0 0
 
 -- a separator's place in the index, and that it stands there
 pub record SeparatorAnswer (S : Settings) (es : List Entry) (id : ℕ) (cs : List ℕ) : Type 0 where

@@ -6,7 +6,7 @@ ghost use Rattle.builder.specs.Finish.{finish_def};
 ghost use Rattle.replay.specs.Made.{finish_cells};
 
 use crate::cells::Cells;
-use builder::{Finished, SSTableIndexBuilder};
+use builder::SSTableIndexBuilder;
 
 // Finishes into `out`, and writes the answer at `at`: its number, the total and the directory's length. Returns the total.
 pub fn finish_list(
@@ -24,21 +24,9 @@ pub fn finish_list(
     ensures answers_after { answers.new ≡ sets answers.old at
         (finish_cells (finish_def standard builder blocks.now keys.now out.old)) }
 {
-    match builder_finish::finish(builder, blocks, keys, out) {
-        Finished::Written(_, total, directory) => {
-            let cells = Cells {
-                no: 0,
-                a: total as u64,
-                b: directory as u64,
-                c: 0,
-                d: 0,
-            };
-            cells.write(answers, at);
-            total
-        }
-        Finished::Unwritten(no, _) => {
-            Cells::number(no).write(answers, at);
-            0
-        }
-    }
+    let finished = builder_finish::finish(builder, blocks, keys, out).map_err(
+        |refused| refused.refusal,
+    );
+    Cells::answered(finished).write(answers, at);
+    finished.map_or(0, |written| written.total)
 }

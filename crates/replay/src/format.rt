@@ -1,24 +1,77 @@
 // A list of calls and questions in bytes.
-ghost use Rattle.std.specs.Prelude.{◌≡◌, false, cond, ◌||◌, ◌+◌, ◌^◌, ◌≤◌, ◌<◌, eqb, length};
+ghost use Rattle.std.specs.Prelude.{Option, ◌≡◌, true, false, ℕ, ◌||◌, ◌+◌, ◌^◌, ◌≤◌, ◌<◌, eqb, length, MatchOption};
 ghost use Rattle.serialize.specs.Digits.{number_at};
 ghost use Rattle.replay.specs.Format.{string_len, string_at, within, call_len, question_len, behind};
-ghost use Rattle.replay.specs.Format.{counts_at, calls_from, call_count, question_count, head_bad, list_bad};
+ghost use Rattle.replay.specs.Format.{counts_at, calls_from, questions_from, call_count, question_count, head_bad, list_bad};
+ghost use Rattle.replay.specs.Format.{added_block, call_at, question_at};
+ghost use Rattle.replay.specs.Read.{call_of, question_of};
+ghost use Rattle.replay.specs.Tags.{Decodes, TagAt, IsLen, IsItem};
 
-pub const ADD: u8 = 0;
+use group::BlockAddr;
 
-const SHORTEN: u8 = 1;
+// What an item of the list is, and the byte that it begins with: two calls, then the questions.
+#[derive(Clone, Copy, Debug, PartialEq, Eq)]
+pub enum Tag {
+    Add = 0,
+    Shorten = 1,
+    ById = 2,
+    ByOrdinal = 3,
+    ByKey = 4,
+    AddressByKey = 5,
+    Separator = 6,
+    Mark = 7,
+}
 
-pub const BY_ID: u8 = 2;
+impl Tag {
+    // The tag of the item at `at`, if there is one.
+    pub fn at(list: &[u8], at: usize) -> Option<Tag>
+        ensures { TagAt list.now at result }
+    {
+        Tag::try_from(*list.get(at)?).ok()
+    }
+}
 
-pub const BY_ORDINAL: u8 = 3;
+// A byte that no item begins with.
+#[derive(Clone, Copy, Debug, PartialEq, Eq)]
+pub struct UnknownTag(pub u8);
 
-pub const BY_KEY: u8 = 4;
+impl TryFrom<u8> for Tag {
+    type Error = UnknownTag;
 
-pub const ADDRESS_BY_KEY: u8 = 5;
+    ghost try_from_gives = { Decodes };
 
-pub const SEPARATOR: u8 = 6;
+    fn try_from(byte: u8) -> Result<Tag, UnknownTag> {
+        match byte {
+            0 => Ok(Tag::Add),
+            1 => Ok(Tag::Shorten),
+            2 => Ok(Tag::ById),
+            3 => Ok(Tag::ByOrdinal),
+            4 => Ok(Tag::ByKey),
+            5 => Ok(Tag::AddressByKey),
+            6 => Ok(Tag::Separator),
+            7 => Ok(Tag::Mark),
+            _ => Err(UnknownTag(byte)),
+        }
+    }
+}
 
-const MARK: u8 = 7;
+// A call with its arguments.
+#[derive(Clone, Copy)]
+pub enum Call<'a> {
+    Add(&'a [u8], BlockAddr),
+    ShortenLast(&'a [u8]),
+}
+
+// What is asked of the finished index.
+#[derive(Clone, Copy)]
+pub enum Question<'a> {
+    ById(u64),
+    ByOrdinal(u64),
+    ByKey(&'a [u8]),
+    AddressByKey(&'a [u8]),
+    SeparatorOf(u64),
+    MarkOf(u64, &'a [u8]),
+}
 
 // How many bytes the settings' length takes, and both counts.
 const SETTINGS_LEN_LEN: usize = 4;
@@ -47,164 +100,198 @@ pub fn string(list: &[u8], at: usize) -> &[u8]
     ensures { result.now ≡ string_at list.now at }
 {
     let from = at + 4;
-    let end = from + small_number(list, at);
-    &list[from..end]
+    &list[from..from + small_number(list, at)]
 }
 
-// `len` where the list has as many bytes from `at` on, else 0.
-fn if_within(list: &[u8], at: usize, len: usize) -> usize
-    requires { at ≤ length list.now }
-    ensures { result ≡ within list.now at len }
+// `len` where the list has as many bytes from `at` on.
+fn if_within(list: &[u8], at: usize, len: usize) -> Option<usize>
+    requires { (at ≤ length list.now) × (0 < len) }
+    ensures { IsItem list.now at result (within list.now at len) }
 {
-    if list.len() - at < len { 0 } else { len }
-}
-
-// How many bytes an item takes whose string's length stands `head` bytes behind its tag; 0 where it isn't whole.
-fn with_string(list: &[u8], at: usize, head: usize) -> usize
-    requires { (at ≤ length list.now) × (head ≤ 25) }
-    ensures { result ≡ within list.now at (4 + head + string_len list.now (at + head)) }
-{
-    if list.len() - at < 4 + head {
-        return 0;
-    }
-    if_within(list, at, 4 + head + small_number(list, at + head))
-}
-
-// How many bytes the call at `at` takes; 0 where there is none.
-pub fn call_len(list: &[u8], at: usize) -> usize
-    ensures { result ≡ call_len list.now at }
-{
-    if list.len() <= at {
-        return 0;
-    }
-    let tag = list[at];
-    if tag == ADD {
-        return with_string(list, at, 25);
-    }
-    if tag == SHORTEN {
-        return with_string(list, at, 1);
-    }
-    0
-}
-
-// Whether a question of this tag has one number and nothing else.
-fn asks_number(tag: u8) -> bool
-    ensures { result ≡ eqb tag 2 || (eqb tag 3 || eqb tag 6) }
-{
-    tag == BY_ID || (tag == BY_ORDINAL || tag == SEPARATOR)
-}
-
-// Whether a question of this tag has one key and nothing else.
-fn asks_key(tag: u8) -> bool
-    ensures { result ≡ eqb tag 4 || eqb tag 5 }
-{
-    tag == BY_KEY || tag == ADDRESS_BY_KEY
-}
-
-// How many bytes the question at `at` takes; 0 where there is none.
-pub fn question_len(list: &[u8], at: usize) -> usize
-    ensures { result ≡ question_len list.now at }
-{
-    if list.len() <= at {
-        return 0;
-    }
-    let tag = list[at];
-    if asks_number(tag) {
-        return if_within(list, at, 9);
-    }
-    if asks_key(tag) {
-        return with_string(list, at, 1);
-    }
-    if tag == MARK {
-        return with_string(list, at, 9);
-    }
-    0
-}
-
-// How many bytes the item at `at` takes, a call or a question; 0 where there is none.
-fn item_len(list: &[u8], at: usize, is_call: bool) -> usize
-    ensures { result ≡ cond is_call (call_len list.now at) (question_len list.now at) }
-{
-    if is_call {
-        call_len(list, at)
+    if len <= list.len() - at {
+        Some(len)
     } else {
-        question_len(list, at)
+        None
     }
 }
 
-// Behind `count` items from `from` on, calls or questions; 0 where one of them isn't there.
-fn behind_items(list: &[u8], from: usize, count: usize, are_calls: bool) -> usize
-    ensures { result ≡ behind (λ at. cond are_calls (call_len list.now at) (question_len list.now at)) from
-        count }
+// How many bytes an item takes whose string's length stands `head` bytes behind its tag, if it is whole.
+fn with_string(list: &[u8], at: usize, head: usize) -> Option<usize>
+    requires { (at ≤ length list.now) × (head ≤ 25) }
+    ensures { IsItem list.now at result (within list.now at (4 + head + string_len list.now (at + head))) }
+{
+    let fixed = if_within(list, at, 4 + head)?;
+    if_within(list, at, fixed + small_number(list, at + head))
+}
+
+// How many bytes the call at `at` takes, if there is one.
+#[tactic(auto, unfolding(crate::specs::Format::call_len))]
+pub fn call_len(list: &[u8], at: usize) -> Option<usize>
+    ensures { IsItem list.now at result (call_len list.now at) }
+{
+    match Tag::at(list, at)? {
+        Tag::Add => with_string(list, at, 25),
+        Tag::Shorten => with_string(list, at, 1),
+        _ => None,
+    }
+}
+
+// The block of the add at `at`.
+fn block(list: &[u8], at: usize) -> BlockAddr
+    requires { at + 25 ≤ length list.now }
+    ensures { result ≡ added_block list.now at }
+{
+    BlockAddr {
+        start: number(list, at + 1),
+        end: number(list, at + 9),
+        first_ordinal: number(list, at + 17),
+    }
+}
+
+impl<'a> Call<'a> {
+    // The call at `at`.
+    #[tactic(auto, unfolding(crate::specs::Format::call_len, crate::specs::Format::call_at))]
+    pub fn at(list: &'a [u8], at: usize) -> Call<'a>
+        requires { 0 < call_len list.now at }
+        ensures { call_of result ≡ call_at list.now at }
+    {
+        match Tag::at(list, at) {
+            Some(Tag::Add) => Call::Add(string(list, at + 25), block(list, at)),
+            _ => Call::ShortenLast(string(list, at + 1)),
+        }
+    }
+}
+
+// How many bytes the question at `at` takes, if there is one.
+#[tactic(auto, unfolding(crate::specs::Format::question_len))]
+pub fn question_len(list: &[u8], at: usize) -> Option<usize>
+    ensures { IsItem list.now at result (question_len list.now at) }
+{
+    match Tag::at(list, at)? {
+        Tag::ById | Tag::ByOrdinal | Tag::Separator => if_within(list, at, 9),
+        Tag::ByKey | Tag::AddressByKey => with_string(list, at, 1),
+        Tag::Mark => with_string(list, at, 9),
+        Tag::Add | Tag::Shorten => None,
+    }
+}
+
+impl<'a> Question<'a> {
+    // The question at `at`.
+    #[tactic(auto, unfolding(crate::specs::Format::question_len, crate::specs::Format::question_at))]
+    pub fn at(list: &'a [u8], at: usize) -> Question<'a>
+        requires { 0 < question_len list.now at }
+        ensures { question_of result ≡ question_at list.now at }
+    {
+        match Tag::at(list, at) {
+            Some(Tag::ById) => Question::ById(number(list, at + 1)),
+            Some(Tag::ByOrdinal) => Question::ByOrdinal(number(list, at + 1)),
+            Some(Tag::ByKey) => Question::ByKey(string(list, at + 1)),
+            Some(Tag::AddressByKey) => Question::AddressByKey(string(list, at + 1)),
+            Some(Tag::Separator) => Question::SeparatorOf(number(list, at + 1)),
+            _ => Question::MarkOf(number(list, at + 1), string(list, at + 9)),
+        }
+    }
+}
+
+// Behind `count` items from `from` on, whose lengths `item_len` tells, if each of them is there.
+#[tactic(auto, using(crate::proofs::Items::behind_none, crate::proofs::Items::behind_next, crate::proofs::Items::behind_missing))]
+fn behind_items<F: Fn(usize) -> Option<usize>>(
+    from: usize,
+    count: usize,
+    item_len: F,
+) -> Option<usize>
+    requires callable { F.IsAlwaysCallable item_len }
+    requires inside { (at : ℕ) (len : ℕ) → at < 2 ^ 64 → F.post item_len at (Some len) → at + len < 2 ^ 64 }
+    requires positive { 0 < from }
+    ensures { (len : ℕ → ℕ) → ((at : ℕ) (r : Option ℕ) → at < 2 ^ 64 → F.post item_len at r → IsLen r (len at))
+        → IsLen result (behind len from count) }
 {
     let mut at = from;
-    let mut left = count;
-    while 0 < left {
-        let len = item_len(list, at, are_calls);
-        if len == 0 {
-            return 0;
+    for _done in 0..count {
+        at += item_len(at)?;
+    }
+    Some(at)
+}
+
+// A list whose head is there, with settings that are known: how many calls and questions follow, and from where on.
+#[derive(Clone, Copy)]
+pub struct Head<'a> {
+    pub list: &'a [u8],
+    pub ghost good: { head_bad list.now ≡ false },
+}
+
+impl<'a> Head<'a> {
+    // The list with its head, if it has one.
+    #[tactic(auto, unfolding(crate::specs::Format::head_bad))]
+    pub fn read(list: &'a [u8]) -> Option<Head<'a>>
+        ensures { MatchOption result (head_bad list.now ≡ true) (λ head. head.list.now ≡ list.now) }
+    {
+        let counts_at = SETTINGS_LEN_LEN + small_number(list.get(..SETTINGS_LEN_LEN)?, 0);
+        if counts_at != SETTINGS_LEN_LEN || list.len() < counts_at + COUNTS_LEN {
+            return None;
         }
-        at += len;
-        left -= 1;
+        Some(Head { list })
     }
-    at
-}
 
-// Where the counts stand: after the settings.
-fn counts_at(list: &[u8]) -> usize
-    requires { 4 ≤ length list.now }
-    ensures { (result ≡ counts_at list.now) × (result < 2 ^ 33) }
-{
-    SETTINGS_LEN_LEN + small_number(list, 0)
-}
-
-// Whether the head isn't one: no length of settings, settings that nobody knows, or no counts.
-pub fn head_bad(list: &[u8]) -> bool
-    ensures { result ≡ head_bad list.now }
-{
-    if list.len() < SETTINGS_LEN_LEN {
-        return true;
+    // Where the counts stand: after the settings.
+    #[tactic(auto, unfolding(crate::specs::Format::head_bad))]
+    fn counts_at(&self) -> usize
+        ensures { (result ≡ counts_at self.now.list.now) × (result + 8 ≤ length self.now.list.now) }
+    {
+        SETTINGS_LEN_LEN + small_number(self.list, 0)
     }
-    if small_number(list, 0) != 0 {
-        return true;
+
+    // Where the first call stands.
+    pub fn calls_from(&self) -> usize
+        ensures { (result ≡ calls_from self.now.list.now) × (result ≤ length self.now.list.now) }
+    {
+        self.counts_at() + COUNTS_LEN
     }
-    list.len() < counts_at(list) + COUNTS_LEN
-}
 
-// Where the first call stands.
-pub fn calls_from(list: &[u8]) -> usize
-    requires { head_bad list.now ≡ false }
-    ensures { result ≡ calls_from list.now }
-{
-    counts_at(list) + COUNTS_LEN
-}
-
-// How many calls.
-pub fn call_count(list: &[u8]) -> usize
-    requires { head_bad list.now ≡ false }
-    ensures { (result ≡ call_count list.now) × (result < 2 ^ 32) }
-{
-    small_number(list, counts_at(list))
-}
-
-// How many questions.
-pub fn question_count(list: &[u8]) -> usize
-    requires { head_bad list.now ≡ false }
-    ensures { (result ≡ question_count list.now) × (result < 2 ^ 32) }
-{
-    small_number(list, counts_at(list) + 4)
-}
-
-// Whether the bytes aren't such a list: a bad head, an item that isn't there, or bytes after the last.
-pub fn list_bad(list: &[u8]) -> bool
-    ensures { result ≡ list_bad list.now }
-{
-    if head_bad(list) {
-        return true;
+    // How many calls.
+    pub fn call_count(&self) -> usize
+        ensures { (result ≡ call_count self.now.list.now) × (result < 2 ^ 32) }
+    {
+        small_number(self.list, self.counts_at())
     }
-    let questions = behind_items(list, calls_from(list), call_count(list), true);
-    if questions == 0 {
-        return true;
+
+    // How many questions.
+    pub fn question_count(&self) -> usize
+        ensures { (result ≡ question_count self.now.list.now) × (result < 2 ^ 32) }
+    {
+        small_number(self.list, self.counts_at() + 4)
     }
-    behind_items(list, questions, question_count(list), false) != list.len()
+}
+
+// A whole list: its head, each call and question that the head counts, and nothing behind them.
+#[derive(Clone, Copy)]
+pub struct List<'a> {
+    pub head: Head<'a>,
+    // Where the first question stands.
+    pub questions_at: usize,
+    pub ghost counted: { questions_at ≡ questions_from head.list.now },
+    pub ghost whole: { list_bad head.list.now ≡ false },
+}
+
+impl<'a> List<'a> {
+    // The list, if the bytes are one.
+    #[tactic(auto, unfolding(crate::specs::Format::list_bad))]
+    pub fn read(list: &'a [u8]) -> Option<List<'a>>
+        ensures { MatchOption result (list_bad list.now ≡ true) (λ whole. whole.head.list.now ≡ list.now) }
+    {
+        let head = Head::read(list)?;
+        let questions_at = behind_items(head.calls_from(), head.call_count(), |at| {
+            call_len(list, at)
+        })?;
+        let end = behind_items(
+            questions_at,
+            head.question_count(),
+            |at| question_len(list, at),
+        )?;
+        if end == list.len() {
+            Some(List { head, questions_at })
+        } else {
+            None
+        }
+    }
 }

@@ -7,45 +7,66 @@ pub mod finish;
 pub mod format;
 pub mod questions;
 
-ghost use Rattle.std.specs.Prelude.{◌≡◌, ◌<◌, length};
+ghost use Rattle.std.specs.Prelude.{◌≡◌, length, MatchResult, OnOk, OnErr};
 ghost use Rattle.replay.specs.Replay.{replay_no, Replayed};
+ghost use Rattle.replay.specs.Refused.{error_no, answer_no};
 
 use cells::WIDTH;
+use format::List;
 
-// This function's own numbers: the bytes aren't a list, and the answers have no room.
-const NO_LIST: u32 = 101;
+// Why a list isn't replayed.
+#[derive(Clone, Copy, Debug, PartialEq, Eq)]
+pub enum ReplayError {
+    // The bytes aren't a list.
+    NoList = 101,
+    // The answers have no room.
+    NoRoom = 102,
+}
 
-const NO_ROOM: u32 = 102;
+impl From<ReplayError> for u32 {
+    ghost from_gives = { λ error no. no ≡ error_no error };
 
-// The first of them that is hit, or 0.
-fn replay_no(calls: &[u8], room: usize) -> u32
-    ensures { result ≡ replay_no calls.now room }
+    fn from(error: ReplayError) -> u32 {
+        error as u32
+    }
+}
+
+// The list, where `room` numbers hold its answers.
+#[tactic(auto, unfolding(crate::specs::Replay::replay_no))]
+fn read(calls: &[u8], room: usize) -> Result<List<'_>, ReplayError>
+    ensures { MatchResult result
+        (λ list. (replay_no calls.now room ≡ 0) × (list.head.list.now ≡ calls.now))
+        (λ error. error_no error ≡ replay_no calls.now room) }
 {
-    if format::list_bad(calls) {
-        return NO_LIST;
+    let list = List::read(calls).ok_or(ReplayError::NoList)?;
+    if room < WIDTH * (list.head.call_count() + 2 + list.head.question_count()) {
+        return Err(ReplayError::NoRoom);
     }
-    if room < WIDTH * (format::call_count(calls) + 2 + format::question_count(calls)) {
-        return NO_ROOM;
-    }
-    0
+    Ok(list)
 }
 
 // Makes the list's calls on a fresh builder, finishes, opens what that wrote and asks the questions. Writes each answer.
 fn replay_list(
-    calls: &[u8],
+    list: &List,
     blocks: &mut [u64],
     keys: &mut [u8],
     out: &mut [u8],
     answers: &mut [u64],
 )
-    requires { replay_no calls.now (length answers.old) ≡ 0 }
-    ensures { Replayed calls.now blocks.old keys.old out.old answers.old
+    requires { replay_no list.now.head.list.now (length answers.old) ≡ 0 }
+    ensures { Replayed list.now.head.list.now blocks.old keys.old out.old answers.old
         blocks.new keys.new out.new answers.new }
 {
-    let made = self::calls::make_calls(calls, blocks, keys, answers);
-    let count = format::call_count(calls);
-    let total = finish::finish_list(made.builder, blocks, keys, out, answers, WIDTH * count);
-    questions::open_list(calls, made.next, &out[..total], answers, count + 1);
+    let builder = calls::make_calls(list, blocks, keys, answers);
+    let count = list.head.call_count();
+    let total = finish::finish_list(builder, blocks, keys, out, answers, WIDTH * count);
+    questions::open_list(
+        &list.head,
+        list.questions_at,
+        &out[..total],
+        answers,
+        count + 1,
+    );
 }
 
 // Replays a list of calls and questions that anyone may have written, or says why not.
@@ -55,17 +76,14 @@ pub fn replay(
     keys: &mut [u8],
     out: &mut [u8],
     answers: &mut [u64],
-) -> u32
-    ensures value { result ≡ replay_no calls.now (length answers.old) }
-    ensures replayed { result ≡ 0 → Replayed calls.now blocks.old keys.old out.old
-        answers.old blocks.new keys.new out.new answers.new }
-    ensures blocks_unchanged { 0 < result → (blocks.new ≡ blocks.old) × (keys.new ≡ keys.old)
-        × (out.new ≡ out.old) × (answers.new ≡ answers.old) }
+) -> Result<(), ReplayError>
+    ensures value { answer_no result ≡ replay_no calls.now (length answers.old) }
+    ensures replayed { OnOk result (Replayed calls.now blocks.old keys.old out.old answers.old
+        blocks.new keys.new out.new answers.new) }
+    ensures unchanged { OnErr result ((blocks.new ≡ blocks.old) × (keys.new ≡ keys.old)
+        × (out.new ≡ out.old) × (answers.new ≡ answers.old)) }
 {
-    let no = replay_no(calls, answers.len());
-    if no != 0 {
-        return no;
-    }
-    replay_list(calls, blocks, keys, out, answers);
-    0
+    let list = read(calls, answers.len())?;
+    replay_list(&list, blocks, keys, out, answers);
+    Ok(())
 }

@@ -8,8 +8,6 @@ use Rattle.builder.specs.Index.{Settings}
 use Rattle.builder.specs.Finish.{Finish, step_of_finish, finish_def}
 use Rattle.rosmarel.specs.Answers.{finish_by}
 
--- ---- shorten
-
 step_kept : (k : ℕ) (b : SSTableIndexBuilder) (B K next : List ℕ) → (step_of_shorten k b B K next).state.builder ≡ b
 unfolding step_of_shorten
 step_kept zero b B K next = refl

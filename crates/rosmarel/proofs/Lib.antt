@@ -1,3 +1,2 @@
-pub mod Opened
-pub mod Question
 pub mod Kept
+pub mod Opened

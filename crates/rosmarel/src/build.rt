@@ -6,7 +6,8 @@ ghost use Rattle.builder.specs.Index.{standard};
 ghost use Rattle.builder.specs.Finish.{finish_def, finish_len_def};
 ghost use Rattle.rosmarel.specs.Answers.{block_with, finish_by, len_no, len_total};
 
-use builder::{Answer, FinishLen, Finished, SSTableIndexBuilder};
+use crate::answers::put_count;
+use builder::SSTableIndexBuilder;
 use group::BlockAddr;
 
 // Adds a block behind the last one. A refusal leaves `n`.
@@ -26,20 +27,14 @@ pub extern "C" fn rosmarel_add(
 {
     let builder = SSTableIndexBuilder::new(*n as usize);
     let block = BlockAddr {
-        start: start,
-        end: end,
-        first_ordinal: first_ordinal,
+        start,
+        end,
+        first_ordinal,
     };
-    match builder_add::add_block(builder, blocks, keys, key, block) {
-        Answer::Taken(next) => {
-            *n = next.n as u64;
-            0
-        }
-        Answer::Refused(no, same) => {
-            *n = same.n as u64;
-            no
-        }
-    }
+    let added = builder_add::add_block(builder, blocks, keys, key, block);
+    let (number, left) = builder::number_and_builder(added);
+    *n = left.n as u64;
+    number
 }
 
 // Shortens the last block's key to one that is still below `next_key`.
@@ -54,10 +49,10 @@ pub extern "C" fn rosmarel_shorten(
         ≡ shorten_def (builder_of n) blocks.old keys.old next_key.now }
 {
     let builder = SSTableIndexBuilder::new(n as usize);
-    match builder_add::shorten_last_block_key_given_next_key(builder, blocks, keys, next_key) {
-        Answer::Taken(_) => 0,
-        Answer::Refused(no, _) => no,
-    }
+    let shortened = builder_add::shorten_last_block_key_given_next_key(
+        builder, blocks, keys, next_key,
+    );
+    builder::number_and_builder(shortened).0
 }
 
 // Writes the index from the front of `out` on.
@@ -75,15 +70,15 @@ pub extern "C" fn rosmarel_finish(
 {
     let builder = SSTableIndexBuilder::new(n as usize);
     match builder_finish::finish(builder, blocks, keys, out) {
-        Finished::Written(_, len, directory) => {
-            *total = len as u64;
-            *directory_len = directory as u64;
+        Ok(written) => {
+            *total = written.total as u64;
+            *directory_len = written.directory_len as u64;
             0
         }
-        Finished::Unwritten(no, _) => {
+        Err(refused) => {
             *total = 0;
             *directory_len = 0;
-            no
+            u32::from(refused.refusal)
         }
     }
 }
@@ -95,16 +90,7 @@ pub extern "C" fn rosmarel_finish_len(n: u64, blocks: &[u64], keys: &[u8], total
     ensures total_after { total.new ≡ len_total (finish_len_def standard (builder_of n) blocks.now keys.now) }
 {
     let builder = SSTableIndexBuilder::new(n as usize);
-    match builder_finish::finish_len(builder, blocks, keys) {
-        FinishLen::Total(len) => {
-            *total = len as u64;
-            0
-        }
-        FinishLen::Refused(no) => {
-            *total = 0;
-            no
-        }
-    }
+    put_count(builder_finish::finish_len(builder, blocks, keys), total)
 }
 
 // How many bytes two keys share at their front.

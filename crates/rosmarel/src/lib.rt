@@ -2,6 +2,7 @@
 // else it returns to 0.
 #![tactic(auto)]
 
+mod answers;
 mod build;
 mod interface;
 mod lookup;

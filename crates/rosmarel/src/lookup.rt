@@ -9,8 +9,10 @@ ghost use Rattle.batch.specs.Batch.{LocateWithKeys};
 ghost use Rattle.rosmarel.specs.Words.{opened_words, opened_at};
 ghost use Rattle.rosmarel.specs.Answers.{block_with};
 
-use crate::words::{opened_at, words};
-use index::{BlockById, Loaded, Located, LocatedId, Place};
+use crate::answers::{NO_BLOCK, put_address, put_count, put_located};
+use crate::words::Words;
+use index::SSTableIndexV3;
+use layout::refusals;
 
 // Opens the bytes of an index that anyone may have written.
 #[unsafe(no_mangle)]
@@ -18,16 +20,10 @@ pub extern "C" fn rosmarel_open(index: &[u8], opened: &mut [u64; 7]) -> u32
     ensures value { result ≡ load_no (load_def index.now) }
     ensures opened_after { opened.new ≡ opened_words (load_opened (load_def index.now)) }
 {
-    match index_load::load(index) {
-        Loaded::Opened(record) => {
-            *opened = words(record);
-            0
-        }
-        Loaded::Refused(no) => {
-            *opened = [0; 7];
-            no
-        }
-    }
+    let loaded = index_load::load(index);
+    let Words(numbers) = loaded.map_or(Words([0; 7]), Words::from);
+    *opened = numbers;
+    refusals::number(loaded)
 }
 
 // Whether the bytes are the index that finish makes from the blocks and separators read in them: 0, or 27; opening's number for bytes
@@ -36,7 +32,7 @@ pub extern "C" fn rosmarel_open(index: &[u8], opened: &mut [u64; 7]) -> u32
 pub extern "C" fn rosmarel_check_canonical(index: &[u8]) -> u32
     ensures { result ≡ canonical_no standard index.now }
 {
-    canonical::check_canonical(index)
+    refusals::number(canonical::check_canonical(index))
 }
 
 // The address of block `id`.
@@ -52,20 +48,9 @@ pub extern "C" fn rosmarel_get_block(
     ensures { GetBlock index.now (opened_at opened.now) id result
         (block_with start.new end.new first_ordinal.new) }
 {
-    match index_lookup::get_block(opened_at(opened), index, id) {
-        BlockById::Block(block) => {
-            *start = block.start;
-            *end = block.end;
-            *first_ordinal = block.first_ordinal;
-            0
-        }
-        BlockById::Refused(no) => {
-            *start = 0;
-            *end = 0;
-            *first_ordinal = 0;
-            no
-        }
-    }
+    let block = index_lookup::get_block(SSTableIndexV3::from(Words(*opened)), index, id);
+    put_address(block.unwrap_or(NO_BLOCK), start, end, first_ordinal);
+    refusals::number(block)
 }
 
 // The block that holds the ordinal, with its address.
@@ -82,22 +67,8 @@ pub extern "C" fn rosmarel_locate_with_ord(
     ensures { LocateWithOrd index.now (opened_at opened.now) ord result id.new
         (block_with start.new end.new first_ordinal.new) }
 {
-    match index_lookup::locate_with_ord(opened_at(opened), index, ord) {
-        Located::At(found, block) => {
-            *id = found as u64;
-            *start = block.start;
-            *end = block.end;
-            *first_ordinal = block.first_ordinal;
-            0
-        }
-        Located::Refused(no) => {
-            *id = 0;
-            *start = 0;
-            *end = 0;
-            *first_ordinal = 0;
-            no
-        }
-    }
+    let found = index_lookup::locate_with_ord(SSTableIndexV3::from(Words(*opened)), index, ord);
+    put_located(found, id, start, end, first_ordinal)
 }
 
 // The block that may hold the key.
@@ -110,16 +81,8 @@ pub extern "C" fn rosmarel_locate_with_key(
 ) -> u32
     ensures { LocateWithKey index.now (opened_at opened.now) key.now result id.new }
 {
-    match index_lookup::locate_with_key(opened_at(opened), index, key) {
-        LocatedId::Id(found) => {
-            *id = found as u64;
-            0
-        }
-        LocatedId::Refused(no) => {
-            *id = 0;
-            no
-        }
-    }
+    let found = index_lookup::locate_with_key(SSTableIndexV3::from(Words(*opened)), index, key);
+    put_count(found, id)
 }
 
 // The blocks that may hold up to 64 keys: pairs of offset and length over `keys`, an id each at the front of `ids`.
@@ -134,7 +97,8 @@ pub extern "C" fn rosmarel_locate_with_keys(
     ensures { LocateWithKeys index.now (opened_at opened.now) pairs.now keys.now
         ids.old ids.new result }
 {
-    batch::locate_with_keys(opened_at(opened), index, pairs, keys, ids)
+    let opened = SSTableIndexV3::from(Words(*opened));
+    refusals::number(batch::locate_with_keys(opened, index, pairs, keys, ids))
 }
 
 // The block that may hold the key, with its address.
@@ -151,22 +115,8 @@ pub extern "C" fn rosmarel_get_block_with_key(
     ensures { GetBlockWithKey index.now (opened_at opened.now) key.now result id.new
         (block_with start.new end.new first_ordinal.new) }
 {
-    match index_lookup::get_block_with_key(opened_at(opened), index, key) {
-        Located::At(found, block) => {
-            *id = found as u64;
-            *start = block.start;
-            *end = block.end;
-            *first_ordinal = block.first_ordinal;
-            0
-        }
-        Located::Refused(no) => {
-            *id = 0;
-            *start = 0;
-            *end = 0;
-            *first_ordinal = 0;
-            no
-        }
-    }
+    let found = index_lookup::get_block_with_key(SSTableIndexV3::from(Words(*opened)), index, key);
+    put_located(found, id, start, end, first_ordinal)
 }
 
 // Where the separator of block `id` stands in the index: an unknown id, or a hit on row 20, is 0 and 0.
@@ -181,14 +131,8 @@ pub extern "C" fn rosmarel_separator(
     ensures offset_after { offset.new ≡ place_offset (place_def (opened_at opened.now) index.now id) }
     ensures len_after { len.new ≡ place_len (place_def (opened_at opened.now) index.now id) }
 {
-    match index_lookup::separator_place(opened_at(opened), index, id) {
-        Place::Part(from, long) => {
-            *offset = from as u64;
-            *len = long as u64;
-        }
-        Place::Missing => {
-            *offset = 0;
-            *len = 0;
-        }
-    }
+    let place = index_lookup::separator_place(SSTableIndexV3::from(Words(*opened)), index, id);
+    let (from, long) = place.unwrap_or((0, 0));
+    *offset = from as u64;
+    *len = long as u64;
 }

@@ -6,10 +6,10 @@ ghost use Rattle.example.specs.Example.{ExampleFor};
 ghost use Rattle.listing.specs.Listing.{GetBlockForAutomaton};
 ghost use Rattle.rosmarel.specs.Words.{opened_at};
 
-use crate::words::opened_at;
-use example::ExampleAnswer;
-use listing::Listed;
-use pruning::Matched;
+use crate::answers::put_count;
+use crate::words::Words;
+use index::SSTableIndexV3;
+use layout::refusals;
 
 // Marks each block that can hold a key that the automaton accepts: n bytes, 0 or 1.
 #[unsafe(no_mangle)]
@@ -23,16 +23,11 @@ pub extern "C" fn rosmarel_list(
     ensures { GetBlockForAutomaton index.now (opened_at opened.now) automaton.now
         marks.old marks.new result count.new }
 {
-    match listing::get_block_for_automaton(opened_at(opened), index, automaton, marks) {
-        Listed::Count(ones) => {
-            *count = ones as u64;
-            0
-        }
-        Listed::Refused(no) => {
-            *count = 0;
-            no
-        }
-    }
+    let opened = SSTableIndexV3::from(Words(*opened));
+    put_count(
+        listing::get_block_for_automaton(opened, index, automaton, marks),
+        count,
+    )
 }
 
 // Whether a key above `start` and not above `end` can match, as 1 or 0.
@@ -48,16 +43,9 @@ pub extern "C" fn rosmarel_can_block_match(
         (eqb matches.new 1) }
     ensures matches_bound { matches.new ≤ 1 }
 {
-    match pruning_match::can_block_match_automaton(has_start, start, end, automaton) {
-        Matched::Matches(can) => {
-            *matches = can as u64;
-            0
-        }
-        Matched::Refused(no) => {
-            *matches = 0;
-            no
-        }
-    }
+    let can = pruning_match::can_block_match_automaton(has_start.then_some(start), end, automaton);
+    *matches = u64::from(can.unwrap_or(false));
+    refusals::number(can)
 }
 
 // Writes some accepted string above `start` and not above `end` to the front of `out`.
@@ -73,14 +61,8 @@ pub extern "C" fn rosmarel_example(
     ensures { ExampleFor automaton.now (start_of has_start start.now) end.now
         out.old out.new result len.new }
 {
-    match example::example(has_start, start, end, automaton, out) {
-        ExampleAnswer::Written(long) => {
-            *len = long as u64;
-            0
-        }
-        ExampleAnswer::Refused(no) => {
-            *len = 0;
-            no
-        }
-    }
+    put_count(
+        example::example(has_start.then_some(start), end, automaton, out),
+        len,
+    )
 }

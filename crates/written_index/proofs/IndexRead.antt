@@ -2,6 +2,7 @@
 use Prim.Native.Nat.{ℕ, zero, suc, ◌+◌, ◌-◌, ◌*◌, ◌^◌, ◌≤◌, ◌<◌}
 use mathlib.Core.Path.{◌≡◌, refl, sym, ap, ◌∙◌}
 use mathlib.Core.List.{List, [], append_assoc}
+use Rattle.std.specs.Prelude.{Some, None}
 use native.Mathlib.Omega.{arith}
 use lib.ListN.{length, get_or, take, length-append}
 use Rattle.serialize.specs.Digits.{le_bytes}
@@ -17,7 +18,6 @@ use Rattle.directory.specs.Directory.{key_bytes, directory_bytes}
 use Rattle.directory.specs.Read.{count_of}
 use Rattle.directory.proofs.Lengths.{Bounded, length-directory_bytes, length-key_bytes-le, length-key_bytes-suc}
 use Rattle.directory.proofs.Opened.{count-whole, offset-whole, length_whole, key-whole, directory-opens}
-use Rattle.index.specs.declared.Place.TheVariants.{Part, Missing}
 use Rattle.index.specs.Parts.{store_len, group_records_len, count_in, block_in, separator_in}
 use Rattle.index.specs.Opening.{opened_of, OpensBy}
 use Rattle.index.specs.Lookups.{place_by}
@@ -127,13 +127,13 @@ module _ {choose : List ℕ → ℕ} {L : ℕ} {bs : List BlockAddr} {ks : List 
   separator i h = rw (parts.directory, count-whole ks bounded) (key-whole ks bounded i (omega (arith, w.same)))
 
   place : (i : ℕ) → i < length bs
-      → place_by L (opened_of f) f i ≡ Part (4 + 8 * length bs + lengths_before ks i) (length (get_or ks i []))
+      → place_by L (opened_of f) f i ≡ Some (4 + 8 * length bs + lengths_before ks i, length (get_or ks i []))
   place i h =
       let g : i < length ks = omega (arith, w.same) in
       place-known L f (opened_of f) written-facts i (omega (arith, count))
       ∙ rw (count-in, parts.directory, offset-whole ks bounded i g, length_whole ks bounded i g, lengths-before ks i (omega arith))
 
-  no_place : (i : ℕ) → length bs ≤ i → place_by L (opened_of f) f i ≡ Missing
+  no_place : (i : ℕ) → length bs ≤ i → place_by L (opened_of f) f i ≡ None
   no_place i h = place-unknown L (opened_of f) f i (omega (arith, count))
 
   pub index_read : IndexRead L (length bs) bs ks f

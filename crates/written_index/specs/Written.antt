@@ -1,5 +1,5 @@
 -- A written index, opened: what is found in it are the blocks and separators that it was written from. L is the group's length.
-use Rattle.std.specs.Prelude.{ℕ, zero, suc, ◌+◌, ◌*◌, ◌^◌, ◌≤◌, ◌<◌, ◌≡◌, List, [], ◌++◌, cond, ltb, length, get_or}
+use Rattle.std.specs.Prelude.{ℕ, zero, suc, ◌+◌, ◌*◌, ◌^◌, ◌≤◌, ◌<◌, ◌≡◌, List, [], ◌++◌, cond, ltb, length, get_or, Some, None}
 use Rattle.layout.specs.Layout.{max_blocks, max_key_len, pair_len}
 use Rattle.serialize.specs.Digits.{le_bytes}
 use Rattle.keys.specs.Order.{◌≺◌}
@@ -11,7 +11,6 @@ use Rattle.store.specs.Store.{store_bytes}
 use Rattle.store.specs.Facts.{GroupLenOk}
 use Rattle.directory.specs.Directory.{directory_bytes}
 use Rattle.automaton.specs.Table.{table_no}
-use Rattle.index.specs.declared.Place.TheVariants.{Part, Missing}
 use Rattle.index.specs.Parts.{block_in, separator_in}
 use Rattle.index.specs.Opening.{opened_of, OpensBy}
 use Rattle.index.specs.Lookups.{place_by}
@@ -45,8 +44,8 @@ pub record IndexRead (L n : ℕ) (blocks : List BlockAddr) (separators : List (L
   pub separator : (i : ℕ) → i < n → separator_in f i ≡ get_or separators i []
   -- separator i stands after the pairs and the separators before it; other ids have none
   pub place : (i : ℕ) → i < n
-      → place_by L (opened_of f) f i ≡ Part (4 + pair_len * n + lengths_before separators i) (length (get_or separators i []))
-  pub no_place : (i : ℕ) → n ≤ i → place_by L (opened_of f) f i ≡ Missing
+      → place_by L (opened_of f) f i ≡ Some (4 + pair_len * n + lengths_before separators i, length (get_or separators i []))
+  pub no_place : (i : ℕ) → n ≤ i → place_by L (opened_of f) f i ≡ None
 
 -- what a listing in the index f of n blocks answers and leaves, for every table and every room
 pub record ListingRead (n : ℕ) (separators : List (List ℕ)) (f : List ℕ) : Type 0 where
