@@ -1,10 +1,9 @@
--- All that document 01's program `blocks` prints of the bytes f that it reads: pieces, one after the other.
-use Rattle.std.specs.Prelude.{ℕ, zero, suc, ◌≤◌, ◌≡◌, cond, ltb, length, get_or}
+-- All that the program `blocks` prints of the bytes f that it reads: pieces, one after the other.
+use Rattle.std.specs.Prelude.{ℕ, zero, suc, ◌≤◌, ◌≡◌, Result, Ok, Err, cond, ltb, length, get_or}
 use mathlib.Core.List.{List, [], ◌∷◌, flatten}
-use Rattle.std.proofs.lemmas.List.Edits.{sets}
 use Rattle.index.specs.declared.SSTableIndexV3.{SSTableIndexV3}
-use Rattle.index.specs.declared.Loaded.{Loaded}
-use Rattle.index.specs.declared.Loaded.TheVariants.{Opened, Refused}
+use Rattle.layout.specs.declared.refusals.Refusal.{Refusal}
+use Rattle.layout.specs.Refusals.{number_of}
 use Rattle.index.specs.Parts.{separator_in}
 use Rattle.index.specs.Opening.{load_def}
 use Rattle.block_lines.specs.Opened.{opened_block}
@@ -24,9 +23,9 @@ lines_from opened f id zero = []
 lines_from opened f id (suc count) = line_at opened f id ∷ lines_from opened f (suc id) count
 
 -- by what opening answers: a line per block, or the one of the refusal
-abbrev pub loaded_pieces : Loaded → List ℕ → List (List ℕ)
-loaded_pieces (Opened opened) f = lines_from opened f 0 opened.n
-loaded_pieces (Refused k) f = refused_line k ∷ []
+abbrev pub loaded_pieces : Result SSTableIndexV3 Refusal → List ℕ → List (List ℕ)
+loaded_pieces (Ok opened) f = lines_from opened f 0 opened.n
+loaded_pieces (Err refusal) f = refused_line (number_of refusal) ∷ []
 
 unfoldable pub blocks_pieces : List ℕ → List (List ℕ)
 blocks_pieces f = cond (ltb max_len (length f)) (too_long_line ∷ []) (loaded_pieces (load_def f) f)
@@ -39,8 +38,7 @@ blocks_text f = flatten (blocks_pieces f)
 abbrev pub piece_at : List ℕ → ℕ → List ℕ
 piece_at f i = get_or (blocks_pieces f) i []
 
--- a call that writes piece i to the front of `out`; r is its length
-pub record WritesPiece (f : List ℕ) (i : ℕ) (out written : List ℕ) (r : ℕ) : Type 0 where
-  pub whole : r ≡ length (piece_at f i)
-  pub front : written ≡ sets out 0 (piece_at f i)
-  pub short : r ≤ line_len
+-- a text that is piece i; no piece is longer than the longest line
+pub record IsPiece (f : List ℕ) (i : ℕ) (text : List ℕ) : Type 0 where
+  pub whole : text ≡ piece_at f i
+  pub short : length text ≤ line_len

@@ -1,19 +1,21 @@
 // What the program `blocks` prints: a line per block of an index, or one line that says why there is none.
 #![tactic(auto)]
 
-ghost use Rattle.std.specs.Prelude.{◌≡◌, ◌≤◌, ◌<◌, length};
-ghost use Rattle.std.proofs.lemmas.List.Edits.{sets};
+pub mod text;
+
+ghost use Rattle.std.specs.Prelude.{◌≡◌, ◌<◌, length};
 ghost use Rattle.group.specs.Legal.{NumbersOk};
-ghost use Rattle.line_text.specs.Lines.{line_len};
+ghost use Rattle.line_text.specs.Lines.{line_of};
 ghost use Rattle.index.specs.Opening.{load_def, Opens};
 ghost use Rattle.block_lines.specs.Opened.{opened_block};
-ghost use Rattle.block_lines.specs.Text.{line_at, blocks_pieces, WritesPiece};
+ghost use Rattle.block_lines.specs.Text.{line_at, blocks_pieces, IsPiece};
+ghost use Rattle.block_lines.specs.Pieces.{piece_text};
 
 use group::BlockAddr;
-use index::{BlockById, Loaded, SSTableIndexV3};
-
-// No line of an index is longer: an id of 5 digits, three numbers of 15, a key of 1,024 bytes, five signs between and behind.
-pub const LINE_LEN: usize = 2103;
+use index::SSTableIndexV3;
+use layout::refusals::Refusal;
+use line_text::{Line, Refused, Separator};
+use text::Piece;
 
 // A longer input isn't taken.
 pub const MAX_LEN: usize = 65536;
@@ -23,30 +25,25 @@ fn block(opened: SSTableIndexV3, data: &[u8], id: usize) -> BlockAddr
     requires { Opens «data».now opened × (id < opened.n) }
     ensures { (result ≡ opened_block opened «data».now id) × NumbersOk result }
 {
-    let BlockById::Block(block) = index_lookup::get_block(opened, data, id as u64) else {
-        // No block of an opened index is refused; a refusal's address is zero.
-        return BlockAddr {
-            start: 0,
-            end: 0,
-            first_ordinal: 0,
-        };
-    };
-    block
+    index_lookup::get_block(opened, data, id as u64).unwrap()
 }
 
-// Writes the line of a block of an opened index to the front of `out`. Returns its length.
-pub fn line(opened: SSTableIndexV3, data: &[u8], id: usize, out: &mut [u8]) -> usize
-    requires { Opens «data».now opened × (id < opened.n) × (line_len ≤ length out.old) }
-    ensures value { result ≡ length (line_at opened «data».now id) }
-    ensures out_after { out.new ≡ sets out.old 0 (line_at opened «data».now id) }
+// The line of a block of an opened index.
+pub fn line(opened: SSTableIndexV3, data: &[u8], id: usize) -> Line
+    requires { Opens «data».now opened × (id < opened.n) }
+    ensures { line_of result.id result.block result.separator.bytes.now ≡ line_at opened «data».now id }
 {
-    let addr = block(opened, data, id);
-    let separator = index_lookup::separator(opened, data, id as u64);
-    line_text::put_line(out, id, addr, separator)
+    let block = block(opened, data, id);
+    let bytes = index_lookup::separator(opened, data, id as u64);
+    Line {
+        id,
+        block,
+        separator: Separator { bytes },
+    }
 }
 
 // How many pieces the text has for these bytes, of which `loaded` is what opening answers.
-pub fn pieces(loaded: Loaded, data: &[u8]) -> usize
+pub fn pieces(loaded: Result<SSTableIndexV3, Refusal>, data: &[u8]) -> usize
     requires { loaded ≡ load_def «data».now }
     ensures { result ≡ length (blocks_pieces «data».now) }
 {
@@ -54,21 +51,21 @@ pub fn pieces(loaded: Loaded, data: &[u8]) -> usize
         return 1;
     }
     match loaded {
-        Loaded::Opened(opened) => opened.n,
-        Loaded::Refused(_) => 1,
+        Ok(opened) => opened.n,
+        Err(_) => 1,
     }
 }
 
-// Writes piece i of the text to the front of `out`. Returns its length.
-pub fn piece(loaded: Loaded, data: &[u8], i: usize, out: &mut [u8]) -> usize
-    requires { (loaded ≡ load_def «data».now) × (i < length (blocks_pieces «data».now)) × (line_len ≤ length out.old) }
-    ensures { WritesPiece «data».now i out.old out.new result }
+// Piece i of the text.
+pub fn piece(loaded: Result<SSTableIndexV3, Refusal>, data: &[u8], i: usize) -> Piece
+    requires { (loaded ≡ load_def «data».now) × (i < length (blocks_pieces «data».now)) }
+    ensures { IsPiece «data».now i (piece_text result) }
 {
     if data.len() > MAX_LEN {
-        return line_text::put_too_long(out);
+        return Piece::TooLong;
     }
     match loaded {
-        Loaded::Opened(opened) => line(opened, data, i, out),
-        Loaded::Refused(row) => line_text::put_refusal(out, row),
+        Ok(opened) => Piece::Block(line(opened, data, i)),
+        Err(refusal) => Piece::Refused(Refused { refusal }),
     }
 }

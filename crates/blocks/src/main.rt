@@ -1,4 +1,4 @@
-// Program `blocks` of document 01, run on its index of 85 bytes.
+// Program `blocks` on an index of 85 bytes.
 #![tactic(auto)]
 
 use std::io;

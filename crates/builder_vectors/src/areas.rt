@@ -1,95 +1,52 @@
-// Areas of numbers and of bytes: filled, copied and compared.
-pub const NUMBER_MARK: u64 = 0xa5a5_a5a5_a5a5_a5a5;
+// The areas that are lent to a builder: five numbers for each block, and the bytes of the keys.
+use std::alloc::{AllocError, Global};
+
+const NUMBER_MARK: u64 = 0xa5a5_a5a5_a5a5_a5a5;
 
 pub const MARK: u8 = 0xa5;
 
-pub fn fill_numbers(area: &mut [u64]) {
-    let len = area.len();
-    let mut i: usize = 0;
-    while i < len {
-        area[i] = NUMBER_MARK;
-        i += 1;
-    }
+#[derive(Clone, PartialEq, Eq, Drop)]
+pub struct Areas {
+    pub blocks: Vec<u64>,
+    pub keys: Vec<u8>,
 }
 
-pub fn fill_bytes(area: &mut [u8]) {
-    let len = area.len();
-    let mut i: usize = 0;
-    while i < len {
-        area[i] = MARK;
-        i += 1;
+impl Areas {
+    // Areas full of marks.
+    pub fn new(alloc: Global, blocks: usize, keys: usize) -> Result<Areas, AllocError> {
+        Ok(Areas {
+            blocks: vec![in alloc; NUMBER_MARK; blocks]?,
+            keys: vec![in alloc; MARK; keys]?,
+        })
     }
-}
 
-// Puts `from` at the front of `to`, as far as there is room.
-pub fn copy_numbers(from: &[u64], to: &mut [u64]) {
-    let mut i: usize = 0;
-    while i < from.len() {
-        if i >= to.len() {
-            return;
+    pub fn with(alloc: Global, blocks: &[u64], keys: &[u8]) -> Result<Areas, AllocError> {
+        Ok(Areas {
+            blocks: blocks.to_vec(alloc)?,
+            keys: keys.to_vec(alloc)?,
+        })
+    }
+
+    // Block i's start, end and first ordinal, and its key's offset and length.
+    pub fn record(&self, i: usize) -> Option<[u64; 5]> {
+        self.blocks.as_chunks::<5>().0.get(i).copied()
+    }
+
+    // Where the keys of n blocks end.
+    pub fn keys_end(&self, n: usize) -> Option<u64> {
+        if n == 0 {
+            return Some(0);
         }
-        to[i] = from[i];
-        i += 1;
+        let [.., offset, len] = self.record(n - 1)?;
+        offset.checked_add(len)
     }
-}
-
-// Puts `from` at the front of `to`, as far as there is room.
-pub fn copy_bytes(from: &[u8], to: &mut [u8]) {
-    let mut i: usize = 0;
-    while i < from.len() {
-        if i >= to.len() {
-            return;
-        }
-        to[i] = from[i];
-        i += 1;
-    }
-}
-
-fn same_numbers(one: &[u64], other: &[u64]) -> bool {
-    let len = one.len();
-    if len != other.len() {
-        return false;
-    }
-    let mut i: usize = 0;
-    while i < len {
-        if one[i] != other[i] {
-            return false;
-        }
-        i += 1;
-    }
-    true
 }
 
 // Whether two areas are the same but for the places from `from` up to, not including, `end`.
-pub fn numbers_same_but(old: &[u64], new: &[u64], from: usize, end: usize) -> bool {
-    if from > end {
-        return false;
-    }
-    if end > old.len() {
-        return false;
-    }
-    if end > new.len() {
-        return false;
-    }
-    if !same_numbers(&old[0..from], &new[0..from]) {
-        return false;
-    }
-    same_numbers(&old[end..], &new[end..])
-}
-
-// Whether two areas are the same but for the places from `from` up to, not including, `end`.
-pub fn bytes_same_but(old: &[u8], new: &[u8], from: usize, end: usize) -> bool {
-    if from > end {
-        return false;
-    }
-    if end > old.len() {
-        return false;
-    }
-    if end > new.len() {
-        return false;
-    }
-    if !check::same(&old[0..from], &new[0..from]) {
-        return false;
-    }
-    check::same(&old[end..], &new[end..])
+pub fn are_same_but<T: PartialEq>(old: &[T], new: &[T], from: usize, end: usize) -> bool {
+    from <= end
+        && end <= old.len()
+        && end <= new.len()
+        && &old[..from] == &new[..from]
+        && &old[end..] == &new[end..]
 }

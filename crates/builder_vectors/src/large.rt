@@ -1,16 +1,19 @@
 // A builder that takes as many blocks as there may be, and its index.
-ghost use Rattle.std.specs.Prelude.{◌≤◌};
+ghost use Rattle.std.specs.Prelude.{◌≤◌, ◌<◌};
 
-use crate::{areas, cases};
-use builder::SSTableIndexBuilder;
+use crate::lent::Lent;
 use group::BlockAddr;
+use std::alloc::{AllocError, Global};
+use vectors::told::is_told;
+
+const MOST_BLOCKS: u64 = 65536;
 
 // Areas with room for one block more than there may be.
 const ROOM: usize = 327685;
 
 const KEY_ROOM: usize = 262148;
 
-const LONGEST_INDEX: usize = 1100000;
+const LONGEST_INDEX: u64 = 1100000;
 
 // The prime 2^56 - 5.
 const MODULUS: u64 = 72057594037927931;
@@ -28,108 +31,60 @@ fn ordinal_of(i: u64) -> u64
     1000 * i + 617 * i % 1000
 }
 
-// Adds block i by the rule. Returns whether it was taken.
-fn add_one(i: u64, blocks: &mut [u64; ROOM], keys: &mut [u8; KEY_ROOM]) -> bool
-    requires { i ≤ 65535 }
-{
-    let key = [0, 0, (i / 256 % 256) as u8, (i % 256) as u8];
-    let block = BlockAddr {
-        start: start_of(i),
-        end: start_of(i + 1),
-        first_ordinal: ordinal_of(i),
-    };
-    let builder = SSTableIndexBuilder::new(i as usize);
-    let got = cases::read_answer(builder_add::add_block(builder, blocks, keys, &key, block));
-    if got.no != 0 {
-        return false;
+// A builder that took `count` blocks by the rule.
+fn filled(alloc: Global, count: u64) -> Result<Option<Lent>, AllocError> {
+    if count > MOST_BLOCKS {
+        return Ok(None);
     }
-    got.n as u64 == i + 1
-}
-
-// Adds blocks by the rule, 0 to `count` - 1. Returns whether each was taken; there are no more than 65,536.
-fn add_all(count: u64, blocks: &mut [u64; ROOM], keys: &mut [u8; KEY_ROOM]) -> bool {
-    if count > 65536 {
-        return false;
-    }
-    let mut i: u64 = 0;
-    while i < count {
-        if !add_one(i, blocks, keys) {
-            return false;
+    let mut lent = Lent::new(alloc, ROOM, KEY_ROOM)?;
+    for i in 0..count {
+        let block = BlockAddr {
+            start: start_of(i),
+            end: start_of(i + 1),
+            first_ordinal: ordinal_of(i),
+        };
+        if lent.add(&(i as u32).to_be_bytes(), block).is_err() || lent.count() != i + 1 {
+            return Ok(None);
         }
-        i += 1;
     }
-    true
+    Ok(Some(lent))
 }
 
-// Whether one more block gets the number given.
-fn is_last(given: &[u64], key: &[u8], blocks: &mut [u64; ROOM], keys: &mut [u8; KEY_ROOM]) -> bool {
-    if given.len() != 5 {
-        return false;
-    }
-    let builder = SSTableIndexBuilder::new(given[0] as usize);
-    let block = cases::block_of(&given[1..]);
-    let got = cases::read_answer(builder_add::add_block(builder, blocks, keys, key, block));
-    got.no == given[4]
-}
-
-// Whether the blocks of the rule are taken, in areas with room for one more, and the next one gets the number given.
-pub fn is_same(given: &[u64], key: &[u8]) -> bool {
-    let mut blocks = [0u64; ROOM];
-    let mut keys = [0u8; KEY_ROOM];
-    if !add_all(vectors::number(given, 0), &mut blocks, &mut keys) {
-        return false;
-    }
-    is_last(given, key, &mut blocks, &mut keys)
+// COUNT START END ORD NO, and the key: the blocks of the rule are taken, and one more add gets this number
+pub fn adds(alloc: Global, given: &[u64], key: &[u8]) -> Result<bool, AllocError> {
+    let [count, start, end, first_ordinal, due @ ..] = given else {
+        return Ok(false);
+    };
+    let Some(mut lent) = filled(alloc, *count)? else {
+        return Ok(false);
+    };
+    let block = BlockAddr {
+        start: *start,
+        end: *end,
+        first_ordinal: *first_ordinal,
+    };
+    Ok(is_told(due, lent.add(key, block).map(|()| [])))
 }
 
 // The remainder of the number that the bytes spell, the first one highest.
 fn remainder(bytes: &[u8]) -> u64 {
     let mut h: u64 = 0;
-    let mut i: usize = 0;
-    while i < bytes.len() {
-        h = (256 * h + bytes[i] as u64) % MODULUS;
-        i += 1;
+    for byte in bytes {
+        h = (256 * h + u64::from(*byte)) % MODULUS;
     }
     h
 }
 
-// Whether a finish of n blocks answers what is given, and the index has the remainder.
-fn is_written(
-    n: usize,
-    given: &[u64],
-    expected: u64,
-    blocks: &[u64],
-    keys: &[u8],
-    out: &mut [u8],
-) -> bool {
-    if !cases::finishes(n, given, blocks, keys, out) {
-        return false;
+// COUNT ROOM NO TOTAL DIRECTORY REMAINDER: the blocks of the rule are taken, and a finish into ROOM bytes answers this
+pub fn finishes(alloc: Global, given: &[u64]) -> Result<bool, AllocError> {
+    let [count, due @ .., expected] = given else {
+        return Ok(false);
+    };
+    let Some(lent) = filled(alloc, *count)? else {
+        return Ok(false);
+    };
+    match lent.finished(alloc, due, LONGEST_INDEX)? {
+        Some(index) => Ok(remainder(&index) == *expected),
+        None => Ok(false),
     }
-    let end = vectors::number(given, 2) as usize;
-    remainder(vectors::part(out, 0, end)) == expected
-}
-
-// Whether the finish of a builder over the areas answers what is given behind its count.
-fn is_finished(
-    given: &[u64],
-    blocks: &[u64; ROOM],
-    keys: &[u8; KEY_ROOM],
-    out: &mut [u8; LONGEST_INDEX],
-) -> bool {
-    if given.len() != 6 {
-        return false;
-    }
-    let n = given[0] as usize;
-    is_written(n, &given[1..5], given[5], blocks, keys, out)
-}
-
-// Whether the blocks of the rule are taken, and their finish gives the numbers and the index given.
-pub fn is_index(given: &[u64]) -> bool {
-    let mut blocks = [0u64; ROOM];
-    let mut keys = [0u8; KEY_ROOM];
-    let mut out = [areas::MARK; LONGEST_INDEX];
-    if !add_all(vectors::number(given, 0), &mut blocks, &mut keys) {
-        return false;
-    }
-    is_finished(given, &blocks, &keys, &mut out)
 }

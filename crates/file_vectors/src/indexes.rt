@@ -2,53 +2,41 @@
 ghost use Rattle.index.specs.Opening.{Opens};
 
 use crate::files;
-use crate::files::FILE_LEN;
-use crate::text::{behind, is_refusal};
-use block_lines::LINE_LEN;
-use index::{Loaded, SSTableIndexV3};
+use index::SSTableIndexV3;
+use line_text::Refused;
+use std::alloc::{AllocError, Global};
 use std::rt::Files;
 
-// Whether the text is the lines of the blocks.
-fn same_blocks(opened: SSTableIndexV3, data: &[u8], expected: &[u8]) -> bool
+// The lines of the blocks.
+fn lines(alloc: Global, opened: SSTableIndexV3, data: &[u8]) -> Result<String, AllocError>
     requires { Opens «data».now opened }
 {
-    let mut text = [0u8; LINE_LEN];
-    let mut at: usize = 0;
-    let mut id: usize = 0;
-    while id < opened.n {
-        let len = block_lines::line(opened, data, id, &mut text);
-        at = behind(expected, at, &text[..len]);
-        id += 1;
+    let mut text = String::new(alloc);
+    for id in 0..opened.n {
+        let line = block_lines::line(opened, data, id);
+        write!(text, "{line}")?;
     }
-    at == expected.len()
+    Ok(text)
 }
 
-// Whether the text is the line of this refusal, and the check of the file gives its number too.
-fn same_refusal(data: &[u8], expected: &[u8], no: u32) -> bool {
-    if canonical::check_canonical(data) != no {
-        return false;
-    }
-    is_refusal(expected, no)
+// Whether the text is the lines of the blocks, or that of the refusal, which the check of the file gives too.
+fn is_text(alloc: Global, data: &[u8], expected: &[u8]) -> Result<bool, AllocError> {
+    Ok(match index_load::load(data) {
+        Ok(opened) => lines(alloc, opened, data)?.as_bytes() == expected,
+        Err(refusal) => {
+            canonical::check_canonical(data) == Err(refusal)
+                && Refused { refusal }.to_string(alloc)?.as_bytes() == expected
+        }
+    })
 }
 
-fn same_answer(data: &[u8], expected: &[u8]) -> bool {
-    match index_load::load(data) {
-        Loaded::Opened(opened) => same_blocks(opened, data, expected),
-        Loaded::Refused(no) => same_refusal(data, expected, no),
+// Whether STEM.index opens as STEM.expected says.
+pub fn is_same(rt: &(impl Files + AllocGlobal), stem: &str) -> Result<bool, AllocError> {
+    match (
+        files::read(rt, stem, "index")?,
+        files::read(rt, stem, "expected")?,
+    ) {
+        (Some(file), Some(expected)) => is_text(rt.alloc(), &file, &expected),
+        _ => Ok(false),
     }
-}
-
-// Whether NAME.index opens as NAME.expected says.
-pub fn same(rt: &impl Files, name: &[u8]) -> bool {
-    let mut file = [0u8; FILE_LEN];
-    let mut expected = [0u8; FILE_LEN];
-    let len = files::read(rt, name, &mut file);
-    if len == file.len() {
-        return false;
-    }
-    let expected_len = files::read_beside(rt, name, b".expected", &mut expected);
-    if expected_len == expected.len() {
-        return false;
-    }
-    same_answer(&file[..len], &expected[..expected_len])
 }

@@ -3,58 +3,46 @@
 
 mod files;
 mod indexes;
+mod marks;
 mod questions;
-mod tables;
-mod text;
 
 use std::rt::Files;
 use std::{env, io};
-use vectors::tally;
-use vectors::tally::{ROWS, Tally};
+use vectors::tally::Tallies;
 
-// The tallies with those of the file of this name. A name of no kind differs.
-fn replay(rt: &impl Files, name: &[u8], tallies: [Tally; ROWS]) -> [Tally; ROWS] {
-    if files::ends_with(name, b".index") {
-        return tally::counted(tallies, 0, indexes::same(rt, name));
-    }
-    if files::ends_with(name, b".questions") {
-        return questions::counted(rt, name, tallies, 1);
-    }
-    if files::ends_with(name, b".automaton") {
-        return tally::counted(tallies, 2, tables::same(rt, name));
-    }
-    tally::counted(tallies, ROWS, false)
-}
+const ROWS: [&str; 3] = ["index files", "questions", "automata"];
 
-fn print_name(rt: &impl Print, name: &[u8], is_same: bool) -> io::Result<()> {
-    rt.write_all(name)?;
-    if is_same {
-        rt.println(" ok")
-    } else {
-        rt.println(" differs")
-    }
-}
+const ROW_OF_INDEXES: usize = 0;
 
-// Replays the file of this name.
-fn take(
-    rt: &(impl Files + Print),
-    name: &[u8],
-    tallies: [Tally; ROWS],
-) -> io::Result<[Tally; ROWS]> {
-    let next = replay(rt, name, tallies);
-    let before = tallies[ROWS - 1];
-    let after = next[ROWS - 1];
-    print_name(rt, name, before.differ == after.differ)?;
-    Ok(next)
+const ROW_OF_QUESTIONS: usize = 1;
+
+const ROW_OF_AUTOMATA: usize = 2;
+
+// Counts the file of this name. A name of no kind differs.
+fn replay(rt: &(impl Files + AllocGlobal), name: &str, tallies: &mut Tallies) -> io::Result<()> {
+    match name.split_once('.') {
+        Some((stem, "index")) => tallies.count(Some(ROW_OF_INDEXES), indexes::is_same(rt, stem)?),
+        Some((stem, "questions")) => questions::count(rt, stem, tallies)?,
+        Some((stem, "automaton")) => tallies.count(
+            Some(ROW_OF_AUTOMATA),
+            marks::is_same(rt, stem)?,
+        ),
+        _ => tallies.count(None, false),
+    }
+    Ok(())
 }
 
 fn main(rt: HostRuntime) -> io::Result<()> {
-    let mut tallies = tally::none();
+    let mut tallies = Tallies::new(rt.alloc(), &ROWS)?;
     for name in env::args(&rt)?.skip(1) {
-        tallies = take(&rt, name.as_bytes(), tallies)?;
+        let before = tallies.all.differ;
+        replay(&rt, name.as_str(), &mut tallies)?;
+        let word = if tallies.all.differ == before {
+            "ok"
+        } else {
+            "differs"
+        };
+        println!(rt; "{name} {word}")?;
     }
-    tally::print_row(&rt, b"index files", tallies, 0)?;
-    tally::print_row(&rt, b"questions", tallies, 1)?;
-    tally::print_row(&rt, b"automata", tallies, 2)?;
-    tally::print_all(&rt, tallies)
+    tallies.print(&rt)
 }

@@ -1,74 +1,60 @@
 // Lookups in a file as it was opened: whether the answers are those of the list.
-use crate::answers;
-use crate::answers::Answer;
-use index::SSTableIndexV3;
+use crate::opened::Opened;
+use store::Located;
+use vectors::told::is_told;
 
-// ID NO START END ORD, without the id; zeros where the line ends before.
-fn due_of_id(given: &[u64]) -> Answer {
-    Answer {
-        no: vectors::number(given, 1),
-        id: 0,
-        start: vectors::number(given, 2),
-        end: vectors::number(given, 3),
-        ord: vectors::number(given, 4),
-    }
+fn numbers(located: Located) -> [u64; 4] {
+    let addr = located.addr;
+    [
+        located.block_id as u64,
+        addr.start,
+        addr.end,
+        addr.first_ordinal,
+    ]
 }
 
 // ID NO START END ORD
-pub fn by_id(opened: SSTableIndexV3, data: &[u8], given: &[u64]) -> bool {
-    if given.len() != 5 {
+pub fn by_id(opened: &Opened, given: &[u64]) -> bool {
+    let [id, due @ ..] = given else {
         return false;
-    }
-    let got = answers::of_block(index_lookup::get_block(opened, data, given[0]));
-    answers::equal(got, due_of_id(given))
-}
-
-// NO ID START END ORD; zeros where the line ends before.
-fn due(given: &[u64]) -> Answer {
-    Answer {
-        no: vectors::number(given, 0),
-        id: vectors::number(given, 1),
-        start: vectors::number(given, 2),
-        end: vectors::number(given, 3),
-        ord: vectors::number(given, 4),
-    }
+    };
+    let answer = index_lookup::get_block(opened.record, &opened.file, *id);
+    is_told(
+        due,
+        answer.map(|addr| [addr.start, addr.end, addr.first_ordinal]),
+    )
 }
 
 // ORDINAL NO ID START END ORD
-pub fn by_ord(opened: SSTableIndexV3, data: &[u8], given: &[u64]) -> bool {
-    if given.len() != 6 {
+pub fn by_ord(opened: &Opened, given: &[u64]) -> bool {
+    let [ord, due @ ..] = given else {
         return false;
-    }
-    let got = answers::of_located(index_lookup::locate_with_ord(opened, data, given[0]));
-    answers::equal(got, due(&given[1..]))
+    };
+    let answer = index_lookup::locate_with_ord(opened.record, &opened.file, *ord);
+    is_told(due, answer.map(numbers))
 }
 
 // NO ID
-pub fn by_key(opened: SSTableIndexV3, data: &[u8], key: &[u8], given: &[u64]) -> bool {
-    if given.len() != 2 {
-        return false;
-    }
-    let got = answers::of_id(index_lookup::locate_with_key(opened, data, key));
-    answers::equal(got, due(given))
+pub fn by_key(opened: &Opened, key: &[u8], given: &[u64]) -> bool {
+    let answer = index_lookup::locate_with_key(opened.record, &opened.file, key);
+    is_told(given, answer.map(|id| [id as u64]))
 }
 
 // NO ID START END ORD
-pub fn block_by_key(opened: SSTableIndexV3, data: &[u8], key: &[u8], given: &[u64]) -> bool {
-    if given.len() != 5 {
-        return false;
-    }
-    let got = answers::of_located(index_lookup::get_block_with_key(opened, data, key));
-    answers::equal(got, due(given))
+pub fn block_by_key(opened: &Opened, key: &[u8], given: &[u64]) -> bool {
+    let answer = index_lookup::get_block_with_key(opened.record, &opened.file, key);
+    is_told(given, answer.map(numbers))
 }
 
-// ID FOUND OFFSET LEN: the place, and the part that stands there. A missing one is the empty part at 0.
-pub fn separator(opened: SSTableIndexV3, data: &[u8], given: &[u64]) -> bool {
-    if given.len() != 4 {
+// ID FOUND OFFSET LEN: the place, and the part that stands there
+pub fn separator(opened: &Opened, given: &[u64]) -> bool {
+    let [id, due @ ..] = given else {
         return false;
-    }
-    let got = answers::of_place(index_lookup::separator_place(opened, data, given[0]));
-    if !answers::equal(got, due_of_id(given)) {
-        return false;
-    }
-    answers::is_part(data, got, index_lookup::separator(opened, data, given[0]))
+    };
+    let place = index_lookup::separator_place(opened.record, &opened.file, *id);
+    let numbers = match place {
+        Some((offset, len)) => [1, offset as u64, len as u64],
+        None => [0; 3],
+    };
+    due == numbers.as_slice() && opened.has_separator(*id, place)
 }

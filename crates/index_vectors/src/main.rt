@@ -1,96 +1,156 @@
-// Replays a list of files and lookups, with answers of the Rust and of a plain model of document 01, against the proved opening and
+// Replays a list of files and lookups, with answers of the Rust and of a plain model, against the proved opening and
 // lookups, and counts the lines whose answers differ.
 #![tactic(auto)]
 
-mod answers;
 mod batches;
 mod exact;
-mod files;
 mod free;
-mod records;
+mod opened;
 mod rule;
 
-use records::State;
+use opened::Opened;
+use std::alloc::{AllocError, Global};
 use std::io;
-use vectors::driver;
-use vectors::driver::{Case, Run};
+use vectors::driver::Kind;
+use vectors::{Case, driver};
 
-// Room for a file of 65,537 blocks.
-const FILE_LEN: usize = 740000;
+// Each kind of line with the row of its tally and how many byte strings its lines have.
+const KINDS: [Kind; 16] = [
+    Kind {
+        letter: b'f',
+        row: Some(0),
+        strings: 1,
+    },
+    Kind {
+        letter: b'c',
+        row: Some(1),
+        strings: 1,
+    },
+    Kind {
+        letter: b'g',
+        row: Some(2),
+        strings: 0,
+    },
+    Kind {
+        letter: b'i',
+        row: Some(3),
+        strings: 0,
+    },
+    Kind {
+        letter: b'o',
+        row: Some(4),
+        strings: 0,
+    },
+    Kind {
+        letter: b'k',
+        row: Some(5),
+        strings: 1,
+    },
+    Kind {
+        letter: b'a',
+        row: Some(6),
+        strings: 1,
+    },
+    Kind {
+        letter: b'p',
+        row: Some(7),
+        strings: 0,
+    },
+    Kind {
+        letter: b'I',
+        row: Some(8),
+        strings: 0,
+    },
+    Kind {
+        letter: b'O',
+        row: Some(8),
+        strings: 0,
+    },
+    Kind {
+        letter: b'K',
+        row: Some(8),
+        strings: 1,
+    },
+    Kind {
+        letter: b'A',
+        row: Some(8),
+        strings: 1,
+    },
+    Kind {
+        letter: b'P',
+        row: Some(8),
+        strings: 0,
+    },
+    Kind {
+        letter: b'b',
+        row: Some(9),
+        strings: 1,
+    },
+    Kind {
+        letter: b'B',
+        row: Some(8),
+        strings: 1,
+    },
+    Kind {
+        letter: b'm',
+        row: None,
+        strings: 0,
+    },
+];
 
-// What a line leaves, the file in the front of `file`, and whether its answers are those of the proved functions.
-fn take(kind: u8, given: &[u64], text: &[u8], state: State, file: &mut [u8]) -> State {
-    match kind {
-        b'f' => files::open(state, given, text, file),
-        b'c' => files::change(state, given, text, file),
-        b'g' => files::by_rule(state, given, file),
-        b'm' => records::set(state, given),
-        _ => look_up(kind, state, given, text, file),
+const ROWS: [&str; 10] = [
+    "files",
+    "changed files",
+    "large files",
+    "ids",
+    "ordinals",
+    "keys",
+    "addresses by key",
+    "separators",
+    "left free",
+    "batches",
+];
+
+// Whether a line's answers are those of the proved functions.
+fn is_same(alloc: Global, case: &Case, opened: &mut Opened) -> Result<bool, AllocError> {
+    let given = case.numbers.as_slice();
+    let text = case.string(0);
+    match case.kind {
+        b'f' => opened.opens_file(alloc, given, text),
+        b'c' => opened.opens_changed(given, text),
+        b'g' => opened.opens_by_rule(alloc, given),
+        b'm' => Ok(opened.sets_record(given)),
+        b'b' => batches::exact(alloc, opened, text, given),
+        b'B' => batches::left_free(alloc, opened, text, given),
+        _ => Ok(is_found(case, opened)),
     }
 }
 
-fn look_up(kind: u8, state: State, given: &[u64], text: &[u8], file: &[u8]) -> State {
-    let len = state.len;
-    let opened = state.opened;
-    if len > file.len() {
-        return state.with(false);
-    }
-    let data = &file[0..len];
-    let same = match kind {
-        b'i' => exact::by_id(opened, data, given),
-        b'o' => exact::by_ord(opened, data, given),
-        b'k' => exact::by_key(opened, data, text, given),
-        b'a' => exact::block_by_key(opened, data, text, given),
-        b'p' => exact::separator(opened, data, given),
-        b'I' => free::by_id(opened, data, given),
-        b'O' => free::by_ord(opened, data, given),
-        b'K' => free::by_key(opened, data, text, given),
-        b'A' => free::block_by_key(opened, data, text, given),
-        b'P' => free::separator(opened, data, given),
-        b'b' => batches::exact(opened, data, text, given),
-        b'B' => batches::left_free(opened, data, text, given),
+// Whether a lookup's answer is the one given, or one that is allowed.
+fn is_found(case: &Case, opened: &Opened) -> bool {
+    let given = case.numbers.as_slice();
+    let text = case.string(0);
+    match case.kind {
+        b'i' => exact::by_id(opened, given),
+        b'o' => exact::by_ord(opened, given),
+        b'k' => exact::by_key(opened, text, given),
+        b'a' => exact::block_by_key(opened, text, given),
+        b'p' => exact::separator(opened, given),
+        b'I' => free::by_id(opened, given),
+        b'O' => free::by_ord(opened, given),
+        b'K' => free::by_key(opened, text, given),
+        b'A' => free::block_by_key(opened, text, given),
+        b'P' => free::separator(opened, given),
         _ => false,
-    };
-    state.with(same)
-}
-
-fn step(case: Case, state: State, file: &mut [u8; FILE_LEN]) -> State {
-    let numbers = case.numbers;
-    let bytes = case.bytes;
-    let given = driver::given(&numbers, case.count);
-    take(
-        case.kind,
-        given,
-        vectors::part(&bytes, 0, case.first),
-        state,
-        file,
-    )
-}
-
-fn replay(rt: &impl Print, text: &[u8]) -> io::Result<()> {
-    let mut file = [0u8; FILE_LEN];
-    let mut state = records::start();
-    let mut run = Run::start();
-    while run.at < text.len() {
-        let case = driver::case_at(
-            text,
-            run.at,
-            b"f01 c11 g20 i30 o40 k51 a61 p70 I80 O80 K81 A81 P80 b91 B81 m-0",
-        );
-        state = step(case, state, &mut file);
-        run = run.counted(case, state.same);
     }
-    run.print(
-        rt,
-        b"files,changed files,large files,ids,ordinals,keys,addresses by key,separators,left free,batches",
-    )
 }
 
 fn main(rt: HostRuntime) -> io::Result<()> {
-    let mut text = [0u8; driver::TEXT_LEN];
-    let n = driver::read(&rt, &mut text)?;
-    if n < driver::TEXT_LEN {
-        replay(&rt, driver::front(&text, n))?;
-    }
-    Ok(())
+    let mut opened = Opened::new(rt.alloc());
+    driver::replay(
+        &rt,
+        &KINDS,
+        &ROWS,
+        |case| Ok(is_same(rt.alloc(), case, &mut opened)?),
+    )
 }

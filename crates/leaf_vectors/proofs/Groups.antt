@@ -23,6 +23,10 @@ Pairs r o fs d l p i = Packed d l p (range_bit r o i) (group_val r o (take i (ra
 abbrev pub PairsRange : ℕ → ℕ → List ℕ → List ℕ → List ℕ → BitPacker → ℕ → Type 0
 PairsRange r o fs d l p i = Packed d l p (ordinal_bit r o i) (group_val r o (take (suc i) (ranges fs)) (take i (ordinals fs)))
 
+-- behind the last pair all are taken
+pub pairs-all : (r o : ℕ) (fs d l : List ℕ) (p : BitPacker) (i n : ℕ) → Pairs r o fs d l p i → i ≡ n → Pairs r o fs d l p n
+pairs-all r o fs d l p i n k e = rw e at k
+
 -- what `write` ensures of a field
 abbrev Wrote : BitPacker → List ℕ → ℕ → ℕ → BitPacker → List ℕ → Type 0
 Wrote p l v n p' l' = (p' ≡ packed_with p v n) × (l' ≡ sets l p.written (leaving p v n))
@@ -31,6 +35,9 @@ Wrote p l v n p' l' = (p' ≡ packed_with p v n) × (l' ≡ sets l p.written (le
 pub record Small (r o : ℕ) (fs : List ℕ) : Type 0 where
   pub range : DigitsBelow r (ranges fs)
   pub ordinal : DigitsBelow o (ordinals fs)
+
+pub small_of : {r o : ℕ} {fs : List ℕ} → DigitsBelow r (ranges fs) × DigitsBelow o (ordinals fs) → Small r o fs
+small_of h = record { range = h.0; ordinal = h.1 }
 
 module _ {r o : ℕ} {fs : List ℕ} (small : Small r o fs) where
   range_small : (i : ℕ) → get_or fs (2 * i) 0 < 2 ^ r

@@ -17,6 +17,10 @@ use Rattle.bitpacker.proofs.Packed.{Packed, packed_new, packed-wrote, packed-roo
 abbrev pub Run : ℕ → List ℕ → List ℕ → List ℕ → BitPacker → ℕ → Type 0
 Run w fs d l p i = Packed d l p (w * i) (of_digits w (take i fs))
 
+-- behind the last field all are taken
+pub run-all : (w : ℕ) (fs d l : List ℕ) (p : BitPacker) (i n : ℕ) → Run w fs d l p i → i ≡ n → Run w fs d l p n
+run-all w fs d l p i n k e = rw e at k
+
 pub run_none : (w : ℕ) (fs d : List ℕ) {p : BitPacker} → (p.buffer ≡ 0) × (p.filled ≡ 0) × (p.written ≡ 0) → Run w fs d d p 0
 unfolding of_digits
 run_none w fs d e = rw (mul-zero w) (packed_new d e)

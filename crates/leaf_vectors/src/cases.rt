@@ -3,6 +3,7 @@ ghost use Rattle.std.specs.Prelude.{◌≡◌, true, ◌+◌, ◌*◌, ◌≤◌
 ghost use Rattle.slope.specs.Column.{ColumnOk};
 
 use crate::pack;
+use slope::Column;
 
 pub const MARK: u8 = 0xa5;
 
@@ -17,40 +18,23 @@ const STRIDE: usize = 3;
 const BASE: u64 = 1000003;
 
 fn marks(area: &[u8]) -> bool {
-    let mut i = 0;
-    while i < area.len() {
-        if area[i] != MARK {
-            return false;
-        }
-        i += 1;
-    }
-    true
+    area.iter().all(|byte| *byte == MARK)
 }
 
 // Whether `area` has `front` at PLACE, behind it what `whole` has behind as many bytes, and MARK everywhere else.
 fn holds(area: &[u8], front: &[u8], whole: &[u8]) -> bool
     requires { 16 ≤ length area.now }
 {
-    let front_len = front.len();
     let len = whole.len();
-    if front_len > len {
+    if front.len() > len || len > area.len() - PLACE {
         return false;
     }
-    if len > area.len() - PLACE {
-        return false;
-    }
-    let middle = PLACE + front_len;
+    let middle = PLACE + front.len();
     let end = PLACE + len;
-    if !marks(&area[0..PLACE]) {
-        return false;
-    }
-    if !check::same(&area[PLACE..middle], front) {
-        return false;
-    }
-    if !check::same(&area[middle..end], &whole[front_len..]) {
-        return false;
-    }
-    marks(&area[end..])
+    marks(&area[..PLACE])
+        && &area[PLACE..middle] == front
+        && area[middle..end] == whole[front.len()..]
+        && marks(&area[end..])
 }
 
 pub fn same_width(numbers: &[u64]) -> bool {
@@ -64,35 +48,23 @@ pub fn same_width(numbers: &[u64]) -> bool {
 fn write_number(out: &mut [u8], width: u64, value: u64) -> bool
     requires { 24 ≤ length out.old }
 {
-    if width == 8 {
-        serialize::serialize_u64(out, PLACE, value);
-        return true;
+    match (width, u16::try_from(value), u32::try_from(value)) {
+        (8, _, _) => serialize::serialize_u64(out, PLACE, value),
+        (4, _, Ok(value)) => serialize::serialize_u32(out, PLACE, value),
+        (2, Ok(value), _) => serialize::serialize_u16(out, PLACE, value),
+        _ => return false,
     }
-    if width == 4 {
-        if value <= 0xffff_ffff {
-            serialize::serialize_u32(out, PLACE, value as u32);
-            return true;
-        }
-    }
-    if width == 2 {
-        if value <= 0xffff {
-            serialize::serialize_u16(out, PLACE, value as u16);
-            return true;
-        }
-    }
-    false
+    true
 }
 
 fn read_number(bytes: &[u8], width: u64) -> u64
     requires { 24 ≤ length bytes.now }
 {
-    if width == 8 {
-        return serialize::deserialize_u64(bytes, PLACE);
+    match width {
+        8 => serialize::deserialize_u64(bytes, PLACE),
+        4 => u64::from(serialize::deserialize_u32(bytes, PLACE)),
+        _ => u64::from(serialize::deserialize_u16(bytes, PLACE)),
     }
-    if width == 4 {
-        return serialize::deserialize_u32(bytes, PLACE) as u64;
-    }
-    serialize::deserialize_u16(bytes, PLACE) as u64
 }
 
 pub fn same_number(numbers: &[u64], bytes: &[u8], area: &mut [u8]) -> bool
@@ -123,14 +95,11 @@ fn spread(area: &mut [u64], values: &[u64]) -> bool
     if values.len() > 170 {
         return false;
     }
-    let mut j: usize = 0;
-    while j < values.len() {
-        let value = values[j];
-        if value >= 0x2000_0000_0000_0000 {
+    for (j, value) in values.iter().enumerate() {
+        if *value >= 0x2000_0000_0000_0000 {
             return false;
         }
-        area[FIRST + STRIDE * j] = value + BASE;
-        j += 1;
+        area[FIRST + STRIDE * j] = *value + BASE;
     }
     true
 }
@@ -149,7 +118,14 @@ pub fn same_slope(numbers: &[u64]) -> bool {
     if !spread(&mut area, &numbers[1..end]) {
         return false;
     }
-    let found = slope::find_best_slope(&area, FIRST, STRIDE, BASE, count);
+    let column = Column {
+        area: &area,
+        at: FIRST,
+        stride: STRIDE,
+        base: BASE,
+        count,
+    };
+    let found = column.find_best_slope();
     if found.slope as u64 != numbers[end] {
         return false;
     }
@@ -261,30 +237,9 @@ pub fn same_group(numbers: &[u64], bytes: &[u8], area: &mut [u8]) -> bool
     )
 }
 
-// Puts the bytes at PLACE.
-fn put(area: &mut [u8], bytes: &[u8])
-    requires { 16 + length bytes.now ≤ length area.old }
-{
-    let mut i = 0;
-    while i < bytes.len() {
-        area[PLACE + i] = bytes[i];
-        i += 1;
-    }
-}
-
-// How many bytes of `short` differ from those of `long`, which is at least as long.
-fn changes(short: &[u8], long: &[u8]) -> usize
-    requires { length short.now ≤ length long.now }
-{
-    let mut n: usize = 0;
-    let mut i: usize = 0;
-    while i < short.len() {
-        if short[i] != long[i] {
-            n += 1;
-        }
-        i += 1;
-    }
-    n
+// How many bytes of `short` differ from those of `long`.
+fn changes(short: &[u8], long: &[u8]) -> usize {
+    short.iter().zip(long).filter(|(x, y)| *x != *y).count()
 }
 
 pub fn same_shortened(left: &[u8], right: &[u8], short: &[u8], area: &mut [u8]) -> bool
@@ -303,8 +258,8 @@ pub fn same_shortened(left: &[u8], right: &[u8], short: &[u8], area: &mut [u8]) 
     if keys::lt(right, left) {
         return false;
     }
-    put(area, left);
-    if keys::find_shorter_str_in_between(area, PLACE, len, right) != short.len() {
+    area[PLACE..PLACE + len].copy_from_slice(left);
+    if keys::find_shorter_str_in_between(&mut area[PLACE..PLACE + len], right) != short.len() {
         return false;
     }
     if !holds(area, short, left) {
@@ -325,5 +280,5 @@ pub fn same_prefix(numbers: &[u64], left: &[u8], right: &[u8]) -> bool {
         return false;
     }
     let prefix = keys::common_prefix(left, right);
-    check::same(prefix, &left[0..len])
+    prefix == &left[..len]
 }

@@ -5,54 +5,83 @@ mod cases;
 mod pack;
 
 use std::io;
-use vectors::driver;
-use vectors::driver::{Case, Run};
+use vectors::driver::Kind;
+use vectors::{Case, driver};
+
+// Each kind with its letter, the row of its tally and how many byte strings its lines have.
+const KINDS: [Kind; 8] = [
+    Kind {
+        letter: b'n',
+        row: Some(0),
+        strings: 0,
+    },
+    Kind {
+        letter: b'l',
+        row: Some(1),
+        strings: 1,
+    },
+    Kind {
+        letter: b'p',
+        row: Some(2),
+        strings: 0,
+    },
+    Kind {
+        letter: b'b',
+        row: Some(3),
+        strings: 1,
+    },
+    Kind {
+        letter: b'x',
+        row: Some(4),
+        strings: 1,
+    },
+    Kind {
+        letter: b'g',
+        row: Some(5),
+        strings: 1,
+    },
+    Kind {
+        letter: b's',
+        row: Some(6),
+        strings: 3,
+    },
+    Kind {
+        letter: b'c',
+        row: Some(7),
+        strings: 2,
+    },
+];
+
+const ROWS: [&str; 8] = [
+    "widths",
+    "numbers",
+    "slopes",
+    "fields",
+    "reads",
+    "groups",
+    "shortened keys",
+    "common prefixes",
+];
 
 // Whether a case's answers are those of the proved functions.
-fn is_same(kind: u8, given: &[u64], first: &[u8], second: &[u8], third: &[u8]) -> bool {
+fn is_same(case: &Case) -> bool {
     let mut area = [cases::MARK; 8192];
-    match kind {
-        b'n' => cases::same_width(given),
-        b'l' => cases::same_number(given, first, &mut area),
-        b'p' => cases::same_slope(given),
-        b'b' => cases::same_fields(given, first, &mut area),
-        b'x' => cases::same_read(given, first),
-        b'g' => cases::same_group(given, first, &mut area),
-        b's' => cases::same_shortened(first, second, third, &mut area),
-        b'c' => cases::same_prefix(given, first, second),
+    let numbers = case.numbers.as_slice();
+    let first = case.string(0);
+    let second = case.string(1);
+    match case.kind {
+        b'n' => cases::same_width(numbers),
+        b'l' => cases::same_number(numbers, first, &mut area),
+        b'p' => cases::same_slope(numbers),
+        b'b' => cases::same_fields(numbers, first, &mut area),
+        b'x' => cases::same_read(numbers, first),
+        b'g' => cases::same_group(numbers, first, &mut area),
+        b's' => cases::same_shortened(first, second, case.string(2), &mut area),
+        b'c' => cases::same_prefix(numbers, first, second),
         _ => false,
     }
 }
 
-fn same(case: Case) -> bool {
-    let numbers = case.numbers;
-    let bytes = case.bytes;
-    is_same(
-        case.kind,
-        driver::given(&numbers, case.count),
-        vectors::part(&bytes, 0, case.first),
-        vectors::part(&bytes, case.first, case.second),
-        vectors::part(&bytes, case.second, case.third),
-    )
-}
-
-fn replay(rt: &impl Print, text: &[u8]) -> io::Result<()> {
-    let mut run = Run::start();
-    while run.at < text.len() {
-        let case = driver::case_at(text, run.at, b"n00 l11 p20 b31 x41 g51 s63 c72");
-        run = run.counted(case, same(case));
-    }
-    run.print(
-        rt,
-        b"widths,numbers,slopes,fields,reads,groups,shortened keys,common prefixes",
-    )
-}
-
 fn main(rt: HostRuntime) -> io::Result<()> {
-    let mut text = [0u8; driver::TEXT_LEN];
-    let n = driver::read(&rt, &mut text)?;
-    if n < driver::TEXT_LEN {
-        replay(&rt, driver::front(&text, n))?;
-    }
-    Ok(())
+    driver::replay(&rt, &KINDS, &ROWS, |case| Ok(is_same(case)))
 }

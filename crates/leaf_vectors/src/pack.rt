@@ -16,10 +16,8 @@ pub fn pack_fields(out: &mut [u8], fields: &[u64], width: u8) -> usize
         (le_bytes (bytes_of (width * length fields.now)) (of_digits width fields.now))) }
 {
     let mut packer = BitPacker::new();
-    let mut i: usize = 0;
-    while i < fields.len() {
-        packer = packer.write(fields[i], width, out);
-        i += 1;
+    for field in fields {
+        packer = packer.write(*field, width, out);
     }
     packer.flush(out)
 }
@@ -35,12 +33,10 @@ pub fn pack_group(out: &mut [u8], fields: &[u64], r: u8, o: u8, count: usize) ->
         (le_bytes (bytes_of (group_bits r o count)) (group_val r o (ranges fields.now) (ordinals fields.now)))) }
 {
     let mut packer = BitPacker::new();
-    let mut i: usize = 0;
-    while i < count {
+    for i in 0..count {
         let range = fields[2 * i];
         let ordinal = fields[2 * i + 1];
         packer = packer.write(range, r, out).write(ordinal, o, out);
-        i += 1;
     }
     packer.write(fields[2 * count], r, out).flush(out)
 }
@@ -57,13 +53,10 @@ pub fn fit(fields: &[u64], r: u8, o: u8) -> bool
     requires { (r ≤ 56) × (o ≤ 56) }
     ensures { result ≡ true → DigitsBelow r (ranges fields.now) × DigitsBelow o (ordinals fields.now) }
 {
-    let mut i: usize = 0;
-    while i < fields.len() {
-        let width = width_at(i, r, o);
-        if fields[i] >> width != 0 {
+    for (i, field) in fields.iter().enumerate() {
+        if *field >> width_at(i, r, o) != 0 {
             return false;
         }
-        i += 1;
     }
     true
 }
@@ -87,14 +80,12 @@ pub fn read_back(data: &[u8], fields: &[u64], r: u8, o: u8) -> bool
     requires { length fields.now ≤ 512 }
 {
     let mut at: usize = 0;
-    let mut i: usize = 0;
-    while i < fields.len() {
+    for (i, field) in fields.iter().enumerate() {
         let width = width_at(i, r, o);
-        if !reads(data, at, width, fields[i]) {
+        if !reads(data, at, width, *field) {
             return false;
         }
-        at += width as usize;
-        i += 1;
+        at += usize::from(width);
     }
     true
 }

@@ -1,50 +1,13 @@
--- What the writers leave: parts one behind the other at the front of the output are the line, which is at most 2,103 bytes long.
-use mathlib.Core.Path.{◌≡◌, ◌∙◌}
+-- A line is at most 2,103 bytes long, by its parts.
+use mathlib.Core.Path.{◌≡◌}
 use mathlib.Core.List.{List, [], ◌∷◌, ◌++◌, append_assoc}
-use Prim.Native.Nat.{ℕ, ◌+◌, ◌-◌, ◌≤◌, ◌<◌}
-use native.Mathlib.Nat.{zero-add, add-zero}
-use native.Mathlib.Numerals.{add-one}
+use Prim.Native.Nat.{ℕ, ◌≤◌, ◌<◌}
 use native.Mathlib.Omega.{arith}
-use lib.ListN.{length, take, drop, set, length-append, length-drop}
-use lib.Seq.{sets, length-sets, length-take-le}
-use borrow.Rule.Slice.PartMut.{put_mid}
-use Rattle.serialize.proofs.Stores.{sets-append, sets-in-part, copied}
+use lib.ListN.{length, length-append}
 use Rattle.group.specs.declared.BlockAddr.{BlockAddr}
 use Rattle.group.specs.Legal.{limit, NumbersOk}
 use Rattle.line_text.specs.Lines.{decimal, separator_text, line_of}
 use Rattle.line_text.proofs.Decimal.{length-decimal, length-hex}
-
--- a text w copied into the output from `at` on
-pub put-copied : (out w y : List ℕ) (at : ℕ) → at + length w ≤ length out
-    → y ≡ take (length w) w ++ drop (length w) (take (length out - at) (drop at out)) → put_mid at (length out - at) out y ≡ sets out at w
-put-copied out w y at h e =
-    let part : List ℕ = take (length out - at) (drop at out) in
-    let room : length w ≤ length part
-    = omega (arith, length-take-le (length out - at) (drop at out) (omega (arith, length-drop at out))) in
-    let front : y ≡ sets part 0 w = e ∙ copied part w room in
-    rw front (sets-in-part out w at 0 ∙ rw (add-zero at))
-
--- a sign, and a text behind it
-pub put-behind : (out out' w : List ℕ) (at sign r : ℕ) → (r ≡ at + 1 + length w) × (out' ≡ sets (set out at sign) (at + 1) w)
-    → (r ≡ at + length (sign ∷ w)) × (out' ≡ sets out at (sign ∷ w))
-put-behind out out' w at sign r p = (omega (arith, p.0), p.1 ∙ rw (add-one at))
-
--- ---- one part behind the other
-
--- a text at the front of what was the output d, and where the next part goes
-pub record Wrote (d out : List ℕ) (at : ℕ) (text : List ℕ) : Type 0 where
-  pub end : at ≡ length text
-  pub stored : out ≡ sets d 0 text
-
-module _ {d out : List ℕ} {at : ℕ} {text : List ℕ} (p : Wrote d out at text) where
-  pub wrote-next : (out' w : List ℕ) (r : ℕ) → (r ≡ at + length w) × (out' ≡ sets out at w) → Wrote d out' r (text ++ w)
-  wrote-next out' w r q = record {
-    end = omega (arith, p.end, q.0, length-append text w);
-    stored = q.1 ∙ rw (p.stored, p.end) (rw (zero-add (length text)) at (sets-append d text w 0));
-  }
-
-  pub wrote-length : length out ≡ length d
-  wrote-length = rw p.stored (length-sets d 0 text)
 
 -- ---- the parts of a line
 

@@ -1,32 +1,41 @@
-// Areas that a call writes to. Before each call all bytes are `fill`.
+// An area that a call writes to, full of one byte before.
+use std::alloc::{AllocError, Global};
 
-pub const AREA: usize = 2048;
+// No area of a line is longer.
+pub const MOST: u64 = 2048;
 
-fn is_filled(bytes: &[u8], fill: u8) -> bool {
-    let mut i: usize = 0;
-    while i < bytes.len() {
-        if bytes[i] != fill {
-            return false;
+#[derive(Drop)]
+pub struct Area {
+    pub bytes: Vec<u8>,
+    fill: u8,
+}
+
+impl Area {
+    // The first n bytes, if all others are as they were.
+    pub fn front(&self, n: usize) -> Option<&[u8]> {
+        let (front, others) = self.bytes.split_at_checked(n)?;
+        if others.iter().all(|byte| *byte == self.fill) {
+            Some(front)
+        } else {
+            None
         }
-        i += 1;
     }
-    true
 }
 
-// The first n bytes; none where there aren't so many.
-pub fn front(area: &[u8; AREA], n: usize) -> &[u8] {
-    let bytes = &area[..];
-    if n > bytes.len() {
-        return &bytes[0..0];
+// Whether a call does as it should over two fills: every byte that is written shows over one of them.
+pub fn holds_over_both<F: Fn(&mut Area) -> bool>(
+    alloc: Global,
+    room: usize,
+    holds: F,
+) -> Result<bool, AllocError>
+    requires { F.IsAlwaysCallable holds }
+{
+    for fill in [165, 90] {
+        let bytes = vec![in alloc; fill; room]?;
+        let mut area = Area { bytes, fill };
+        if !holds(&mut area) {
+            return Ok(false);
+        }
     }
-    &bytes[0..n]
-}
-
-// Whether the area is as it was behind its first n bytes.
-pub fn is_left(area: &[u8; AREA], n: usize, fill: u8) -> bool {
-    let bytes = &area[..];
-    if n > bytes.len() {
-        return false;
-    }
-    is_filled(&bytes[n..], fill)
+    Ok(true)
 }

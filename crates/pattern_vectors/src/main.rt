@@ -1,77 +1,112 @@
-// Replays a list of automata, intervals of keys and index files, with answers of the Rust and of a plain model of document 01, against the
+// Replays a list of automata, intervals of keys and index files, with answers of the Rust and of a plain model, against the
 // proved pruning, listing and example, and counts the lines whose answers differ.
 #![tactic(auto)]
 
 mod areas;
-mod calls;
 mod examples;
-mod files;
-mod listings;
+mod subject;
 mod tables;
 
-use files::State;
+use std::alloc::{AllocError, Global};
 use std::io;
-use vectors::driver;
-use vectors::driver::{Case, Run};
+use subject::Subject;
+use vectors::driver::Kind;
+use vectors::{Case, driver};
 
-// Room for an automaton of 255 states and a byte.
-const TABLE_LEN: usize = 65537;
+// Each kind of line with the row of its tally and how many byte strings its lines have.
+const KINDS: [Kind; 12] = [
+    Kind {
+        letter: b'b',
+        row: Some(0),
+        strings: 2,
+    },
+    Kind {
+        letter: b'e',
+        row: Some(1),
+        strings: 2,
+    },
+    Kind {
+        letter: b'f',
+        row: Some(2),
+        strings: 1,
+    },
+    Kind {
+        letter: b'l',
+        row: Some(3),
+        strings: 1,
+    },
+    Kind {
+        letter: b'L',
+        row: Some(4),
+        strings: 0,
+    },
+    Kind {
+        letter: b't',
+        row: None,
+        strings: 1,
+    },
+    Kind {
+        letter: b'w',
+        row: None,
+        strings: 2,
+    },
+    Kind {
+        letter: b'r',
+        row: None,
+        strings: 1,
+    },
+    Kind {
+        letter: b'd',
+        row: None,
+        strings: 1,
+    },
+    Kind {
+        letter: b'c',
+        row: None,
+        strings: 1,
+    },
+    Kind {
+        letter: b'n',
+        row: None,
+        strings: 0,
+    },
+    Kind {
+        letter: b'm',
+        row: None,
+        strings: 0,
+    },
+];
 
-const FILE_LEN: usize = 4096;
+const ROWS: [&str; 5] = [
+    "blocks",
+    "examples",
+    "files",
+    "listings",
+    "listings left free",
+];
 
-// What a line leaves, the automaton in the front of `table` and the file in that of `file`, and whether its answers are those of the
-// proved functions.
-fn take(
-    kind: u8,
-    given: &[u64],
-    one: &[u8],
-    other: &[u8],
-    state: State,
-    table: &mut [u8],
-    file: &mut [u8],
-) -> State {
-    match kind {
-        b't' | b'w' | b'r' | b'd' | b'c' | b'n' => {
-            let len = tables::set(kind, state.table, given, one, other, table);
-            state.with_table(len, table.len())
-        }
-        b'f' => files::open(state, given, one, file),
-        b'm' => files::set_record(state, given),
-        _ => state.with(calls::same(kind, state, given, one, other, table, file)),
+// Whether a line's answers are those of the proved functions.
+fn is_same(alloc: Global, case: &Case, subject: &mut Subject) -> Result<bool, AllocError> {
+    let given = case.numbers.as_slice();
+    let one = case.string(0);
+    let other = case.string(1);
+    match case.kind {
+        b'f' => subject.opens(alloc, given, one),
+        b'm' => Ok(subject.sets_record(given)),
+        b'b' => Ok(subject.marks(given, one, other)),
+        b'e' => subject.gives_example(alloc, given, one, other),
+        b'l' => subject.lists(alloc, given, one),
+        b'L' => subject.may_list(alloc, given),
+        _ => subject.sets_table(alloc, case),
     }
-}
-
-fn step(case: Case, state: State, table: &mut [u8; TABLE_LEN], file: &mut [u8; FILE_LEN]) -> State {
-    let numbers = case.numbers;
-    let bytes = case.bytes;
-    let given = driver::given(&numbers, case.count);
-    let one = vectors::part(&bytes, 0, case.first);
-    let other = vectors::part(&bytes, case.first, case.second);
-    take(case.kind, given, one, other, state, table, file)
-}
-
-fn replay(rt: &impl Print, text: &[u8]) -> io::Result<()> {
-    let mut table = [0u8; TABLE_LEN];
-    let mut file = [0u8; FILE_LEN];
-    let mut state = files::start();
-    let mut run = Run::start();
-    while run.at < text.len() {
-        let case = driver::case_at(
-            text,
-            run.at,
-            b"b02 e12 f21 l31 L40 t-1 w-2 r-1 d-1 c-1 n-0 m-0",
-        );
-        state = step(case, state, &mut table, &mut file);
-        run = run.counted(case, state.same);
-    }
-    run.print(rt, b"blocks,examples,files,listings,listings left free")
 }
 
 fn main(rt: HostRuntime) -> io::Result<()> {
-    let mut text = [0u8; driver::TEXT_LEN];
-    let n = driver::read(&rt, &mut text)?;
-    if n < driver::TEXT_LEN {
-        replay(&rt, driver::front(&text, n))?;
-    }
-    Ok(())
+    let mut subject = Subject::new(rt.alloc());
+    driver::replay(
+        &rt,
+        &KINDS,
+        &ROWS,
+        |case| Ok(is_same(rt.alloc(), case, &mut subject)?),
+    )
 }

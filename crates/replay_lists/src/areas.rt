@@ -1,6 +1,9 @@
 // The areas that a list is replayed in.
-use crate::prints;
-use std::io;
+ghost use Rattle.std.specs.Prelude.{◌<◌};
+
+use replay::ReplayError;
+use std::alloc::{AllocError, Global};
+use std::fmt;
 
 // What they hold before.
 const MARK: u8 = 0xa5;
@@ -8,66 +11,75 @@ const MARK: u8 = 0xa5;
 const NUMBER_MARK: u64 = 0xa5a5_a5a5_a5a5_a5a5;
 
 // How long they may be.
-const BLOCKS: usize = 1300;
+const BLOCKS: u64 = 1300;
 
-const KEYS: usize = 4096;
+const KEYS: u64 = 4096;
 
-const OUT: usize = 4096;
+const OUT: u64 = 4096;
 
-const ANSWERS: usize = 2048;
+const ANSWERS: u64 = 2048;
 
-// Replays a list in these areas, and prints what it answers and leaves.
-fn replay_in(
-    rt: &impl Print,
-    list: &[u8],
-    blocks: &mut [u64],
-    keys: &mut [u8],
-    out: &mut [u8],
-    answers: &mut [u64],
-) -> io::Result<()> {
-    let no = replay::replay(list, blocks, keys, out, answers);
-    prints::number(rt, no as u64)?;
-    if no == 0 {
-        prints::answers(rt, list, out, answers)?;
-    }
-    prints::areas(rt, blocks, keys, out, answers)
+// The base and the modulus of an area's remainder.
+const BASE: u64 = 65599;
+
+const MODULUS: u64 = 4294967291;
+
+#[derive(Drop)]
+pub struct Areas {
+    pub blocks: Vec<u64>,
+    pub keys: Vec<u8>,
+    pub out: Vec<u8>,
+    pub answers: Vec<u64>,
 }
 
-// Replays a list in areas of these lengths.
-pub fn replay(
-    rt: &impl Print,
-    list: &[u8],
-    blocks: u64,
-    keys: u64,
-    out: u64,
-    answers: u64,
-) -> io::Result<()> {
-    if blocks > BLOCKS as u64 {
-        return prints::bad_line(rt);
+impl Areas {
+    // Areas of these lengths, full of marks; none where one is too long.
+    pub fn new(
+        alloc: Global,
+        blocks: u64,
+        keys: u64,
+        out: u64,
+        answers: u64,
+    ) -> Result<Option<Areas>, AllocError> {
+        if blocks > BLOCKS || keys > KEYS || out > OUT || answers > ANSWERS {
+            return Ok(None);
+        }
+        Ok(Some(Areas {
+            blocks: vec![in alloc; NUMBER_MARK; blocks as usize]?,
+            keys: vec![in alloc; MARK; keys as usize]?,
+            out: vec![in alloc; MARK; out as usize]?,
+            answers: vec![in alloc; NUMBER_MARK; answers as usize]?,
+        }))
     }
-    if keys > KEYS as u64 {
-        return prints::bad_line(rt);
+
+    pub fn replay(&mut self, list: &[u8]) -> Result<(), ReplayError> {
+        replay::replay(
+            list,
+            &mut self.blocks,
+            &mut self.keys,
+            &mut self.out,
+            &mut self.answers,
+        )
     }
-    if out > OUT as u64 {
-        return prints::bad_line(rt);
+}
+
+// The remainder of the number that the items spell, the first one highest.
+fn remainder<T: Copy + Into<u64>>(items: &[T]) -> u64 {
+    let mut h: u64 = 0;
+    for item in items {
+        let digit: u64 = (*item).into();
+        h = (BASE * h + digit % MODULUS) % MODULUS;
     }
-    if answers > ANSWERS as u64 {
-        return prints::bad_line(rt);
+    h
+}
+
+// A remainder of each area, so that any other byte shows.
+impl fmt::Display for Areas {
+    fn fmt<W: fmt::Write>(&self, f: &mut fmt::Formatter<W>) -> fmt::Result {
+        let blocks = remainder(&self.blocks);
+        let keys = remainder(&self.keys);
+        let out = remainder(&self.out);
+        let answers = remainder(&self.answers);
+        write!(f, "areas {blocks} {keys} {out} {answers}")
     }
-    let blocks_len = blocks as usize;
-    let keys_len = keys as usize;
-    let out_len = out as usize;
-    let answers_len = answers as usize;
-    let mut block_area = [NUMBER_MARK; BLOCKS];
-    let mut key_area = [MARK; KEYS];
-    let mut out_area = [MARK; OUT];
-    let mut answer_area = [NUMBER_MARK; ANSWERS];
-    replay_in(
-        rt,
-        list,
-        &mut block_area[0..blocks_len],
-        &mut key_area[0..keys_len],
-        &mut out_area[0..out_len],
-        &mut answer_area[0..answers_len],
-    )
 }

@@ -2,93 +2,62 @@
 #![tactic(auto)]
 
 mod areas;
-mod parts;
+mod list;
 mod prints;
 
-ghost use Rattle.std.specs.Prelude.{◌≤◌, length};
-
+use areas::Areas;
+use std::alloc::{AllocError, Global};
 use std::io;
-use vectors::{Line, driver};
+use vectors::{Case, Line, driver};
 
-// One byte more than the longest text, and than the longest list.
-const TEXT_LEN: usize = 327680;
+// The list of a line, and the areas that it is replayed in. Its first four numbers are the areas' lengths, the others say how often
+// each part stands there. None where the line isn't so.
+fn parts(alloc: Global, case: &Case) -> Result<Option<(Vec<u8>, Areas)>, AllocError> {
+    let [blocks, keys, out, answers, counts @ ..] = case.numbers.as_slice() else {
+        return Ok(None);
+    };
+    if case.kind != b'l'
+        || counts.len() != case.strings.len()
+        || !case.is_within(260, 256, 16_384)
+    {
+        return Ok(None);
+    }
+    let Some(areas) = Areas::new(alloc, *blocks, *keys, *out, *answers)? else {
+        return Ok(None);
+    };
+    match list::join(alloc, counts, &case.strings)? {
+        Some(list) => Ok(Some((list, areas))),
+        None => Ok(None),
+    }
+}
 
-const LIST_LEN: usize = 32768;
-
-// Replays the list of a line. Its first four numbers are the areas' lengths, the others say how often each part stands there.
-fn take_list(
-    rt: &impl Print,
-    line: Line,
-    numbers: &[u64],
-    bytes: &[u8],
-    spans: &[usize],
-    list: &mut [u8],
-) -> io::Result<()>
-    requires { line.numbers ≤ length numbers.now }
-{
-    let count = line.numbers;
-    if !line.good {
-        return prints::bad_line(rt);
+// Replays the list of a line.
+fn replay(rt: &(impl AllocGlobal + Print), line: &Line) -> io::Result<()> {
+    if let Line::Case(case) = line {
+        if let Some((list, mut areas)) = parts(rt.alloc(), case)? {
+            return prints::replayed(rt, &list, &mut areas);
+        }
     }
-    if line.kind != b'l' {
-        return prints::bad_line(rt);
-    }
-    if count < 4 {
-        return prints::bad_line(rt);
-    }
-    if count - 4 != line.strings {
-        return prints::bad_line(rt);
-    }
-    let len = parts::join(&numbers[4..count], bytes, spans, list);
-    if len == list.len() {
-        return prints::bad_line(rt);
-    }
-    areas::replay(
-        rt,
-        &list[0..len],
-        numbers[0],
-        numbers[1],
-        numbers[2],
-        numbers[3],
-    )
+    prints::bad_line(rt)
 }
 
 // Replays all lists of the text.
-fn replay_lines(
-    rt: &impl Print,
-    text: &[u8],
-    numbers: &mut [u64],
-    bytes: &mut [u8],
-    spans: &mut [usize],
-    list: &mut [u8],
-) -> io::Result<()> {
+fn replay_all(rt: &(impl AllocGlobal + Print), text: &[u8]) -> io::Result<()> {
     let mut place: u64 = 0;
-    let mut at: usize = 0;
-    while at < text.len() {
-        let line = vectors::parse(text, at, numbers, bytes, spans);
-        if line.kind != b'#' {
-            place += 1;
-            prints::place(rt, place)?;
-            take_list(rt, line, numbers, bytes, spans, list)?;
+    for line in text.split_inclusive(|byte| *byte == b'\n') {
+        let line = vectors::parse(rt.alloc(), line.strip_suffix(b"\n").unwrap_or(line))?;
+        if !matches!(line, Line::Comment) {
+            place = place.saturating_add(1);
+            print!(rt; "list {place}: ")?;
+            replay(rt, &line)?;
         }
-        at = line.next;
     }
     Ok(())
 }
 
-fn replay_text(rt: &impl Print, text: &[u8]) -> io::Result<()> {
-    let mut numbers = [0u64; 260];
-    let mut bytes = [0u8; 16384];
-    let mut spans = [0usize; 512];
-    let mut list = [0u8; LIST_LEN];
-    replay_lines(rt, text, &mut numbers, &mut bytes, &mut spans, &mut list)
-}
-
 fn main(rt: HostRuntime) -> io::Result<()> {
-    let mut text = [0u8; TEXT_LEN];
-    let n = driver::fill(&mut rt.reader(), &mut text)?;
-    if n == TEXT_LEN {
-        return println!(rt; "too long");
+    match driver::read(&rt)? {
+        Some(text) => replay_all(&rt, &text),
+        None => Ok(()),
     }
-    replay_text(&rt, &text[..n])
 }

@@ -1,3 +1,1 @@
-pub mod Tests
-pub mod Parts
 pub mod Read

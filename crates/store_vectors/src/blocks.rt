@@ -1,130 +1,94 @@
 // Blocks in an area of numbers, three a block.
-ghost use Rattle.std.specs.Prelude.{◌≡◌, true, ℕ, suc, ◌+◌, ◌*◌, ◌≤◌, ◌<◌, length};
+ghost use Rattle.std.specs.Prelude.{◌≡◌, true, ℕ, suc, ◌*◌, ◌≤◌, ◌<◌, length};
 ghost use Rattle.group.specs.Blocks.{block_at};
 ghost use Rattle.group.specs.Legal.{NumbersOk, Follows};
-ghost use Rattle.store.specs.Facts.{StoreArea};
 
-use group::BlockAddr;
+use group::area::block_at;
+use layout::{MAX_BLOCKS, STORE_BLOCK_LEN};
+use std::alloc::{AllocError, Global};
+use store_write::AreaStore;
 
 pub const STRIDE: usize = 3;
 
-// Block i.
-pub fn block_at(area: &[u64], i: usize) -> BlockAddr
-    requires { 3 * i + 3 ≤ length area.now }
-    ensures { result ≡ block_at area.now 3 i }
-{
-    BlockAddr {
-        start: area[STRIDE * i],
-        end: area[STRIDE * i + 1],
-        first_ordinal: area[STRIDE * i + 2],
-    }
-}
-
-// Whether the numbers of n blocks keep row 3.
-fn numbers_legal(area: &[u64], n: usize) -> bool
+// Whether the numbers of n blocks keep their limits.
+fn have_legal_numbers(area: &[u64], n: usize) -> bool
     requires { 3 * n ≤ length area.now }
     ensures { result ≡ true → (i : ℕ) → i < n → NumbersOk (block_at area.now 3 i) }
 {
-    let mut i: usize = 0;
-    while i < n {
-        if group::rows::numbers_bad(block_at(area, i)) {
+    for i in 0..n {
+        if block_at(area, STRIDE * i).numbers_bad() {
             return false;
         }
-        i += 1;
     }
     true
-}
-
-// Whether block i + 1 follows block i by rows 4 and 5.
-fn follows(area: &[u64], i: usize) -> bool
-    requires { 3 * i + 6 ≤ length area.now }
-    ensures { result ≡ true → Follows (block_at area.now 3 i) (block_at area.now 3 (suc i)) }
-{
-    let before = block_at(area, i);
-    let block = block_at(area, i + 1);
-    if group::rows::join_bad(before, block) {
-        return false;
-    }
-    !group::rows::ordinal_bad(before, block)
 }
 
 // Whether each of n blocks follows the one before it.
-fn all_follow(area: &[u64], n: usize) -> bool
-    requires { (1 ≤ n) × (3 * n ≤ length area.now) }
+fn follow(area: &[u64], n: usize) -> bool
+    requires { 3 * n ≤ length area.now }
     ensures { result ≡ true → (i : ℕ) → suc i < n
         → Follows (block_at area.now 3 i) (block_at area.now 3 (suc i)) }
 {
-    let last = n - 1;
-    let mut i: usize = 0;
-    while i < last {
-        if !follows(area, i) {
+    for i in 0..n.saturating_sub(1) {
+        let before = block_at(area, STRIDE * i);
+        let block = block_at(area, STRIDE * (i + 1));
+        if block.join_bad(before) || block.ordinal_bad(before) {
             return false;
         }
-        i += 1;
     }
     true
 }
 
-// Whether n legal blocks stand at the front of the area.
-pub fn legal(area: &[u64], n: usize) -> bool
-    ensures { result ≡ true → StoreArea area.now 3 n }
-{
-    if n > 65536 {
-        return false;
+// The blocks in an area of just their numbers, if they are legal.
+pub fn legal(area: &[u64]) -> Option<AreaStore<'_>> {
+    let n = area.len() / STRIDE;
+    if n > MAX_BLOCKS || area.len() % STRIDE != 0 {
+        return None;
     }
-    if STRIDE * n > area.len() {
-        return false;
+    if !have_legal_numbers(area, n) || !follow(area, n) {
+        return None;
     }
-    if !numbers_legal(area, n) {
-        return false;
-    }
-    if n == 0 {
-        return true;
-    }
-    all_follow(area, n)
+    Some(AreaStore {
+        area,
+        stride: STRIDE,
+        n,
+        group_len: STORE_BLOCK_LEN,
+    })
 }
 
-// The next number of the generator, and what it draws.
-fn next(x: u64) -> u64 {
-    (x % 0x8000_0000 * 1103515245 + 12345) % 0x8000_0000
+// The list's generator of numbers.
+#[derive(Drop)]
+struct Draws {
+    x: u64,
 }
 
-fn drawn(x: u64) -> u64 {
-    x / 65536
-}
-
-// A sum, up to the largest number.
-fn sum(a: u64, b: u64) -> u64 {
-    if a > u64::MAX - b { u64::MAX } else { a + b }
+impl Draws {
+    fn next(&mut self) -> u64 {
+        self.x = (self.x % 0x8000_0000 * 1103515245 + 12345) % 0x8000_0000;
+        self.x / 65536
+    }
 }
 
 // The size of a block for a number that was drawn.
-fn size(a: u64, k: u64) -> u64
+fn size(drawn: u64, k: u64) -> u64
     requires { k < 64 }
 {
-    if a % 8 == 0 { 0 } else { a << k }
+    if drawn % 8 == 0 { 0 } else { drawn << k }
 }
 
-// Puts `count` blocks by the list's rule.
-pub fn generate(area: &mut [u64], seed: u64, count: usize)
-    requires { 3 * count ≤ length area.old }
-{
+// The area of `count` blocks by the list's rule.
+pub fn generate(alloc: Global, seed: u64, count: usize) -> Result<Vec<u64>, AllocError> {
     let k = seed % 23;
     let j = seed / 23 % 23;
-    let first = next(seed);
-    let mut x = next(first);
-    let mut start = drawn(first) << k;
-    let mut ordinal = drawn(x);
-    let mut i: usize = 0;
-    while i < count {
-        let y = next(x);
-        let end = sum(start, size(drawn(y), k));
-        area[STRIDE * i] = start;
-        area[STRIDE * i + 1] = end;
-        area[STRIDE * i + 2] = ordinal;
-        x = next(y);
+    let mut draws = Draws { x: seed };
+    let mut area = Vec::new(alloc);
+    let mut start = draws.next() << k;
+    let mut ordinal = draws.next();
+    for _ in 0..count {
+        let end = start.saturating_add(size(draws.next(), k));
+        area.extend_from_slice(&[start, end, ordinal])?;
         start = end;
-        ordinal = sum(sum(ordinal, 1), drawn(x) << j);
-        i += 1;
+        ordinal = ordinal.saturating_add(1).saturating_add(draws.next() << j);
     }
+    Ok(area)
 }

@@ -4,49 +4,58 @@
 mod blocks;
 mod cases;
 mod hash;
-mod structs;
+mod stores;
 
+use std::alloc::{AllocError, Global};
 use std::io;
-use vectors::driver;
-use vectors::driver::{Case, Run};
+use vectors::driver::Kind;
+use vectors::{Case, driver};
+
+// Each kind of line with the row of its tally and how many byte strings its lines have.
+const KINDS: [Kind; 5] = [
+    Kind {
+        letter: b's',
+        row: Some(0),
+        strings: 1,
+    },
+    Kind {
+        letter: b'h',
+        row: Some(1),
+        strings: 0,
+    },
+    Kind {
+        letter: b'i',
+        row: Some(2),
+        strings: 1,
+    },
+    Kind {
+        letter: b'u',
+        row: Some(3),
+        strings: 1,
+    },
+    Kind {
+        letter: b'o',
+        row: Some(4),
+        strings: 1,
+    },
+];
+
+const ROWS: [&str; 5] = ["stores", "large stores", "ids", "unknown ids", "ordinals"];
 
 // Whether a case's answers are those of the proved functions.
-fn is_same(kind: u8, given: &[u64], store: &[u8]) -> bool {
-    let mut out = [cases::MARK; 16384];
-    match kind {
-        b's' => cases::same_store(given, store, &mut out),
-        b'h' => cases::same_large(given, &mut out),
-        b'i' => cases::same_id(given, store),
-        b'u' => cases::same_unknown(given),
-        b'o' => cases::same_ordinal(given, store),
-        _ => false,
+fn is_same(alloc: Global, case: &Case) -> Result<bool, AllocError> {
+    let given = case.numbers.as_slice();
+    let store = case.string(0);
+    match case.kind {
+        b's' => cases::is_store(alloc, given, store),
+        b'h' => cases::is_large(alloc, given),
+        b'i' => Ok(cases::is_block(given, store)),
+        b'u' => Ok(cases::is_unknown(given)),
+        b'o' => Ok(cases::is_located(given, store)),
+        _ => Ok(false),
     }
-}
-
-fn same(case: Case) -> bool {
-    let numbers = case.numbers;
-    let bytes = case.bytes;
-    is_same(
-        case.kind,
-        driver::given(&numbers, case.count),
-        vectors::part(&bytes, 0, case.first),
-    )
-}
-
-fn replay(rt: &impl Print, text: &[u8]) -> io::Result<()> {
-    let mut run = Run::start();
-    while run.at < text.len() {
-        let case = driver::case_at(text, run.at, b"s01 h10 i21 u31 o41");
-        run = run.counted(case, same(case));
-    }
-    run.print(rt, b"stores,large stores,ids,unknown ids,ordinals")
 }
 
 fn main(rt: HostRuntime) -> io::Result<()> {
-    let mut text = [0u8; driver::TEXT_LEN];
-    let n = driver::read(&rt, &mut text)?;
-    if n < driver::TEXT_LEN {
-        replay(&rt, driver::front(&text, n))?;
-    }
-    Ok(())
+    driver::replay(&rt, &KINDS, &ROWS, |case| Ok(is_same(rt.alloc(), case)?))
 }

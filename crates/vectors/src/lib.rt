@@ -4,354 +4,146 @@
 
 pub mod driver;
 pub mod tally;
+pub mod told;
 
-ghost use Rattle.std.specs.Prelude.{◌≡◌, ◌+◌, ◌*◌, ◌≤◌, ◌<◌, length, get_or};
+ghost use Rattle.std.specs.Prelude.{◌≡◌, ◌≤◌, ◌<◌, true, [], length, IfOk, IfSome, MatchOption, get_or, slice_get};
+ghost use Rattle.vectors.specs.Cases.{BeginsWith};
 
-// What a line holds: so many numbers and byte strings. `next` is the place behind its end.
-// A comment has kind `#` and holds nothing. `good` is false where the line isn't of the form above or an area is too small.
-#[derive(Clone, Copy)]
-pub struct Line {
+use std::alloc::{AllocError, Global};
+
+// What a line holds, in the order of its tokens.
+#[derive(Debug, Drop)]
+pub struct Case {
     pub kind: u8,
-    pub numbers: usize,
-    pub strings: usize,
-    pub next: usize,
-    pub good: bool,
+    pub numbers: Vec<u64>,
+    pub strings: Vec<Vec<u8>>,
 }
 
-impl Line {
-    fn empty(kind: u8, next: usize, good: bool) -> Line
-        ensures { (result.next ≡ next) × (result.numbers ≡ 0) }
+// A line: one that isn't of the form above is bad.
+#[derive(Debug, Drop)]
+pub enum Line {
+    Comment,
+    Case(Case),
+    Bad,
+}
+
+impl Case {
+    // Number k; 0 where there is none.
+    pub fn number(&self, k: usize) -> u64
+        ensures { result ≡ get_or self.now.numbers.items k 0 }
     {
-        Line {
-            kind,
-            numbers: 0,
-            strings: 0,
-            next,
-            good,
+        self.numbers.get(k).copied().unwrap_or(0)
+    }
+
+    // Byte string k; the empty one where there is none.
+    pub fn string(&self, k: usize) -> &[u8]
+        ensures { MatchOption (slice_get self.now.strings.items k) (result.now ≡ []) (λ bytes. result.now ≡ bytes.items) }
+    {
+        match self.strings.get(k) {
+            Some(bytes) => bytes,
+            None => &[],
         }
     }
-}
 
-// What the tokens so far filled: cells of the numbers, byte strings, and bytes of these.
-#[derive(Clone, Copy)]
-struct Taken {
-    numbers: usize,
-    strings: usize,
-    bytes: usize,
-    good: bool,
-}
-
-impl Taken {
-    fn spoiled(mut self) -> Taken
-        ensures { (result.numbers ≡ self.numbers) × (result.bytes ≡ self.bytes) }
+    // Whether it holds no more than so many numbers, byte strings, and bytes of these.
+    pub fn is_within(&self, numbers: usize, strings: usize, bytes: usize) -> bool
+        ensures { result ≡ true → (length self.now.numbers.items ≤ numbers) × (length self.now.strings.items ≤ strings) }
     {
-        self.good = false;
-        self
-    }
-}
-
-#[derive(Clone, Copy)]
-struct Decimal {
-    value: u64,
-    good: bool,
-}
-
-// The place of the first such byte from `from` on; `end` where there is none before it.
-fn place_of(text: &[u8], from: usize, end: usize, byte: u8) -> usize
-    requires { (from ≤ end) × (end ≤ length text.now) }
-    ensures { (from ≤ result) × (result ≤ end) }
-{
-    let mut p = from;
-    while p < end {
-        if text[p] == byte {
-            return p;
+        let mut held: usize = 0;
+        for string in &self.strings {
+            held = held.saturating_add(string.len());
         }
-        p += 1;
+        self.numbers.len() <= numbers && self.strings.len() <= strings && held <= bytes
     }
-    p
 }
 
-// The value of a lower-case hex digit; 16 for any other byte.
-fn hex_digit(byte: u8) -> u8
-    ensures { result ≤ 16 }
+// The value of a lower-case hex digit.
+fn hex_digit(byte: u8) -> Option<u8>
+    ensures { IfSome result (λ digit. digit < 16) }
 {
     match byte {
-        b'0'..=b'9' => byte - b'0',
-        b'a'..=b'f' => byte - b'a' + 10,
-        _ => 16,
+        b'0'..=b'9' => Some(byte - b'0'),
+        b'a'..=b'f' => Some(byte - b'a' + 10),
+        _ => None,
     }
 }
 
-// The decimal number between two places. Not good where it has no digit or another byte, or is beyond 2^64 - 1.
-fn decimal_at(text: &[u8], from: usize, end: usize) -> Decimal
-    requires { (from ≤ end) × (end ≤ length text.now) }
-{
+// The decimal number that a token spells, if it is one of at most 2^64 - 1.
+fn decimal(token: &[u8]) -> Option<u64> {
+    if token.is_empty() {
+        return None;
+    }
     let mut value: u64 = 0;
-    let mut p = from;
-    while p < end {
-        let digit = hex_digit(text[p]) as u64;
-        if digit > 9 {
-            return Decimal { value, good: false };
+    for byte in token {
+        if !byte.is_ascii_digit() {
+            return None;
         }
-        if value > (u64::MAX - digit) / 10 {
-            return Decimal { value, good: false };
-        }
-        value = 10 * value + digit;
-        p += 1;
+        value = value.checked_mul(10)?.checked_add(u64::from(*byte - b'0'))?;
     }
-    Decimal {
-        value,
-        good: from < end,
-    }
+    Some(value)
 }
 
-// Puts the `len` bytes that the hex digits from `from` on spell into `bytes` from `at` on. False where one is no such digit.
-fn hex_at(text: &[u8], from: usize, len: usize, bytes: &mut [u8], at: usize) -> bool
-    requires { (from + 2 * len ≤ length text.now) × (at + len ≤ length bytes.old) }
-{
-    let mut i: usize = 0;
-    while i < len {
-        let p = from + 2 * i;
-        let high = hex_digit(text[p]);
-        let low = hex_digit(text[p + 1]);
-        if high > 15 {
-            return false;
-        }
-        if low > 15 {
-            return false;
-        }
-        bytes[at + i] = 16 * high + low;
-        i += 1;
+// The bytes that hex digits spell, two each.
+fn hex(alloc: Global, digits: &[u8]) -> Result<Option<Vec<u8>>, AllocError> {
+    let mut bytes = Vec::new(alloc);
+    for pair in digits.chunks(2) {
+        let [high, low] = pair else {
+            return Ok(None);
+        };
+        let (Some(high), Some(low)) = (hex_digit(*high), hex_digit(*low)) else {
+            return Ok(None);
+        };
+        bytes.push(16 * high + low)?;
     }
-    true
+    Ok(Some(bytes))
 }
 
-// Takes a number into the next cell.
-fn take_number(text: &[u8], from: usize, end: usize, numbers: &mut [u64], taken: Taken) -> Taken
-    requires { (from ≤ end) × (end ≤ length text.now) × (taken.numbers ≤ length numbers.old) }
-    ensures { (result.numbers ≤ length numbers.old) × (result.bytes ≡ taken.bytes) }
+// Takes a token into the case. False where it is none.
+fn take_token(alloc: Global, token: &[u8], case: &mut Case) -> Result<bool, AllocError>
+    ensures { case.new.kind ≡ case.old.kind }
 {
-    let read = decimal_at(text, from, end);
-    let n = taken.numbers;
-    if !read.good {
-        return taken.spoiled();
+    if let Some(digits) = token.strip_prefix(b"x") {
+        let Some(bytes) = hex(alloc, digits)? else {
+            return Ok(false);
+        };
+        case.strings.push(bytes)?;
+    } else {
+        let Some(number) = decimal(token) else {
+            return Ok(false);
+        };
+        case.numbers.push(number)?;
     }
-    if n >= numbers.len() {
-        return taken.spoiled();
-    }
-    numbers[n] = read.value;
-    Taken {
-        numbers: n + 1,
-        strings: taken.strings,
-        bytes: taken.bytes,
-        good: true,
-    }
+    Ok(true)
 }
 
-// Takes a byte string behind the bytes so far, and its two places into the next two cells of `spans`.
-fn take_string(
-    text: &[u8],
-    from: usize,
-    end: usize,
-    bytes: &mut [u8],
-    spans: &mut [usize],
-    taken: Taken,
-) -> Taken
-    requires { (from ≤ end) × (end ≤ length text.now) × (taken.bytes ≤ length bytes.old) }
-    ensures { (result.numbers ≡ taken.numbers) × (result.bytes ≤ length bytes.old) }
+// Reads a line, without the byte that ends it.
+pub fn parse(alloc: Global, line: &[u8]) -> Result<Line, AllocError>
+    ensures { IfOk result (λ read. BeginsWith line.now read) }
 {
-    let at = taken.bytes;
-    let k = taken.strings;
-    if k >= spans.len() / 2 {
-        return taken.spoiled();
-    }
-    if (end - from) % 2 != 0 {
-        return taken.spoiled();
-    }
-    let len = (end - from) / 2;
-    if len > bytes.len() - at {
-        return taken.spoiled();
-    }
-    if !hex_at(text, from, len, bytes, at) {
-        return taken.spoiled();
-    }
-    spans[2 * k] = at;
-    spans[2 * k + 1] = at + len;
-    Taken {
-        numbers: taken.numbers,
-        strings: k + 1,
-        bytes: at + len,
-        good: true,
-    }
-}
-
-fn take_token(
-    text: &[u8],
-    from: usize,
-    end: usize,
-    numbers: &mut [u64],
-    bytes: &mut [u8],
-    spans: &mut [usize],
-    taken: Taken,
-) -> Taken
-    requires { (from ≤ end) × (end ≤ length text.now) × (taken.numbers ≤ length numbers.old)
-        × (taken.bytes ≤ length bytes.old) }
-    ensures { (result.numbers ≤ length numbers.old) × (result.bytes ≤ length bytes.old) }
-{
-    if from < end {
-        if text[from] == b'x' {
-            return take_string(text, from + 1, end, bytes, spans, taken);
-        }
-    }
-    take_number(text, from, end, numbers, taken)
-}
-
-// Takes the tokens between two places, up to the first that is none.
-fn take_tokens(
-    text: &[u8],
-    from: usize,
-    end: usize,
-    numbers: &mut [u64],
-    bytes: &mut [u8],
-    spans: &mut [usize],
-) -> Taken
-    requires { (from ≤ end) × (end ≤ length text.now) }
-    ensures { result.numbers ≤ length numbers.old }
-{
-    let mut taken = Taken {
-        numbers: 0,
-        strings: 0,
-        bytes: 0,
-        good: true,
+    let Some((kind, rest)) = line.split_first() else {
+        return Ok(Line::Bad);
     };
-    let mut p = from;
-    while p < end {
-        if text[p] != b' ' {
-            return taken.spoiled();
-        }
-        let first = p + 1;
-        let stop = place_of(text, first, end, b' ');
-        taken = take_token(text, first, stop, numbers, bytes, spans, taken);
-        if !taken.good {
-            return taken;
-        }
-        p = stop;
+    if *kind == b'#' {
+        return Ok(Line::Comment);
     }
-    taken
-}
-
-fn is_letter(byte: u8) -> bool {
-    match byte {
-        b'a'..=b'z' | b'A'..=b'Z' => true,
-        _ => false,
+    if !kind.is_ascii_alphabetic() {
+        return Ok(Line::Bad);
     }
-}
-
-// The place behind the byte that ends a line; `end` where the text ends without one.
-fn behind(place: usize, end: usize) -> usize
-    requires { place ≤ end }
-    ensures { (place ≤ result) × (result ≤ end) }
-{
-    if place < end { place + 1 } else { place }
-}
-
-// A line's kind, the places of its tokens, if it may have any, and the place behind its end.
-#[derive(Clone, Copy)]
-struct Bounds {
-    kind: u8,
-    from: usize,
-    end: usize,
-    next: usize,
-    has_tokens: bool,
-    good: bool,
-}
-
-impl Bounds {
-    fn empty(kind: u8, next: usize) -> Bounds
-        ensures { (result.from ≡ next) × (result.end ≡ next) × (result.next ≡ next) }
-    {
-        Bounds {
-            kind,
-            from: next,
-            end: next,
-            next,
-            has_tokens: false,
-            good: false,
+    let mut case = Case {
+        kind: *kind,
+        numbers: Vec::new(alloc),
+        strings: Vec::new(alloc),
+    };
+    let Some((space, tokens)) = rest.split_first() else {
+        return Ok(Line::Case(case));
+    };
+    if *space != b' ' {
+        return Ok(Line::Bad);
+    }
+    for token in tokens.split(|byte| *byte == b' ') {
+        if !take_token(alloc, token, &mut case)? {
+            return Ok(Line::Bad);
         }
     }
-}
-
-fn bounds_at(text: &[u8], at: usize) -> Bounds
-    ensures { (at < length text.now → at < result.next) × (result.next ≤ length text.now)
-        × (result.from ≤ result.end) × (result.end ≤ length text.now) }
-{
-    if at >= text.len() {
-        return Bounds::empty(0, text.len());
-    }
-    let kind = text[at];
-    if kind == b'\n' {
-        return Bounds::empty(kind, at + 1);
-    }
-    let end = place_of(text, at + 1, text.len(), b'\n');
-    Bounds {
-        kind,
-        from: at + 1,
-        end,
-        next: behind(end, text.len()),
-        has_tokens: is_letter(kind),
-        good: kind == b'#',
-    }
-}
-
-// Reads the line at `at`. Its numbers go to the front of `numbers`, the bytes of its byte strings to the front of `bytes`; string k
-// begins and ends there at spans[2k] and spans[2k + 1].
-pub fn parse(
-    text: &[u8],
-    at: usize,
-    numbers: &mut [u64],
-    bytes: &mut [u8],
-    spans: &mut [usize],
-) -> Line
-    ensures { (at < length text.now → at < result.next) × (result.next ≤ length text.now)
-        × (result.numbers ≤ length numbers.old) }
-{
-    let found = bounds_at(text, at);
-    let next = found.next;
-    if !found.has_tokens {
-        return Line::empty(found.kind, next, found.good);
-    }
-    let taken = take_tokens(text, found.from, found.end, numbers, bytes, spans);
-    Line {
-        kind: found.kind,
-        numbers: taken.numbers,
-        strings: taken.strings,
-        next,
-        good: taken.good,
-    }
-}
-
-// Number k of a line; 0 where there is none.
-pub fn number(numbers: &[u64], k: usize) -> u64
-    ensures { result ≡ get_or numbers.now k 0 }
-{
-    if k < numbers.len() { numbers[k] } else { 0 }
-}
-
-// The bytes between two places; none where these aren't inside.
-pub fn part(bytes: &[u8], from: usize, end: usize) -> &[u8] {
-    if end > bytes.len() {
-        return &bytes[..0];
-    }
-    if from > end {
-        return &bytes[..0];
-    }
-    &bytes[from..end]
-}
-
-// Byte string k of a line; the empty one where its places aren't inside.
-pub fn string<'a>(bytes: &'a [u8], spans: &[usize], k: usize) -> &'a [u8] {
-    if k >= spans.len() / 2 {
-        return part(bytes, 0, 0);
-    }
-    part(bytes, spans[2 * k], spans[2 * k + 1])
+    Ok(Line::Case(case))
 }

@@ -1,79 +1,75 @@
 // How many cases of each kind were compared, and how many of them differ.
-use std::io;
+ghost use Rattle.std.specs.Prelude.{◌≡◌, ◌+◌, min, length, cond, IfOk, vec_len};
 
-#[derive(Clone, Copy)]
+use std::alloc::{AllocError, Global};
+use std::{fmt, io};
+
+#[derive(Clone, Copy, Debug, Default)]
 pub struct Tally {
     pub compared: u64,
     pub differ: u64,
 }
 
-// A row for each kind of a list, as far as there are kinds; the last row counts all cases.
-pub const ROWS: usize = 12;
-
-// One more, up to the largest number.
-fn more(n: u64) -> u64 {
-    if n < u64::MAX { n + 1 } else { n }
-}
-
 impl Tally {
-    fn with(self, same: bool) -> Tally {
-        let compared = more(self.compared);
-        if same {
-            Tally {
-                compared,
-                differ: self.differ,
-            }
-        } else {
-            Tally {
-                compared,
-                differ: more(self.differ),
-            }
+    // One case more, up to the largest number.
+    fn count(&mut self, is_same: bool)
+        ensures { (self.new.compared ≡ min (self.old.compared + 1) u64.MAX)
+            × (self.new.differ ≡ cond is_same self.old.differ (min (self.old.differ + 1) u64.MAX)) }
+    {
+        self.compared = self.compared.saturating_add(1);
+        if !is_same {
+            self.differ = self.differ.saturating_add(1);
         }
     }
 }
 
-pub fn none() -> [Tally; ROWS] {
-    let tally = Tally {
-        compared: 0,
-        differ: 0,
-    };
-    [tally; ROWS]
-}
-
-// The tallies with one case more. A kind that has no row is counted in the last one alone.
-pub fn counted(tallies: [Tally; ROWS], row: usize, is_same: bool) -> [Tally; ROWS] {
-    let mut rows = tallies;
-    if row < ROWS - 1 {
-        let tally = rows[row];
-        rows[row] = tally.with(is_same);
+impl fmt::Display for Tally {
+    fn fmt<W: fmt::Write>(&self, f: &mut fmt::Formatter<W>) -> fmt::Result {
+        let compared = self.compared;
+        let differ = self.differ;
+        write!(f, "{compared} compared, {differ} differ")
     }
-    let all = rows[ROWS - 1];
-    rows[ROWS - 1] = all.with(is_same);
-    rows
 }
 
-fn print_tally(rt: &impl Print, tally: Tally) -> io::Result<()> {
-    let compared = tally.compared;
-    let differ = tally.differ;
-    println!(rt; "{compared} compared, {differ} differ")
+// A tally for each row of a list, beside its name, and that of all cases.
+#[derive(Debug, Drop)]
+pub struct Tallies<'a> {
+    pub names: &'a [&'a str],
+    pub rows: Vec<Tally>,
+    pub all: Tally,
 }
 
-// The line of one kind.
-pub fn print_row(
-    rt: &impl Print,
-    name: &[u8],
-    tallies: [Tally; ROWS],
-    row: usize,
-) -> io::Result<()> {
-    if row < ROWS {
-        rt.write_all(name)?;
-        rt.print(": ")?;
-        print_tally(rt, tallies[row])?;
+impl<'a> Tallies<'a> {
+    pub fn new(alloc: Global, names: &'a [&'a str]) -> Result<Tallies<'a>, AllocError>
+        ensures { IfOk result (λ tallies. (vec_len tallies.rows ≡ length names.now)
+            × (tallies.all.compared ≡ 0) × (tallies.all.differ ≡ 0)) }
+    {
+        Ok(Tallies {
+            names,
+            rows: vec![in alloc; Tally::default(); names.len()]?,
+            all: Tally::default(),
+        })
     }
-    Ok(())
-}
 
-// The line of all cases.
-pub fn print_all(rt: &impl Print, tallies: [Tally; ROWS]) -> io::Result<()> {
-    print_tally(rt, tallies[ROWS - 1])
+    // One case more. Where it has no row it is counted among all alone.
+    pub fn count(&mut self, row: Option<usize>, is_same: bool)
+        ensures rows { vec_len self.new.rows ≡ vec_len self.old.rows }
+        ensures all { (self.new.all.compared ≡ min (self.old.all.compared + 1) u64.MAX)
+            × (self.new.all.differ ≡ cond is_same self.old.all.differ (min (self.old.all.differ + 1) u64.MAX)) }
+    {
+        if let Some(row) = row {
+            if let Some(tally) = self.rows.get_mut(row) {
+                tally.count(is_same);
+            }
+        }
+        self.all.count(is_same);
+    }
+
+    // A line for each row, and the line of all cases.
+    pub fn print(&self, rt: &impl Print) -> io::Result<()> {
+        for (name, tally) in self.names.iter().zip(&self.rows) {
+            println!(rt; "{name}: {tally}")?;
+        }
+        rt.println(self.all)
+    }
 }

@@ -1,7 +1,7 @@
 -- Each piece is written behind those before it, so that in the end all of them are.
-use Rattle.std.proofs.Common.{◌≡◌, ℕ, zero, suc, ◌+◌, ◌<◌, ◌≤◌, List, [], ◌∷◌, ◌++◌, arith, rules, refl, sym, ap, ◌∙◌, subst, length, take, get_or, append-nil, append_assoc, add-one}
+use Rattle.std.proofs.Common.{◌≡◌, ℕ, zero, suc, ◌+◌, ◌<◌, List, [], ◌∷◌, ◌++◌, arith, sym, ap, ◌∙◌, subst, length, take, get_or, append-nil, append_assoc, add-one}
 use mathlib.Core.List.{flatten}
-use lib.Seq.{sets, sets-eq, take_at, take_all}
+use lib.Seq.{take_all}
 use Rattle.std.specs.Io.KnownBytes.{Appends}
 use Rattle.std.proofs.KnownBytes.{Appends-nil, Appends-trans}
 use Rattle.block_lines.specs.Text.{blocks_text, blocks_pieces, piece_at}
@@ -16,29 +16,22 @@ grows (p ∷ ps) (suc i) h =
     rw (add-one (suc i)) (
     ap (λ l. p ++ l) (rw (add-one i) at (grows ps i (omega arith))) ∙ sym (append_assoc p (flatten (take i ps)) (get_or ps i [])))
 
--- what stands in the front of a buffer after a write there
-front_of : (d w : List ℕ) → length w ≤ length d → take (length w) (sets d 0 w) ≡ w
-front_of d w h = ap (take (length w)) (sets-eq w d 0 (omega (arith, h))) ∙ take_at w _ (length w) refl
-
 pub loop-i-init : goal.loop-i-init
 unfolding flatten
-loop-i-init g c = (refl, Appends-nil _)
+loop-i-init g c = Appends-nil _
 
 pub loop-i-preserved : goal.loop-i-preserved
 loop-i-preserved g c =
     let f = c.args.«data».now in
     let i = c.loop-i.i in
-    let w = piece_at f i in
-    let p = c.piece-len.ensures in
-    let fits : length w ≤ length c.loop-i.text = omega (arith, p.whole, p.short, c.loop-i.invariant.0) in
-    let written : take c.piece-len.result c.piece-len.new.out ≡ w
-    = ap (λ n. take n c.piece-len.new.out) p.whole ∙ ap (take (length w)) p.front ∙ front_of c.loop-i.text w fits in
-    let more : flatten (take i (blocks_pieces f)) ++ take c.piece-len.result c.piece-len.new.out ≡ flatten (take (i + 1) (blocks_pieces f))
-    = ap (λ l. flatten (take i (blocks_pieces f)) ++ l) written
+    let written : c.as_bytes.result.now ≡ piece_at f i = c.as_bytes.ensures.value ∙ c.in_ok-text.ensures.ok ∙ c.piece.ensures.whole in
+    let more : flatten (take i (blocks_pieces f)) ++ c.as_bytes.result.now ≡ flatten (take (i + 1) (blocks_pieces f)) =
+    ap (λ l. flatten (take i (blocks_pieces f)) ++ l) written
     ∙ sym (grows (blocks_pieces f) i (omega (arith, c.loop-i-test.true, c.pieces-i-end.ensures))) in
-    (search rules, subst (Appends _ _) more (Appends-trans _ _ _ _ _ c.loop-i.invariant.1 c.in_ok-write_all.ensures.bytes))
+    subst (Appends _ _) more (Appends-trans _ _ _ _ _ c.loop-i.invariant c.in_ok-write_all.ensures.bytes)
 
 pub returns : goal.returns
 unfolding blocks_text
 returns g c =
-    subst (Appends _ _) (ap flatten (take_all c.loop-i.i (blocks_pieces c.args.«data».now) (omega (arith, c.loop-i-test.false, c.pieces-i-end.ensures)))) c.loop-i.invariant.1
+    let all = take_all c.loop-i.i (blocks_pieces c.args.«data».now) (omega (arith, c.loop-i-test.false, c.pieces-i-end.ensures)) in
+    subst (Appends _ _) (ap flatten all) c.loop-i.invariant

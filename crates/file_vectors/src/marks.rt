@@ -1,0 +1,49 @@
+// Automata: the marks of the blocks of worked.index.
+use crate::files;
+use line_text::Refused;
+use std::alloc::{AllocError, Global};
+use std::rt::Files;
+
+// A mark's digit; no digit where it is neither 0 nor 1.
+fn digit(mark: u8) -> char {
+    match mark {
+        0 => '0',
+        1 => '1',
+        _ => '?',
+    }
+}
+
+// The marks' digits, and how many are 1.
+fn line(alloc: Global, marks: &[u8], count: usize) -> Result<String, AllocError> {
+    let mut line = String::new(alloc);
+    for mark in marks {
+        line.push(digit(*mark))?;
+    }
+    writeln!(line, " {count}")?;
+    Ok(line)
+}
+
+// Whether the text is the marks that the automaton gives the blocks of the file, or its refusal.
+fn is_text(alloc: Global, data: &[u8], table: &[u8], expected: &[u8]) -> Result<bool, AllocError> {
+    let Ok(opened) = index_load::load(data) else {
+        return Ok(false);
+    };
+    let mut marks = vec![in alloc; 2u8; opened.n]?;
+    let text = match listing::get_block_for_automaton(opened, data, table, &mut marks) {
+        Ok(count) => line(alloc, &marks, count)?,
+        Err(refusal) => Refused { refusal }.to_string(alloc)?,
+    };
+    Ok(text.as_bytes() == expected)
+}
+
+// Whether STEM.automaton marks the blocks as STEM.expected says.
+pub fn is_same(rt: &(impl Files + AllocGlobal), stem: &str) -> Result<bool, AllocError> {
+    let file = files::read(rt, "worked", "index")?;
+    let table = files::read(rt, stem, "automaton")?;
+    match (file, table, files::read(rt, stem, "expected")?) {
+        (Some(file), Some(table), Some(expected)) => {
+            is_text(rt.alloc(), &file, &table, &expected)
+        }
+        _ => Ok(false),
+    }
+}

@@ -1,0 +1,163 @@
+// What the calls are about: an automaton, an index file and its record, or one that may not belong to it.
+use crate::areas::holds_over_both;
+use crate::examples::is_example;
+use crate::{areas, tables};
+use index::SSTableIndexV3;
+use layout::refusals::Refusal;
+use std::alloc::{AllocError, Global};
+use vectors::Case;
+use vectors::told::is_told;
+
+#[derive(Drop)]
+pub struct Subject {
+    table: Vec<u8>,
+    file: Vec<u8>,
+    record: SSTableIndexV3,
+}
+
+impl Subject {
+    pub fn new(alloc: Global) -> Subject {
+        Subject {
+            table: Vec::new(alloc),
+            file: Vec::new(alloc),
+            record: record([0; 7]),
+        }
+    }
+
+    // Another automaton, by a line of this kind. False where the line is bad.
+    pub fn sets_table(&mut self, alloc: Global, case: &Case) -> Result<bool, AllocError> {
+        match tables::made(alloc, case, &self.table)? {
+            Some(table) => {
+                self.table = table;
+                Ok(true)
+            }
+            None => Ok(false),
+        }
+    }
+
+    // N, and the file: its count of blocks, 0 where it is refused
+    pub fn opens(
+        &mut self,
+        alloc: Global,
+        given: &[u64],
+        content: &[u8],
+    ) -> Result<bool, AllocError> {
+        self.file = content.to_vec(alloc)?;
+        self.record = index_load::load(&self.file).unwrap_or(record([0; 7]));
+        Ok(given == [self.record.n as u64].as_slice())
+    }
+
+    // N DIRECTORY LEN RECORDS LEN ADDRESSES LEN: this record from here on
+    pub fn sets_record(&mut self, given: &[u64]) -> bool {
+        let Some(numbers) = given.first_chunk::<7>() else {
+            return false;
+        };
+        self.record = record(*numbers);
+        given.len() == 7
+    }
+
+    // HAS NO MARK, and the interval
+    pub fn marks(&self, given: &[u64], start: &[u8], end: &[u8]) -> bool {
+        let [has @ (0 | 1), due @ ..] = given else {
+            return false;
+        };
+        let start = (*has == 1).then_some(start);
+        let answer = pruning_match::can_block_match_automaton(start, end, &self.table);
+        is_told(due, answer.map(|mark| [u64::from(mark)]))
+    }
+
+    // HAS ROOM NO, and the interval: whether the call has this number, and with number 0 writes an example
+    pub fn gives_example(
+        &self,
+        alloc: Global,
+        given: &[u64],
+        start: &[u8],
+        end: &[u8],
+    ) -> Result<bool, AllocError> {
+        let [has @ (0 | 1), room @ ..=areas::MOST, no] = *given else {
+            return Ok(false);
+        };
+        let start = (has == 1).then_some(start);
+        holds_over_both(alloc, room as usize, |area| {
+            let answer = example::example(start, end, &self.table, &mut area.bytes);
+            is_told(&[no], answer.map(|_| []))
+                && match answer {
+                    Ok(len) => area
+                        .front(len)
+                        .is_some_and(|word| is_example(start, end, &self.table, word)),
+                    Err(_) => area.front(0).is_some(),
+                }
+        })
+    }
+
+    // ROOM NO COUNT, and the marks
+    pub fn lists(&self, alloc: Global, given: &[u64], marks: &[u8]) -> Result<bool, AllocError> {
+        let [room @ ..=areas::MOST, due @ ..] = given else {
+            return Ok(false);
+        };
+        holds_over_both(alloc, *room as usize, |area| {
+            let answer = listing::get_block_for_automaton(
+                self.record,
+                &self.file,
+                &self.table,
+                &mut area.bytes,
+            );
+            is_told(due, answer.map(|count| [count as u64]))
+                && area.front(marks.len()) == Some(marks)
+        })
+    }
+
+    // ROOM: a listing whose record may not be the file's: marks as many as there are blocks, or one of the rows that are allowed then
+    pub fn may_list(&self, alloc: Global, given: &[u64]) -> Result<bool, AllocError> {
+        let [room @ ..=areas::MOST] = *given else {
+            return Ok(false);
+        };
+        holds_over_both(alloc, room as usize, |area| {
+            match listing::get_block_for_automaton(
+                self.record,
+                &self.file,
+                &self.table,
+                &mut area.bytes,
+            ) {
+                Ok(count) => area
+                    .front(self.record.n)
+                    .is_some_and(|marks| are_marks(marks, count)),
+                Err(
+                    Refusal::Unfit
+                    | Refusal::TableBad
+                    | Refusal::FlagBad
+                    | Refusal::StateBad
+                    | Refusal::RoomShort,
+                ) => area.front(0).is_some(),
+                Err(_) => false,
+            }
+        })
+    }
+}
+
+// Whether the bytes are marks of 0 and 1, so many of them 1.
+fn are_marks(bytes: &[u8], count: usize) -> bool {
+    bytes.iter().all(|mark| *mark <= 1) && bytes.iter().filter(|mark| **mark == 1).count() == count
+}
+
+// The record of these numbers, in the list's order. index_vectors has the same lines: a crate for them alone is no plainer.
+fn record(numbers: [u64; 7]) -> SSTableIndexV3 {
+    let [
+        n,
+        directory,
+        directory_len,
+        metas,
+        metas_len,
+        addrs,
+        addrs_len,
+    ] = numbers;
+    SSTableIndexV3 {
+        n: n as usize,
+        directory: directory as usize,
+        directory_len: directory_len as usize,
+        metas: metas as usize,
+        metas_len: metas_len as usize,
+        addrs: addrs as usize,
+        addrs_len: addrs_len as usize,
+    }
+}

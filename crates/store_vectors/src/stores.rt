@@ -1,0 +1,117 @@
+// What is asked of the library.
+ghost use Rattle.std.specs.Prelude.{◌≤◌, ◌*◌, length};
+ghost use Rattle.store.specs.Store.{group_count};
+
+use crate::blocks::STRIDE;
+use group::BlockAddr;
+use group::area::block_at;
+use layout::{MAX_BLOCKS, META_LEN, STORE_BLOCK_LEN};
+use std::alloc::{AllocError, Global};
+use store::Located;
+use store::grouping::Grouping;
+use store_read::BlockAddrStore;
+use store_write::AreaStore;
+
+// What fills an area before a store is written into it.
+const MARK: u8 = 0xa5;
+
+// Where a store begins in its area.
+const PLACE: usize = 16;
+
+const AREA_LEN: usize = 16384;
+
+// The bytes of the records' length.
+const LENGTH: usize = 8;
+
+// The numbers that the plan of a group takes.
+const PLAN_LEN: usize = 2;
+
+// Writes the blocks' store from PLACE on. Returns how many bytes that are, if as many as planned.
+fn write(blocks: &AreaStore, kept: &mut [u64], out: &mut [u8]) -> Option<usize>
+    requires { (2 * group_count blocks.now.group_len blocks.now.n ≤ length kept.old) × (16 ≤ length out.old) }
+{
+    let len = blocks.plan(kept);
+    if len > out.len() - PLACE {
+        return None;
+    }
+    let written = blocks.serialize(kept, &mut out[PLACE..]);
+    if written == len { Some(len) } else { None }
+}
+
+// The blocks' store, if no other bytes are written.
+pub fn written(alloc: Global, blocks: &AreaStore) -> Result<Option<Vec<u8>>, AllocError> {
+    let grouping = Grouping {
+        n: blocks.n,
+        group_len: blocks.group_len,
+    };
+    let mut kept = vec![in alloc; 0u64; PLAN_LEN * grouping.group_count()]?;
+    let mut out = vec![in alloc; MARK; AREA_LEN]?;
+    let len = write(blocks, &mut kept, &mut out);
+    match len.and_then(|len| framed(&out, len)) {
+        Some(store) => Ok(Some(store.to_vec(alloc)?)),
+        None => Ok(None),
+    }
+}
+
+// Whether the blocks' store, written from a slice of structs, is this one.
+pub fn is_written_from_slice(
+    alloc: Global,
+    blocks: &AreaStore,
+    store: &[u8],
+) -> Result<bool, AllocError> {
+    let mut records = Vec::new(alloc);
+    for i in 0..blocks.n {
+        records.push(block_at(blocks.area, STRIDE * i))?;
+    }
+    let mut out = vec![in alloc; MARK; AREA_LEN]?;
+    let written = store_slice::serialize(&records, &mut out[PLACE..]);
+    Ok(written.is_ok_and(|len| framed(&out, len) == Some(store)))
+}
+
+// Whether each block is found in the store.
+pub fn are_found(blocks: &AreaStore, store: &[u8]) -> bool {
+    (0..blocks.n).all(|id| get(store, blocks.n, id) == Some(block_at(blocks.area, STRIDE * id)))
+}
+
+// The `len` bytes from PLACE on, if all others are as they were.
+fn framed(area: &[u8], len: usize) -> Option<&[u8]> {
+    let (front, rest) = area.split_at_checked(PLACE)?;
+    let (store, behind) = rest.split_at_checked(len)?;
+    if front.iter().chain(behind).all(|byte| *byte == MARK) {
+        Some(store)
+    } else {
+        None
+    }
+}
+
+// The store in these bytes, if it has records for n blocks.
+fn open(store: &[u8], n: usize) -> Option<BlockAddrStore<'_>> {
+    if n < 1 || n > MAX_BLOCKS {
+        return None;
+    }
+    let (head, rest) = store.split_at_checked(LENGTH)?;
+    let len = serialize::deserialize_u64(head, 0) as usize;
+    let (metas, addrs) = rest.split_at_checked(len)?;
+    let group_len = STORE_BLOCK_LEN;
+    let grouping = Grouping { n, group_len };
+    if metas.len() < META_LEN * grouping.group_count() {
+        return None;
+    }
+    Some(BlockAddrStore {
+        metas,
+        addrs,
+        n,
+        group_len,
+    })
+}
+
+// The block of this id.
+pub fn get(store: &[u8], n: usize, id: usize) -> Option<BlockAddr> {
+    let store = open(store, n)?;
+    if id < store.n { store.get(id) } else { None }
+}
+
+// The block that holds the ordinal.
+pub fn locate(store: &[u8], n: usize, ord: u64) -> Option<Located> {
+    open(store, n)?.binary_search_ord(ord).ok()
+}

@@ -1,0 +1,6 @@
+-- There is a tally for each row.
+use Rattle.std.proofs.Common.{◌≡◌, vec_len}
+use Rattle.vectors.proofs.driver.compare.Given as goal
+
+abbrev pub invariant-loop-line : goal.invariant-loop-line
+invariant-loop-line g l = goal.F-IsAlwaysCallable g l.same × (vec_len l.tallies.rows ≡ vec_len l.initial.tallies.rows)

@@ -1,0 +1,25 @@
+// Answers as a list gives them.
+ghost use Rattle.std.specs.Prelude.{◌≡◌, ◌↔◌, ◌∷◌, true};
+ghost use Rattle.vectors.specs.Told.{told};
+
+use layout::refusals::Refusal;
+
+// Whether the numbers are these.
+fn are(given: &[u64], no: u32, others: &[u64]) -> bool
+    ensures { (result ≡ true) ↔ (given.now ≡ no ∷ others.now) }
+{
+    match given.split_first() {
+        Some((first, rest)) => *first == u64::from(no) && rest == others,
+        None => false,
+    }
+}
+
+// Whether the numbers are those of an answer: 0 and its own, or a refusal's number and zeros.
+pub fn is_told<const N: usize>(given: &[u64], answer: Result<[u64; N], Refusal>) -> bool
+    ensures { (result ≡ true) ↔ (given.now ≡ told N answer.entry) }
+{
+    match answer {
+        Ok(numbers) => are(given, 0, &numbers),
+        Err(refusal) => are(given, u32::from(refusal), &[0; N]),
+    }
+}
