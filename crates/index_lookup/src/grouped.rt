@@ -191,3 +191,71 @@ impl<'a> OpenedIndex<'a> {
         Some((position, directory.key(id).len()))
     }
 }
+
+// The address of block `block_id`.
+pub fn get_block(
+    opened: SSTableIndexV3,
+    data: &[u8],
+    group_len: usize,
+    block_id: u64,
+) -> Result<BlockAddr, Refusal>
+    requires { GroupLenOk group_len }
+    ensures { GetBlockBy group_len «data».now opened block_id (by_id_no result) (by_id_addr result) }
+{
+    OpenedIndex::check(opened, data, group_len)?.get_block(block_id)
+}
+
+// The last block whose first ordinal is at or below `ord`.
+pub fn locate_with_ord(
+    opened: SSTableIndexV3,
+    data: &[u8],
+    group_len: usize,
+    ord: u64,
+) -> Result<Located, Refusal>
+    requires { GroupLenOk group_len }
+    ensures { LocateWithOrdBy group_len «data».now opened ord (located_no result) (located_id result) (located_addr result) }
+{
+    OpenedIndex::check(opened, data, group_len)?.locate_with_ord(ord)
+}
+
+// The first block whose separator isn't below `key`.
+pub fn locate_with_key(
+    opened: SSTableIndexV3,
+    data: &[u8],
+    group_len: usize,
+    key: &[u8],
+) -> Result<usize, Refusal>
+    requires { GroupLenOk group_len }
+    ensures { LocateWithKeyBy group_len «data».now opened key.now (id_no result) (id_of result) }
+{
+    OpenedIndex::check(opened, data, group_len)?.locate_with_key(key)
+}
+
+// The first block whose separator isn't below `key`, with its address.
+pub fn get_block_with_key(
+    opened: SSTableIndexV3,
+    data: &[u8],
+    group_len: usize,
+    key: &[u8],
+) -> Result<Located, Refusal>
+    requires { GroupLenOk group_len }
+    ensures { GetBlockWithKeyBy group_len «data».now opened key.now (located_no result) (located_id result) (located_addr result) }
+{
+    OpenedIndex::check(opened, data, group_len)?.get_block_with_key(key)
+}
+
+// Where the separator of block `block_id` stands: its offset and its length.
+pub fn separator_place(
+    opened: SSTableIndexV3,
+    data: &[u8],
+    group_len: usize,
+    block_id: u64,
+) -> Option<(usize, usize)>
+    requires { GroupLenOk group_len }
+    ensures { result ≡ place_by group_len opened «data».now block_id }
+{
+    match OpenedIndex::check(opened, data, group_len) {
+        Ok(index) => index.separator_place(block_id),
+        Err(_) => None,
+    }
+}

@@ -1,4 +1,4 @@
-// The lookups in an opened index.
+// The lookups in an opened index, with groups of the standard length: the calls that the C interface makes.
 #![tactic(auto)]
 
 pub mod grouped;
@@ -25,21 +25,21 @@ pub fn opened_bad(opened: SSTableIndexV3, len: usize) -> bool
 pub fn get_block(opened: SSTableIndexV3, data: &[u8], block_id: u64) -> Result<BlockAddr, Refusal>
     ensures { GetBlock «data».now opened block_id (by_id_no result) (by_id_addr result) }
 {
-    OpenedIndex::check(opened, data, STORE_BLOCK_LEN)?.get_block(block_id)
+    grouped::get_block(opened, data, STORE_BLOCK_LEN, block_id)
 }
 
 // The block that holds the ordinal.
 pub fn locate_with_ord(opened: SSTableIndexV3, data: &[u8], ord: u64) -> Result<Located, Refusal>
     ensures { LocateWithOrd «data».now opened ord (located_no result) (located_id result) (located_addr result) }
 {
-    OpenedIndex::check(opened, data, STORE_BLOCK_LEN)?.locate_with_ord(ord)
+    grouped::locate_with_ord(opened, data, STORE_BLOCK_LEN, ord)
 }
 
 // The block that may hold the key.
 pub fn locate_with_key(opened: SSTableIndexV3, data: &[u8], key: &[u8]) -> Result<usize, Refusal>
     ensures { LocateWithKey «data».now opened key.now (id_no result) (id_of result) }
 {
-    OpenedIndex::check(opened, data, STORE_BLOCK_LEN)?.locate_with_key(key)
+    grouped::locate_with_key(opened, data, STORE_BLOCK_LEN, key)
 }
 
 // The block that may hold the key, with its address.
@@ -50,17 +50,14 @@ pub fn get_block_with_key(
 ) -> Result<Located, Refusal>
     ensures { GetBlockWithKey «data».now opened key.now (located_no result) (located_id result) (located_addr result) }
 {
-    OpenedIndex::check(opened, data, STORE_BLOCK_LEN)?.get_block_with_key(key)
+    grouped::get_block_with_key(opened, data, STORE_BLOCK_LEN, key)
 }
 
 // Where the separator of block `block_id` stands: its offset and its length.
 pub fn separator_place(opened: SSTableIndexV3, data: &[u8], block_id: u64) -> Option<(usize, usize)>
     ensures { result ≡ place_def opened «data».now block_id }
 {
-    match OpenedIndex::check(opened, data, STORE_BLOCK_LEN) {
-        Ok(index) => index.separator_place(block_id),
-        Err(_) => None,
-    }
+    grouped::separator_place(opened, data, STORE_BLOCK_LEN, block_id)
 }
 
 // The separator of block `block_id`, as a part of the bytes; an empty part where there is none.

@@ -135,7 +135,8 @@ impl Trail {
 
     // The state behind the first n bytes of the key. All of them are followed, but in a key that no file has.
     pub fn state_behind(&self, table: Table, key: &[u8], n: usize) -> usize
-        requires { IsTrail table.bytes.now key.now self.now × (n ≤ length key.now) }
+        requires { Followed table.bytes.now key.now self.now.states self.now.known × (self.now.known ≤ max_key_len)
+            × (n ≤ length key.now) }
         ensures { (result ≡ run table.entry.bytes.now 0 (take n key.now)) × (result < state_count table.entry.bytes.now) }
     {
         if n == self.known {

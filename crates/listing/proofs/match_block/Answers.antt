@@ -33,7 +33,7 @@ returns-then-is_dead-clause-turned c =
     }
 
 pub state_behind-base-requires : goal.state_behind-base-requires
-state_behind-base-requires c = (c.follow.ensures.0, omega (arith, common_prefix_len-left c.args.start_key.now c.args.end_key.now))
+state_behind-base-requires c = (c.follow.ensures.0.followed, c.follow.ensures.0.few, omega (arith, common_prefix_len-left c.args.start_key.now c.args.end_key.now))
 
 pub returns-clause-turned : goal.returns-clause-turned
 returns-clause-turned c =

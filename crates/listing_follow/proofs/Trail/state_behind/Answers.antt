@@ -8,6 +8,6 @@ pub returns-then-n-self : goal.returns-then-n-self
 returns-then-n-self c =
     let a = c.args in
     let trail = a.self.now in
-    let followed = c.requires.0.followed in
+    let followed = c.requires.0 in
     let bytes = bytes_of a.key.now (λ i. omega (arith, c.type_inv.key i)) in
     (followed.each a.n (omega arith), followed-state a.table.bytes.now a.key.now trail.states trail.known a.n followed a.table.well_formed bytes (omega arith))

@@ -1,7 +1,0 @@
--- A record that its own test refuses has no separator.
-use Rattle.std.proofs.Common.{sym}
-use Rattle.index.proofs.Places.{unfit-missing}
-use Rattle.index_lookup.proofs.separator_place.Goals as goal
-
-pub returns-in-Err : goal.returns-in-Err
-returns-in-Err c = sym (unfit-missing c.args.opened c.args.«data».now c.args.block_id c.in-Err.ensures.1)
