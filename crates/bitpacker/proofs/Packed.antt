@@ -2,15 +2,15 @@
 use mathlib.Core.Path.{◌≡◌, refl, sym, ap, ◌∙◌}
 use mathlib.Core.List.{List}
 use Prim.Native.Nat.{ℕ, ◌+◌, ◌*◌, ◌/◌, ◌%◌, ◌^◌, ◌≤◌, ◌<◌}
-use native.Mathlib.Nat.{add_comm, zero-add, mul_assoc, mul-add-mod_self_right, mul-add-div_right, div-lt_iff_lt-mul}
+use native.Mathlib.Nat.{add_comm, zero-add, mul_assoc, mul-add-mod_self_right, mul-add-div_right}
 use native.Mathlib.Omega.{arith}
 use lib.Dec.{lit<}
-use lib.ListN.{length, take}
+use lib.ListN.{length}
 use lib.Pow.{pow-add, pow_pos, shr_lt, shr-shr}
 use lib.Seq.{sets, length-sets}
 use Rattle.serialize.specs.Digits.{digits_of, le_bytes}
 use Rattle.serialize.proofs.Digits.{length-digits_of, digits_of-add}
-use Rattle.serialize.proofs.Stores.{sets-append, sets-part}
+use Rattle.serialize.proofs.Stores.{sets-append}
 use Rattle.bitpacker.specs.declared.BitPacker.{BitPacker}
 use Rattle.bitpacker.specs.Bits.{bytes_of}
 use Rattle.bitpacker.specs.Packer.{Waiting, joined_to, words_of, leaving, packed_with}
@@ -44,12 +44,6 @@ module _ {d l : List ℕ} {p : BitPacker} {b N : ℕ} (k : Packed d l p b N) whe
   pub packed-length : length l ≡ length d
   packed-length = ap length k.out ∙ length-sets d 0 (le_bytes p.written N)
 
-  pub packed-small : N < 2 ^ b
-  packed-small =
-      let low = k.waiting.low in
-      let h : N / 2 ^ (8 * p.written) < 2 ^ p.filled = rw k.rest at low in
-      rw (← k.count, add_comm (8 * p.written) p.filled, pow-add 2 p.filled (8 * p.written)) ((div-lt_iff_lt-mul (pow_pos (8 * p.written))).0 h)
-
   -- a field more
   pub packed-write : (v n : ℕ) → v < 2 ^ n → Packed d (sets l p.written (leaving p v n)) (packed_with p v n) (b + n) (v * 2 ^ b + N)
   unfolding leaving packed_with
@@ -58,8 +52,10 @@ module _ {d l : List ℕ} {p : BitPacker} {b N : ℕ} (k : Packed d l p b N) whe
       let f = p.filled in
       let W = words_of p n in
       let M = v * 2 ^ b + N in
-      let apart : M ≡ v * 2 ^ f * 2 ^ (8 * w) + N = rw (← k.count, add_comm (8 * w) f, pow-add 2 f (8 * w), ← (mul_assoc v (2 ^ f) (2 ^ (8 * w)))) refl in
-      let up : M / 2 ^ (8 * w) ≡ joined_to p v = rw (apart, mul-add-div_right (pow_pos (8 * w)) (v * 2 ^ f) N, ← k.rest) (add_comm (v * 2 ^ f) p.buffer) in
+      let apart : M ≡ v * 2 ^ f * 2 ^ (8 * w) + N =
+      rw (← k.count, add_comm (8 * w) f, pow-add 2 f (8 * w), ← (mul_assoc v (2 ^ f) (2 ^ (8 * w)))) refl in
+      let up : M / 2 ^ (8 * w) ≡ joined_to p v =
+      rw (apart, mul-add-div_right (pow_pos (8 * w)) (v * 2 ^ f) N, ← k.rest) (add_comm (v * 2 ^ f) p.buffer) in
       let low : M % 2 ^ (8 * w) ≡ N % 2 ^ (8 * w) = rw apart (mul-add-mod_self_right (v * 2 ^ f) (2 ^ (8 * w)) N) in
       let size : f + n ≡ (f + n) % 64 + 64 * W = omega arith in
       let at-end : 8 * w + 64 * W ≡ 8 * (w + 8 * W) = omega arith in
@@ -74,7 +70,8 @@ module _ {d l : List ℕ} {p : BitPacker} {b N : ℕ} (k : Packed d l p b N) whe
       }
 
   -- the same from what `write` ensures
-  pub packed-wrote : (v n : ℕ) {p' : BitPacker} {l' : List ℕ} → v < 2 ^ n → (p' ≡ packed_with p v n) × (l' ≡ sets l p.written (leaving p v n))
+  pub packed-wrote : (v n : ℕ) {p' : BitPacker} {l' : List ℕ} → v < 2 ^ n → (p' ≡ packed_with p v n)
+      × (l' ≡ sets l p.written (leaving p v n))
       → Packed d l' p' (b + n) (v * 2 ^ b + N)
   packed-wrote v n small e = rw (e.0, e.1) (packed-write v n small)
 
@@ -86,7 +83,8 @@ module _ {d l : List ℕ} {p : BitPacker} {b N : ℕ} (k : Packed d l p b N) whe
       (e, rw (k.out, k.rest, ← e) (more_bytes d p.written (bytes_of p.filled) N N refl))
 
   -- the same from what `flush` ensures
-  pub packed-flushed : {r : ℕ} {l' : List ℕ} → (r ≡ p.written + bytes_of p.filled) × (l' ≡ sets l p.written (le_bytes (bytes_of p.filled) p.buffer))
+  pub packed-flushed : {r : ℕ} {l' : List ℕ} → (r ≡ p.written + bytes_of p.filled)
+      × (l' ≡ sets l p.written (le_bytes (bytes_of p.filled) p.buffer))
       → (r ≡ bytes_of b) × (l' ≡ sets d 0 (le_bytes (bytes_of b) N))
   packed-flushed e = (e.0 ∙ packed-flush.0, e.1 ∙ packed-flush.1)
 
@@ -97,9 +95,3 @@ module _ {d l : List ℕ} {p : BitPacker} {b N : ℕ} (k : Packed d l p b N) whe
 
   pub packed-room-flush : b ≤ 8 * length d → Waiting p × (p.written + bytes_of p.filled ≤ length l)
   packed-room-flush room = (k.waiting, omega (arith, packed-length))
-
--- what `flush` leaves, as a reader finds it
-pub packed-front : (d : List ℕ) (b N : ℕ) → b ≤ 8 * length d → take (bytes_of b) (sets d 0 (le_bytes (bytes_of b) N)) ≡ le_bytes (bytes_of b) N
-packed-front d b N room =
-    let e = length-digits_of 8 (bytes_of b) N in
-    rw e at (sets-part d (le_bytes (bytes_of b) N) 0 (omega arith))

@@ -15,7 +15,9 @@ pub fn compute_num_bits(value: u64) -> u8
     if amplitude <= 56 { amplitude as u8 } else { 64 }
 }
 
-// The number that the last bytes spell, fewer than four. Each count has its own loads and no loop.
+// The number that the last bytes spell, fewer than four. Each count has its own loads: with one loop over `left` bytes a field at the end
+// of the bytes takes 77 instructions in place of 51, and one elsewhere 60 in place of 47 (callgrind). Place and length go beside the slice
+// in all three functions: over `&data[at..]` a field at the end takes 51.3 in place of 50.9, and one elsewhere no fewer.
 fn load_few(data: &[u8], at: usize, left: usize) -> u64
     requires { (left < 4) × (at + left ≤ length «data».now) }
     ensures value { result ≡ number_at «data».now at left }
@@ -64,12 +66,13 @@ pub fn extract_bits(data: &[u8], addr_bits: u16, num_bits: u8) -> u64
     requires { (num_bits ≤ 56) × (addr_bits / 8 ≤ length «data».now) }
     ensures { result ≡ le_val «data».now / 2 ^ addr_bits % 2 ^ num_bits }
 {
-    let unshifted = load(data, (addr_bits / 8) as usize);
+    let unshifted = load(data, usize::from(addr_bits / 8));
     (unshifted >> (addr_bits % 8)) & ((1u64 << num_bits) - 1)
 }
 
-// A writer of fields: `written` bytes are out, and `buffer` holds the `filled` bits after them.
-#[derive(Clone, Copy)]
+// A writer of fields: `written` bytes are out, and `buffer` holds the `filled` bits after them. The output is lent to each call: each law
+// of a writer that held it would speak of two values of the output.
+#[derive(Clone, Copy, Default)]
 pub struct BitPacker {
     pub buffer: u64,
     pub filled: usize,
@@ -80,11 +83,7 @@ impl BitPacker {
     pub fn new() -> BitPacker
         ensures { (result.buffer ≡ 0) × (result.filled ≡ 0) × (result.written ≡ 0) }
     {
-        BitPacker {
-            buffer: 0,
-            filled: 0,
-            written: 0,
-        }
+        BitPacker::default()
     }
 
     // Appends a field of `num_bits` bits.
@@ -96,7 +95,7 @@ impl BitPacker {
     {
         let filled = self.filled;
         let written = self.written;
-        let total = filled + (num_bits as usize);
+        let total = filled + usize::from(num_bits);
         let word = self.buffer | (value << filled);
         if total < 64 {
             return BitPacker {

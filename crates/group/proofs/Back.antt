@@ -1,16 +1,13 @@
 -- What was written is read back: bytes that begin with a group's give its blocks, so that equal bytes mean equal blocks.
 use Prim.Native.Nat.{ℕ, zero, suc, ◌+◌, ◌-◌, ◌*◌, ◌/◌, ◌%◌, ◌^◌, ◌≤◌, ◌<◌, suc-le-suc}
-use mathlib.Core.Path.{◌≡◌, sym, ap, ◌∙◌}
+use mathlib.Core.Path.{◌≡◌, sym, ◌∙◌}
 use mathlib.Core.Bool.{false}
 use mathlib.Core.List.{List, ◌∷◌}
-use native.Mathlib.Nat.{le_of_suc-le-suc}
 use native.Mathlib.Omega.{arith}
 use borrow.Author.Tests.{le-ltb}
 use lib.Dec.{ltb}
 use lib.ListN.{length, take, get_or}
-use lib.Seq.{ext_get_or, take-length}
 use Rattle.serialize.specs.Digits.{le_val, le_bytes, DigitsBelow}
-use Rattle.serialize.proofs.Digits.{digits_of-below}
 use Rattle.bitpacker.specs.Bits.{bytes_of}
 use Rattle.bitpacker.specs.Fields.{group_val, range_bit, ordinal_bit, group_bits}
 use Rattle.bitpacker.proofs.Fields.{group-read-back}
@@ -24,14 +21,16 @@ use Rattle.group.specs.Facts.{Takes, Fitting}
 use Rattle.group.specs.declared.BlockAddr.{BlockAddr}
 use Rattle.group.specs.declared.BlockAddrBlockMetadata.{BlockAddrBlockMetadata}
 use Rattle.group.proofs.Blocks.{ends-rise, ordinals-rise}
-use Rattle.group.proofs.Written.{length-range_values, length-ordinal_values, length_fields, fields_at, takes-below, range-end-at, ordinal-at, length-addr_bytes}
+use Rattle.group.proofs.Written.{length-range_values, length-ordinal_values, length_fields, fields_at, takes-below, range-end-at}
+use Rattle.group.proofs.Written.{ordinal-at, length-addr_bytes}
 
 -- what is stored of v reads as the first value + v
 pub value-back : (first s w i v : ℕ) → s * i ≤ v + 2 ^ (w - 1) → value_read first (stored_of s w i v) s i w ≡ first + v
 unfolding value_read
 value-back first s w i v h =
     let e = stored_back s w i v h in
-    let t : ltb (first + stored_of s w i v + s * i) (2 ^ (w - 1)) ≡ false = le-ltb (first + stored_of s w i v + s * i) (2 ^ (w - 1)) (omega arith) in
+    let t : ltb (first + stored_of s w i v + s * i) (2 ^ (w - 1)) ≡ false =
+    le-ltb (first + stored_of s w i v + s * i) (2 ^ (w - 1)) (omega arith) in
     rw t (omega arith)
 
 -- the same of a field of a list of values
@@ -39,7 +38,8 @@ field_back : (first s w : ℕ) (vs : List ℕ) → Takes s w vs → (j : ℕ) �
     → value_read first (get_or (fields s w 1 vs) j 0) s (suc j) w ≡ first + get_or vs j 0
 field_back first s w vs t j h = rw (fields_at s w vs j h) (value-back first s w (suc j) (get_or vs j 0) (t.shifted j h))
 
-module _ (m : BlockAddrBlockMetadata) (b : BlockAddr) (bs : List BlockAddr) (fit : Fitting m b bs) (legal : Legal (block_of (b ∷ bs)) (suc (length bs)))
+module _ (m : BlockAddrBlockMetadata) (b : BlockAddr) (bs : List BlockAddr) (fit : Fitting m b bs)
+    (legal : Legal (block_of (b ∷ bs)) (suc (length bs)))
     (l : List ℕ) (bytes : DigitsBelow 8 l) (front : take (length (addr_bytes m b bs)) l ≡ addr_bytes m b bs) where
   -- the fields that a reader finds
   found : (j : ℕ)
@@ -53,9 +53,13 @@ module _ (m : BlockAddrBlockMetadata) (b : BlockAddr) (bs : List BlockAddr) (fit
       let o = m.first_ordinal_nbits in
       let rs = fields m.range_start_slope r 1 (range_values b.start b bs) in
       let os = fields m.first_ordinal_slope o 1 (ordinal_values b.first_ordinal bs) in
-      let n : length os ≡ length bs = length_fields m.first_ordinal_slope o 1 (ordinal_values b.first_ordinal bs) ∙ length-ordinal_values b.first_ordinal bs in
-      let e : take (bytes_of (group_bits r o (length os))) l ≡ le_bytes (bytes_of (group_bits r o (length os))) (group_val r o rs os) = rw n (rw (length-addr_bytes m b bs) at front) in
-      let back = group-read-back r o rs os (takes-below m.range_start_slope r (range_values b.start b bs) fit.ranges) (takes-below m.first_ordinal_slope o (ordinal_values b.first_ordinal bs) fit.ordinals) l j bytes e in
+      let n : length os ≡ length bs =
+      length_fields m.first_ordinal_slope o 1 (ordinal_values b.first_ordinal bs) ∙ length-ordinal_values b.first_ordinal bs in
+      let e : take (bytes_of (group_bits r o (length os))) l ≡ le_bytes (bytes_of (group_bits r o (length os))) (group_val r o rs os) =
+      rw n (rw (length-addr_bytes m b bs) at front) in
+      let back =
+      group-read-back r o rs os (takes-below m.range_start_slope r (range_values b.start b bs) fit.ranges)
+      (takes-below m.first_ordinal_slope o (ordinal_values b.first_ordinal bs) fit.ordinals) l j bytes e in
       (λ h. back.0 (omega arith), λ h. back.1 (omega arith))
 
   -- the start behind block j is its end, also behind the last block
@@ -84,15 +88,3 @@ module _ (m : BlockAddrBlockMetadata) (b : BlockAddr) (bs : List BlockAddr) (fit
   pub block_back : (i : ℕ) → i ≤ length bs → block_read m (le_val l) i ≡ block_of (b ∷ bs) i
   unfolding block_read
   block_back i h = rw (start_back i h, end_back i h, ordinal-back i h)
-
--- equal bytes mean equal blocks
-pub blocks-inj : (m : BlockAddrBlockMetadata) (b b' : BlockAddr) (bs bs' : List BlockAddr) → Fitting m b bs → Fitting m b' bs'
-    → Legal (block_of (b ∷ bs)) (suc (length bs)) → Legal (block_of (b' ∷ bs')) (suc (length bs'))
-    → addr_bytes m b bs ≡ addr_bytes m b' bs' → b ∷ bs ≡ b' ∷ bs'
-blocks-inj m b b' bs bs' fit fit' legal legal' e =
-    let l = addr_bytes m b bs in
-    let n : length bs ≡ length bs' = sym fit.blocks ∙ fit'.blocks in
-    let front : take (length l) l ≡ l = take-length l in
-    let bytes : DigitsBelow 8 l = unfold addr_bytes in digits_of-below 8 (bytes_of (group_bits m.range_start_nbits m.first_ordinal_nbits (length bs))) (group_number m b bs) in
-    ext_get_or (record { start = 0; end = 0; first_ordinal = 0 }) (b ∷ bs) (b' ∷ bs') (ap suc n)
-    (λ i h. sym (block_back m b bs fit legal l bytes front i (le_of_suc-le-suc h)) ∙ block_back m b' bs' fit' legal' l bytes (rw (← e) front) i (omega arith))

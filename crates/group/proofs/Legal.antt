@@ -3,7 +3,7 @@ use mathlib.Core.Path.{◌≡◌}
 use mathlib.Core.Bool.{false, ◌||◌}
 use lib.Dec.{eqb, ltb, leb}
 use borrow.Author.Tests.{ltb-false, leb-false, eqb-true, not-false, le-ltb, lt-leb, eq-eqb}
-use Rattle.serialize.proofs.Tests.{neither}
+use Rattle.std.proofs.lemmas.Bool.{or_parts}
 use Rattle.group.specs.declared.BlockAddr.{BlockAddr}
 use Rattle.group.specs.Legal.{limit, NumbersOk, Follows}
 use Rattle.group.specs.Rows.{are_numbers_bad, is_join_bad, is_ordinal_bad}
@@ -11,8 +11,8 @@ use Rattle.group.specs.Rows.{are_numbers_bad, is_join_bad, is_ordinal_bad}
 pub numbers-ok : (b : BlockAddr) → are_numbers_bad b ≡ false → NumbersOk b
 unfolding are_numbers_bad
 numbers-ok b e =
-    let first = neither (ltb b.end b.start) (leb limit b.end || leb limit b.first_ordinal) e in
-    let rest = neither (leb limit b.end) (leb limit b.first_ordinal) first.1 in
+    let first = or_parts (ltb b.end b.start) (leb limit b.end || leb limit b.first_ordinal) e in
+    let rest = or_parts (leb limit b.end) (leb limit b.first_ordinal) first.1 in
     record {
       ordered = ltb-false b.end b.start first.0;
       end-small = leb-false limit b.end rest.0;

@@ -1,4 +1,5 @@
 pub mod Limit
+pub mod Shift
 pub mod Legal
 pub mod RowOrder
 pub mod Blocks

@@ -7,7 +7,7 @@ use native.Mathlib.Omega.{arith}
 use lib.ListN.{length, take, drop}
 use lib.Seq.{take_all, take-add, drop-drop}
 use Rattle.serialize.specs.Digits.{digits_of, le_bytes, DigitsBelow, number_at}
-use Rattle.serialize.proofs.Numbers.{part-of-front, number-back, number_lt, number-bytes}
+use Rattle.serialize.proofs.Numbers.{part-of-front, number-back, number-bytes}
 use Rattle.group.specs.Meta.{meta_bytes, metadata_at}
 use Rattle.group.specs.declared.BlockAddrBlockMetadata.{BlockAddrBlockMetadata}
 
@@ -55,7 +55,8 @@ pub meta-back : (m : BlockAddrBlockMetadata) (s : List ℕ) (at : ℕ) → MetaF
 unfolding meta_bytes metadata_at digits_of
 meta-back m s at k e =
     let field : (p w v : ℕ) → p + w ≤ 36 → v < 2 ^ (8 * w) → take w (drop p (meta_bytes m)) ≡ le_bytes w v → number_at s (at + p) w ≡ v =
-    λ p w v h l q. rw (drop-drop p at s) at (number-back (drop at s) p w v l (sym (part-of-front (drop at s) 36 p w h) ∙ ap (λ (x : List ℕ). take w (drop p x)) e ∙ q)) in
+    λ p w v h l q. rw (drop-drop p at s) at
+    (number-back (drop at s) p w v l (sym (part-of-front (drop at s) 36 p w h) ∙ ap (λ (x : List ℕ). take w (drop p x)) e ∙ q)) in
     same-meta
     (rw (add-zero at) at (field 0 8 m.offset (omega arith) k.offset refl))
     (field 8 8 m.range_start (omega arith) k.range-start refl)
@@ -68,7 +69,8 @@ meta-back m s at k e =
 
 module _ (s : List ℕ) (at : ℕ) (below : DigitsBelow 8 s) where
   -- a number behind n bytes that stand there
-  more : {b : List ℕ} (n w : ℕ) → at + n + w ≤ length s → b ≡ take n (drop at s) → b ++ le_bytes w (number_at s (at + n) w) ≡ take (n + w) (drop at s)
+  more : {b : List ℕ} (n w : ℕ) → at + n + w ≤ length s → b ≡ take n (drop at s)
+      → b ++ le_bytes w (number_at s (at + n) w) ≡ take (n + w) (drop at s)
   more n w h e = rw (e, number-bytes s (at + n) w h below, take-add n w (drop at s), drop-drop n at s)
 
   pub meta-bytes : at + 36 ≤ length s → meta_bytes (metadata_at s at) ≡ take 36 (drop at s)
@@ -81,19 +83,6 @@ module _ (s : List ℕ) (at : ℕ) (below : DigitsBelow 8 s) where
       (more 24 4 (omega arith)
       (more 16 8 (omega arith)
       (more 8 8 (omega arith) (number-bytes s at 8 (omega arith) below)))))))
-
-  pub metadata_at-fits : MetaFits (metadata_at s at)
-  unfolding metadata_at
-  metadata_at-fits = record {
-    offset = number_lt s at 8 below;
-    range-start = number_lt s (at + 8) 8 below;
-    first-ordinal = number_lt s (at + 16) 8 below;
-    range-start-slope = number_lt s (at + 24) 4 below;
-    first-ordinal-slope = number_lt s (at + 28) 4 below;
-    first-ordinal-nbits = number_lt s (at + 32) 1 below;
-    range-start-nbits = number_lt s (at + 33) 1 below;
-    block-len = number_lt s (at + 34) 2 below;
-  }
 
 -- different records have different bytes
 pub meta-inj : (m m' : BlockAddrBlockMetadata) → MetaFits m → MetaFits m' → meta_bytes m ≡ meta_bytes m' → m ≡ m'

@@ -1,4 +1,5 @@
--- Where a group's bits end: at bit 112 × (L - 1) + 56 at most, for a group of at most L blocks that keeps row 15; a number of 16 bits holds it.
+-- Where a group's bits end: at bit 112 × (L - 1) + 56 at most, for a group of at most L blocks that keeps row 15; a number of 16 bits
+-- holds it.
 use mathlib.Core.Path.{◌≡◌, refl}
 use mathlib.Core.Bool.{false}
 use Prim.Native.Nat.{ℕ, ◌+◌, ◌-◌, ◌*◌, ◌^◌, ◌≤◌, ◌<◌}

@@ -8,7 +8,7 @@ use native.Mathlib.Omega.{arith}
 use borrow.Author.Tests.{ltb-false, eqb-true, not-false, le-ltb, lt-ltb, eq-eqb}
 use lib.Dec.{ltb}
 use lib.Pow.{pow_pos, pow_mono}
-use Rattle.serialize.proofs.Tests.{neither}
+use Rattle.std.proofs.lemmas.Bool.{or_parts}
 use Rattle.layout.specs.Layout.{max_group_len}
 use Rattle.bitpacker.specs.Bits.{bytes_of}
 use Rattle.bitpacker.specs.Fields.{range_bit, ordinal_bit, group_bits}
@@ -21,7 +21,7 @@ use Rattle.group.specs.declared.BlockAddrBlockMetadata.{BlockAddrBlockMetadata}
 
 pub width-ok : (w : ℕ) → width_bad w ≡ false → (1 ≤ w) × (w ≤ 56)
 unfolding width_bad
-width-ok w e = let t = neither (ltb w 1) (ltb 56 w) e in (ltb-false w 1 t.0, ltb-false 56 w t.1)
+width-ok w e = let t = or_parts (ltb w 1) (ltb 56 w) e in (ltb-false w 1 t.0, ltb-false 56 w t.1)
 
 pub width-not-bad : (w : ℕ) → 1 ≤ w → w ≤ 56 → width_bad w ≡ false
 unfolding width_bad
@@ -47,9 +47,9 @@ module _ (m : BlockAddrBlockMetadata) (count len : ℕ) where
   pub group-ok : group_bad m count len ≡ false → GroupOk m count len
   unfolding group_bad
   group-ok e =
-      let inside = neither _ _ e in
-      let blocks = neither _ _ inside.0 in
-      let widths = neither _ _ blocks.0 in
+      let inside = or_parts _ _ e in
+      let blocks = or_parts _ _ inside.0 in
+      let widths = or_parts _ _ blocks.0 in
       let o = width-ok m.first_ordinal_nbits widths.0 in
       let r = width-ok m.range_start_nbits widths.1 in
       record {
@@ -101,20 +101,18 @@ module _ (first field slope i width : ℕ) where
   unfolding value_read
   value-below h = simp (lt-ltb (first + field + slope * i) (2 ^ (width - 1)) h)
 
-  pub value-above : 2 ^ (width - 1) ≤ first + field + slope * i → value_read first field slope i width ≡ first + field + slope * i - 2 ^ (width - 1)
+  pub value-above : 2 ^ (width - 1) ≤ first + field + slope * i
+      → value_read first field slope i width ≡ first + field + slope * i - 2 ^ (width - 1)
   unfolding value_read
   value-above h = simp (le-ltb (first + field + slope * i) (2 ^ (width - 1)) h)
 
   -- a value read in range is the whole-number sum
-  pub value_in : value_read first field slope i width < limit → first + field + slope * i ≡ value_read first field slope i width + 2 ^ (width - 1)
+  pub value_in : value_read first field slope i width < limit
+      → first + field + slope * i ≡ value_read first field slope i width + 2 ^ (width - 1)
   value_in h =
       let above : 2 ^ (width - 1) ≤ first + field + slope * i =
       le_of_suc-le-suc (lt_of_not-le (λ (g : first + field + slope * i < 2 ^ (width - 1)). let e = value-below g in omega arith)) in
       omega (arith, value-above above)
-
-  -- and a sum that isn't below 0 is the value
-  pub value-is : (v : ℕ) → first + field + slope * i ≡ v + 2 ^ (width - 1) → value_read first field slope i width ≡ v
-  value-is v e = let above : 2 ^ (width - 1) ≤ first + field + slope * i = omega arith in omega (arith, value-above above)
 
 -- the value behind the first, at i instead of suc j
 pub range_read-suc : (m : BlockAddrBlockMetadata) (N i : ℕ) → 0 < i

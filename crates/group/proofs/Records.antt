@@ -11,9 +11,6 @@ use Rattle.group.specs.declared.BlockAddr.{BlockAddr}
 use Rattle.group.specs.Blocks.{no_block, block_of, block_at, blocks_at, with_block}
 use Rattle.group.proofs.Blocks.{length-blocks_at, blocks_at-at}
 
-pub length-put : (b : BlockAddr) (k : ℕ) (xs : List ℕ) → length (with_block xs k b) ≡ length xs
-length-put b k xs = simp length-set
-
 module _ (b : BlockAddr) (h : ℕ) (xs : List ℕ) where
   -- what stands before it stays
   before : (i : ℕ) → i < 3 * h → get_or (with_block xs (3 * h) b) i 0 ≡ get_or xs i 0

@@ -5,6 +5,7 @@ use mathlib.Core.List.{List, [], ◌∷◌}
 use mathlib.Core.Logic.{⊎_elim}
 use native.Mathlib.Nat.{add-zero, add-suc, suc-add, eq-or-lt_of_le, le_of_suc-le-suc, lt_of_lt_of_le}
 use native.Mathlib.Omega.{arith}
+use native.Mathlib.Numerals.{one-add}
 use lib.ListN.{length, get_or}
 use lib.Pow.{pow_pos}
 use Rattle.serialize.specs.Digits.{DigitsBelow}
@@ -70,9 +71,6 @@ fields-at-from slope width i (v ∷ vs) zero h = rw add-zero
 fields-at-from slope width i (v ∷ vs) (suc j) h =
     rw (add-suc i j, ← (suc-add i j)) (fields-at-from slope width (suc i) vs j (omega arith))
 
-one-add : (j : ℕ) → 1 + j ≡ suc j
-one-add j = omega arith
-
 pub fields_at : (slope width : ℕ) (vs : List ℕ) (j : ℕ) → j < length vs
     → get_or (fields slope width 1 vs) j 0 ≡ stored_of slope width (suc j) (get_or vs j 0)
 fields_at slope width vs j h = rw one-add at (fields-at-from slope width 1 vs j h)
@@ -80,7 +78,8 @@ fields_at slope width vs j h = rw one-add at (fields-at-from slope width 1 vs j 
 -- ---- a record that fits
 
 -- the width that is worked out takes what is stored of up to 256 values below the limit, with any slope of 32 bits
-pub takes : (s : ℕ) (vs : List ℕ) → s < 2 ^ 32 → length vs ≤ 256 → ((j : ℕ) → j < length vs → get_or vs j 0 < limit) → Takes s (width_of s vs) vs
+pub takes : (s : ℕ) (vs : List ℕ) → s < 2 ^ 32 → length vs ≤ 256 → ((j : ℕ) → j < length vs → get_or vs j 0 < limit)
+    → Takes s (width_of s vs) vs
 takes s vs slope few small =
     let below : (j : ℕ) → j < length vs → get_or vs j 0 < 2 ^ 55 = λ j h. lt_of_lt_of_le (small j h) limit-high in
     let near = max_derivation-below s 55 vs slope few below (omega arith) in
@@ -123,7 +122,8 @@ module _ (b : BlockAddr) (bs : List BlockAddr) (legal : Legal (block_of (b ∷ b
       rw (ordinal-at base bs j l) (omega (arith, legal.numbers (suc j) (omega arith)))
 
   -- every point's stored value lies in 0..2^width - 1, and no width is above 56
-  pub fits : (choose : List ℕ → ℕ) (offset : ℕ) → ((vs : List ℕ) → choose vs < 2 ^ 32) → length bs < 256 → Fitting (meta_of choose offset b bs) b bs
+  pub fits : (choose : List ℕ → ℕ) (offset : ℕ) → ((vs : List ℕ) → choose vs < 2 ^ 32) → length bs < 256
+      → Fitting (meta_of choose offset b bs) b bs
   unfolding meta_of
   fits choose offset slopes few = record {
     start = refl;
@@ -138,7 +138,8 @@ module _ (b : BlockAddr) (bs : List BlockAddr) (legal : Legal (block_of (b ∷ b
   }
 
   -- and every number of the record fits its bytes
-  pub meta-fits : (choose : List ℕ → ℕ) (offset : ℕ) → offset < 2 ^ 64 → ((vs : List ℕ) → choose vs < 2 ^ 32) → length bs < 256 → MetaFits (meta_of choose offset b bs)
+  pub meta-fits : (choose : List ℕ → ℕ) (offset : ℕ) → offset < 2 ^ 64 → ((vs : List ℕ) → choose vs < 2 ^ 32) → length bs < 256
+      → MetaFits (meta_of choose offset b bs)
   unfolding meta_of
   meta-fits choose offset small slopes few =
       let fit = fits choose offset slopes few in

@@ -1,4 +1,6 @@
-// Where a block's numbers stand in its record in a lent area. A record may hold more behind them.
+// Where a block's numbers stand in its record in an area of numbers, which is lent, since the library has no heap. A record may hold
+// more behind them. Both functions go field by field, since the places have names: by From they would be those of an array, which have
+// none.
 ghost use Rattle.std.specs.Prelude.{◌≡◌, ◌+◌, ◌≤◌, length};
 ghost use Rattle.group.specs.Blocks.{block_from, with_block};
 

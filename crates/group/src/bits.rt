@@ -18,7 +18,7 @@ impl Widths {
         requires { i < max_group_len }
         ensures { result ≡ range_bit self.range self.ordinal i }
     {
-        (self.range as u16 + self.ordinal as u16) * i as u16
+        (u16::from(self.range) + u16::from(self.ordinal)) * i as u16
     }
 
     // The first bit of ordinal field i, which stands behind range field i.
@@ -26,7 +26,7 @@ impl Widths {
         requires { i < max_group_len }
         ensures { result ≡ ordinal_bit self.range self.ordinal i }
     {
-        self.range_bit(i) + self.range as u16
+        self.range_bit(i) + u16::from(self.range)
     }
 
     // The bits of all fields of a group with n blocks behind its first: the last is range field n.

@@ -6,11 +6,15 @@ ghost use Rattle.bitpacker.specs.Bits.{bytes_of};
 ghost use Rattle.bitpacker.specs.Fields.{group_bits};
 ghost use Rattle.group.specs.Legal.{limit};
 ghost use Rattle.group.specs.Meta.{meta_bytes, metadata_at};
+ghost use Rattle.group.specs.Read.{first_values_bad};
 
 use crate::BlockAddrBlockMetadata;
 use crate::bits::Widths;
 use crate::line::Line;
+use crate::rows::LIMIT;
 
+// A record as read may hold any numbers, which row 15 and row 16 then test. So no ghost field bounds them, it isn't made of two Lines,
+// and `widths`, `ranges`, `ordinals` and `addr_len` each ask for what they need.
 impl BlockAddrBlockMetadata {
     // Writes the record's 36 bytes from `at` on.
     pub fn serialize(&self, out: &mut [u8], at: usize)
@@ -22,8 +26,8 @@ impl BlockAddrBlockMetadata {
         serialize::serialize_u64(out, at + 16, self.first_ordinal);
         serialize::serialize_u32(out, at + 24, self.range_start_slope);
         serialize::serialize_u32(out, at + 28, self.first_ordinal_slope);
-        serialize::serialize_le(out, at + 32, 1, self.first_ordinal_nbits as u64);
-        serialize::serialize_le(out, at + 33, 1, self.range_start_nbits as u64);
+        out[at + 32] = self.first_ordinal_nbits;
+        out[at + 33] = self.range_start_nbits;
         serialize::serialize_u16(out, at + 34, self.block_len);
     }
 
@@ -39,10 +43,19 @@ impl BlockAddrBlockMetadata {
             first_ordinal: serialize::deserialize_u64(bytes, at + 16),
             range_start_slope: serialize::deserialize_u32(bytes, at + 24),
             first_ordinal_slope: serialize::deserialize_u32(bytes, at + 28),
-            first_ordinal_nbits: serialize::deserialize_le(bytes, at + 32, 1) as u8,
-            range_start_nbits: serialize::deserialize_le(bytes, at + 33, 1) as u8,
+            first_ordinal_nbits: bytes[at + 32],
+            range_start_nbits: bytes[at + 33],
             block_len: serialize::deserialize_u16(bytes, at + 34),
         }
+    }
+
+    // Row 16 for the group's first values: whether one is out of range.
+    #[tactic(auto, unfolding(crate::specs::Legal::limit))]
+    #[inline]
+    pub fn first_values_bad(&self) -> bool
+        ensures { result ≡ first_values_bad self.now }
+    {
+        self.range_start >= LIMIT || self.first_ordinal >= LIMIT
     }
 
     // The widths of the group's fields.

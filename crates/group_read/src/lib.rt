@@ -1,7 +1,7 @@
 // Reading a group: its rule, its numbers, the search by ordinal inside it.
 #![tactic(auto)]
 
-ghost use Rattle.std.specs.Prelude.{◌≡◌, ℕ, true, false, ◌+◌, ◌-◌, ◌*◌, ◌/◌, ◌^◌, ◌≤◌, ◌<◌, length};
+ghost use Rattle.std.specs.Prelude.{◌≡◌, ℕ, true, false, ◌+◌, ◌-◌, ◌*◌, ◌/◌, ◌%◌, ◌^◌, ◌≤◌, ◌<◌, length};
 ghost use Rattle.layout.specs.Layout.{max_blocks, max_group_len};
 ghost use Rattle.serialize.specs.Digits.{le_val};
 ghost use Rattle.group.specs.Read.{width_bad, group_bad, value_read, range_read, ordinal_read, block_read};
@@ -38,7 +38,7 @@ pub fn last_where<F: Fn(usize) -> bool>(end: usize, holds: F) -> usize
 fn width_bad(nbits: u8) -> bool
     ensures { result ≡ width_bad nbits }
 {
-    nbits < 1 || nbits > 56
+    !(1..=56).contains(&nbits)
 }
 
 // Whether a group that is to have `count` blocks breaks its rule in a store with `addr_len` address bytes. Widths and block count
@@ -51,20 +51,20 @@ pub fn group_bad(meta: BlockAddrBlockMetadata, count: usize, addr_len: usize) ->
     if width_bad(meta.first_ordinal_nbits) || width_bad(meta.range_start_nbits) {
         return true;
     }
-    if usize::from(meta.block_len) + 1 != count || meta.offset > addr_len as u64 {
-        return true;
-    }
-    meta.addr_len() > addr_len - meta.offset as usize
+    usize::from(meta.block_len) + 1 != count
+        || layout::ends_beyond(meta.offset, meta.addr_len() as u64, addr_len as u64)
 }
 
-// The value of field i: first + field + slope × i - 2^(nbits-1), or the limit where that is below 0.
+// The value of field i: first + field + slope × i - 2^(nbits-1), or the limit where that is below 0. Both are out of range, so that one
+// test of the value refuses them: an Option would be a second test at each caller.
 fn value(line: Line, field: u64, i: usize) -> u64
     requires { (field < 2 ^ 56) × (i ≤ max_blocks) }
     ensures { result ≡ value_read line.first field line.slope i line.nbits }
 {
-    let sum = line.first + field + (line.slope as u64) * (i as u64);
+    let sum = line.first + field + u64::from(line.slope) * (i as u64);
     let shift = 1u64 << (line.nbits - 1);
-    sum.checked_sub(shift).unwrap_or(LIMIT)
+    // checked_sub and unwrap_or come to four more instructions a value, which opening and the lookups feel.
+    if sum < shift { LIMIT } else { sum - shift }
 }
 
 // A block's start and first ordinal.
@@ -83,7 +83,17 @@ pub struct Group<'a> {
 }
 
 impl<'a> Group<'a> {
+    // The value of field i of a line, which stands from bit `bit` on.
+    #[inline]
+    fn value_at(&self, line: Line, bit: u16, i: usize) -> u64
+        requires { (bit / 8 ≤ length self.now.«data».now) × (i ≤ max_blocks) }
+        ensures { result ≡ value_read line.first (le_val self.now.«data».now / 2 ^ bit % 2 ^ line.nbits) line.slope i line.nbits }
+    {
+        value(line, bitpacker::extract_bits(self.data, bit, line.nbits), i)
+    }
+
     // The start of block i, or, behind the last block, its end.
+    #[inline(always)]
     pub fn range_start(&self, i: usize) -> u64
         requires { i ≤ self.now.meta.block_len + 1 }
         ensures { result ≡ range_read self.now.meta (le_val self.now.«data».now) i }
@@ -91,12 +101,11 @@ impl<'a> Group<'a> {
         if i == 0 {
             return self.meta.range_start;
         }
-        let bit = self.meta.widths().range_bit(i - 1);
-        let field = bitpacker::extract_bits(self.data, bit, self.meta.range_start_nbits);
-        value(self.meta.ranges(), field, i)
+        self.value_at(self.meta.ranges(), self.meta.widths().range_bit(i - 1), i)
     }
 
     // The first ordinal of block i.
+    #[inline(always)]
     pub fn first_ordinal(&self, i: usize) -> u64
         requires { i ≤ self.now.meta.block_len }
         ensures { result ≡ ordinal_read self.now.meta (le_val self.now.«data».now) i }
@@ -104,9 +113,11 @@ impl<'a> Group<'a> {
         if i == 0 {
             return self.meta.first_ordinal;
         }
-        let bit = self.meta.widths().ordinal_bit(i - 1);
-        let field = bitpacker::extract_bits(self.data, bit, self.meta.first_ordinal_nbits);
-        value(self.meta.ordinals(), field, i)
+        self.value_at(
+            self.meta.ordinals(),
+            self.meta.widths().ordinal_bit(i - 1),
+            i,
+        )
     }
 
     // The start and the first ordinal of block i, which isn't the group's first, where their fields have at most 56 bits together: the

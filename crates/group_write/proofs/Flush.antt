@@ -11,7 +11,8 @@ use Rattle.bitpacker.specs.Bits.{bytes_of}
 use Rattle.bitpacker.specs.Fields.{group_val, range_bit, ordinal_bit, group_bits}
 use Rattle.bitpacker.specs.Packer.{Waiting, leaving, packed_with}
 use Rattle.bitpacker.proofs.Packed.{Packed, packed_new, packed-wrote, packed-flushed, packed-room-write, packed-room-flush}
-use Rattle.bitpacker.proofs.Fields.{group-none, group-range, group-ordinal, group-bits-none, group-bits-ordinal, range-within, ordinal-within}
+use Rattle.bitpacker.proofs.Fields.{group-none, group-range, group-ordinal, group-bits-none, group-bits-ordinal, range-within}
+use Rattle.bitpacker.proofs.Fields.{ordinal-within}
 use Rattle.slope.specs.Slope.{stored_of}
 use Rattle.group.specs.Blocks.{block_of, block_at}
 use Rattle.group.specs.Legal.{limit}
@@ -22,7 +23,8 @@ use Rattle.group.specs.declared.BlockAddrBlockMetadata.{BlockAddrBlockMetadata}
 use Rattle.group.specs.declared.line.Line.{Line}
 use Rattle.group.proofs.Limit.{limit-high}
 use Rattle.group.proofs.Blocks.{length-blocks_at, length-group, group_at, group-legal, group-start-le, group-end-le, group-ordinal-le}
-use Rattle.group.proofs.Written.{length-range_values, length-ordinal_values, length_fields, fields_at, takes-below, range-start-at, range-end-at, ordinal-at, length-addr_bytes}
+use Rattle.group.proofs.Written.{length-range_values, length-ordinal_values, length_fields, fields_at, takes-below, range-start-at}
+use Rattle.group.proofs.Written.{range-end-at, ordinal-at, length-addr_bytes}
 use Rattle.group_write.specs.Group.{first_of, rest_of}
 use Rattle.group_write.specs.declared.AreaGroup.{AreaGroup}
 
@@ -70,10 +72,12 @@ Asked line v i = (line.first ≤ v) × (v - line.first < 2 ^ 62) × (i ≤ 65536
 asked : {line : Line} {v i x : ℕ} → Turn line v i x → Asked line v i
 asked t = (t.above, t.small, t.early, t.shifted)
 
-result : {line : Line} {v i x s : ℕ} → Turn line v i x → s ≡ stored_of line.slope line.nbits i (v - line.first) → (s ≡ x) × (s < 2 ^ line.nbits)
+result : {line : Line} {v i x s : ℕ} → Turn line v i x → s ≡ stored_of line.slope line.nbits i (v - line.first) → (s ≡ x)
+    × (s < 2 ^ line.nbits)
 result t e = (e ∙ t.is, rw (e ∙ t.is) t.fits)
 
-turn : (line : Line) (v i : ℕ) (vs : List ℕ) → Takes line.slope line.nbits vs → 1 ≤ i → i ≤ length vs → i ≤ 256 → get_or vs (i - 1) 0 ≡ v - line.first
+turn : (line : Line) (v i : ℕ) (vs : List ℕ) → Takes line.slope line.nbits vs → 1 ≤ i → i ≤ length vs → i ≤ 256
+    → get_or vs (i - 1) 0 ≡ v - line.first
     → line.first ≤ v → v < limit → Turn line v i (get_or (fields line.slope line.nbits 1 vs) (i - 1) 0)
 turn line v i vs t some there few e above small =
     let k : suc (i - 1) ≡ i = omega arith in
@@ -132,7 +136,8 @@ Within g ranges ordinals d l p i = Half ranges.nbits ordinals.nbits (range_field
 
 module _ (g : AreaGroup) (ranges ordinals : Line) where
   pub before-none : (d : List ℕ) {p : BitPacker} → (p.buffer ≡ 0) × (p.filled ≡ 0) × (p.written ≡ 0) → Before g ranges ordinals d d p 1
-  before-none d e = (omega arith, g.ok.some, rw (group-none ranges.nbits ordinals.nbits, group-bits-none ranges.nbits ordinals.nbits) (packed_new d e))
+  before-none d e =
+      (omega arith, g.ok.some, rw (group-none ranges.nbits ordinals.nbits, group-bits-none ranges.nbits ordinals.nbits) (packed_new d e))
 
 module _ {g : AreaGroup} {ranges ordinals : Line} (lines : Lines g ranges ordinals) where
   -- block i, of those behind the first
@@ -143,7 +148,8 @@ module _ {g : AreaGroup} {ranges ordinals : Line} (lines : Lines g ranges ordina
     range-turn : Turn ranges b.start i (get_or (range_fields g ranges) (i - 1) 0)
     range-turn =
         let n = length-group g.ok in
-        turn ranges b.start i (all_ranges g) lines.takes-ranges some (omega (arith, length-range_values (first_of g).start (first_of g) (rest_of g)))
+        turn ranges b.start i (all_ranges g) lines.takes-ranges some
+        (omega (arith, length-range_values (first_of g).start (first_of g) (rest_of g)))
         (omega (arith, g.ok.few))
         (range-start-at (first_of g).start (first_of g) (rest_of g) (i - 1) (omega arith) ∙ rw (lines.start, behind i some there, is))
         (rw (lines.start, is) (group-start-le g.ok i there))
@@ -152,13 +158,15 @@ module _ {g : AreaGroup} {ranges ordinals : Line} (lines : Lines g ranges ordina
     ordinal-turn : Turn ordinals b.first_ordinal i (get_or (ordinal_fields g ordinals) (i - 1) 0)
     ordinal-turn =
         let n = length-group g.ok in
-        turn ordinals b.first_ordinal i (all_ordinals g) lines.takes-ordinals some (omega (arith, length-ordinal_values (first_of g).first_ordinal (rest_of g)))
+        turn ordinals b.first_ordinal i (all_ordinals g) lines.takes-ordinals some
+        (omega (arith, length-ordinal_values (first_of g).first_ordinal (rest_of g)))
         (omega (arith, g.ok.few))
         (ordinal-at (first_of g).first_ordinal (rest_of g) (i - 1) (omega arith) ∙ rw (lines.ordinal, behind i some there, is))
         (rw (lines.ordinal, is) (group-ordinal-le g.ok i there))
         (rw is (omega (arith, g.ok.legal.numbers i there)))
 
-  last_turn : {b : BlockAddr} → b ≡ block_at g.area.now g.stride (g.first + (g.count - 1)) → Turn ranges b.end g.count (get_or (range_fields g ranges) (g.count - 1) 0)
+  last_turn : {b : BlockAddr} → b ≡ block_at g.area.now g.stride (g.first + (g.count - 1))
+      → Turn ranges b.end g.count (get_or (range_fields g ranges) (g.count - 1) 0)
   last_turn {b} is =
       let n = length-group g.ok in
       let there : g.count - 1 < g.count = omega (arith, g.ok.some) in
@@ -231,17 +239,29 @@ module _ (g : AreaGroup) (m : BlockAddrBlockMetadata) (ranges ordinals : Line) (
           (omega (arith, bits_fit, range-within ranges.nbits ordinals.nbits (i - 1) (g.count - 1) (omega (arith, k.1))))
 
       module _ {p' : BitPacker} {l' : List ℕ} (w : Wrote p l v ranges.nbits p' l') where
-        whole : Packed d l' p' (group_bits m.range_start_nbits m.first_ordinal_nbits (g.count - 1)) (group_number m (first_of g) (rest_of g))
+        whole : Packed d l' p' (group_bits m.range_start_nbits m.first_ordinal_nbits (g.count - 1))
+            (group_number m (first_of g) (rest_of g))
         unfolding group_number
         whole =
             let n = length-group g.ok in
             let n' : i ≡ g.count = omega (arith, k.1) in
             let half : Half ranges.nbits ordinals.nbits (range_fields g ranges) (ordinal_fields g ordinals) d l' p' (g.count - 1) =
-            range-wrote ranges.nbits ordinals.nbits (range_fields g ranges) (ordinal_fields g ordinals) (g.count - 1) v (rw n' at k.2) (result (last_turn lines is) e) w in
-            let all-rs : take (suc (g.count - 1)) (range_fields g ranges) ≡ range_fields g ranges = take_all (suc (g.count - 1)) (range_fields g ranges)
-            (omega (arith, length_fields ranges.slope ranges.nbits 1 (all_ranges g), length-range_values (first_of g).start (first_of g) (rest_of g))) in
-            let all-os : take (g.count - 1) (ordinal_fields g ordinals) ≡ ordinal_fields g ordinals = take_all (g.count - 1) (ordinal_fields g ordinals)
-            (omega (arith, length_fields ordinals.slope ordinals.nbits 1 (all_ordinals g), length-ordinal_values (first_of g).first_ordinal (rest_of g))) in
+            range-wrote ranges.nbits ordinals.nbits (range_fields g ranges) (ordinal_fields g ordinals) (g.count - 1) v (rw n' at k.2)
+            (result (last_turn lines is) e) w in
+            let all-rs : take (suc (g.count - 1)) (range_fields g ranges) ≡ range_fields g ranges =
+            take_all (suc (g.count - 1)) (range_fields g ranges)
+            (omega (
+              arith,
+              length_fields ranges.slope ranges.nbits 1 (all_ranges g),
+              length-range_values (first_of g).start (first_of g) (rest_of g),
+            )) in
+            let all-os : take (g.count - 1) (ordinal_fields g ordinals) ≡ ordinal_fields g ordinals =
+            take_all (g.count - 1) (ordinal_fields g ordinals)
+            (omega (
+              arith,
+              length_fields ordinals.slope ordinals.nbits 1 (all_ordinals g),
+              length-ordinal_values (first_of g).first_ordinal (rest_of g),
+            )) in
             rw (← r.1, ← r.2, ← o.1, ← o.2) (rw (all-rs, all-os) at half)
 
         pub flush-room : Waiting p' × (p'.written + bytes_of p'.filled ≤ length l')

@@ -43,7 +43,8 @@ module _ (g : AreaGroup) where
   all_ordinals = ordinal_values (first_of g).first_ordinal (rest_of g)
 
   -- the record with a slope and a width for each column
-  planned : (range ordinal : Slope) (offset : ℕ) → (range.slope ≡ best_slope all_ends) × (range.nbits ≡ width_of (best_slope all_ends) all_ends)
+  planned : (range ordinal : Slope) (offset : ℕ) → (range.slope ≡ best_slope all_ends)
+      × (range.nbits ≡ width_of (best_slope all_ends) all_ends)
       → (ordinal.slope ≡ best_slope all_ordinals) × (ordinal.nbits ≡ width_of (best_slope all_ordinals) all_ordinals)
       → record_of g range ordinal offset ≡ meta_of best_slope offset (first_of g) (rest_of g)
   unfolding meta_of
@@ -107,7 +108,8 @@ module _ (g : AreaGroup) where
     -- the record as the code puts it together
     pub record-planned : {range ordinal : Slope} {m : BlockAddrBlockMetadata} {offset : ℕ}
         → (range.slope ≡ best_slope (ends g b.start)) × (range.nbits ≡ width_of (best_slope (ends g b.start)) (ends g b.start))
-        → (ordinal.slope ≡ best_slope (ordinals g b.first_ordinal)) × (ordinal.nbits ≡ width_of (best_slope (ordinals g b.first_ordinal)) (ordinals g b.first_ordinal))
+        → (ordinal.slope ≡ best_slope (ordinals g b.first_ordinal))
+        × (ordinal.nbits ≡ width_of (best_slope (ordinals g b.first_ordinal)) (ordinals g b.first_ordinal))
         → m ≡ record_of g range ordinal offset
         → m ≡ meta_of best_slope offset (first_of g) (rest_of g)
     record-planned {range} {ordinal} {m} {offset} e e' q = q ∙ planned range ordinal offset (rw ends-are at e) (rw ordinals-are at e')
@@ -118,7 +120,8 @@ module _ (g : AreaGroup) where
   abbrev pub plan : BlockAddrBlockMetadata
   plan = meta_of best_slope 0 (first_of g) (rest_of g)
 
-  small : (plan.range_start_slope < 2 ^ 32) × (plan.first_ordinal_slope < 2 ^ 32) × (plan.range_start_nbits ≤ 56) × (plan.first_ordinal_nbits ≤ 56)
+  small : (plan.range_start_slope < 2 ^ 32) × (plan.first_ordinal_slope < 2 ^ 32) × (plan.range_start_nbits ≤ 56)
+      × (plan.first_ordinal_nbits ≤ 56)
   unfolding meta_of
   small =
       let fit = fits (first_of g) (rest_of g) (group-legal g.ok) best_slope 0 best_slope-lt (omega (arith, length-group g.ok, g.ok.few)) in

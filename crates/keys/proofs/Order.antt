@@ -93,9 +93,6 @@ pub ≼-cases : (a b : List ℕ) → a ≼ b → (a ≺ b) ⊎ (a ≡ b)
 pub ≺-≼-trans : (a b c : List ℕ) → a ≺ b → b ≼ c → a ≺ c
 ≺-≼-trans a b c p q = ⊎_elim (λ h. less-trans a b c p h) (λ h. rw h at p) (≼-cases b c q)
 
-pub ≼-≺-trans : (a b c : List ℕ) → a ≼ b → b ≺ c → a ≺ c
-≼-≺-trans a b c p q = ⊎_elim (λ h. less-trans a b c h q) (λ h. rw h q) (≼-cases a b p)
-
 pub ≼_trans : (a b c : List ℕ) → a ≼ b → b ≼ c → a ≼ c
 ≼_trans a b c p q = ⊎_elim (λ h. less-asym a c (≺-≼-trans a b c h q)) (λ h. rw h q) (≼-cases a b p)
 
@@ -168,7 +165,8 @@ common_prefix_len-take (x ∷ xs) (y ∷ ys) =
     (λ e. simp e)
 
 -- behind the common prefix the bytes differ
-pub common_prefix_len-differ : (a b : List ℕ) → common_prefix_len a b < length a → common_prefix_len a b < length b → get_or a (common_prefix_len a b) 0 ≡ get_or b (common_prefix_len a b) 0 → ⊥
+pub common_prefix_len-differ : (a b : List ℕ) → common_prefix_len a b < length a → common_prefix_len a b < length b →
+    get_or a (common_prefix_len a b) 0 ≡ get_or b (common_prefix_len a b) 0 → ⊥
 unfolding common_prefix_len
 common_prefix_len-differ [] b h k q = omega arith
 common_prefix_len-differ (x ∷ xs) [] h k q = omega arith
@@ -200,7 +198,8 @@ common_prefix_len-same-key [] = refl
 common_prefix_len-same-key (x ∷ xs) = simp eqb_same (ap suc (common_prefix_len-same-key xs))
 
 -- what lies between two byte strings has in common with k at least what both have
-pub common_prefix_len-between : (a x b k : List ℕ) → a ≼ x → x ≼ b → min (common_prefix_len a k) (common_prefix_len b k) ≤ common_prefix_len x k
+pub common_prefix_len-between : (a x b k : List ℕ) → a ≼ x → x ≼ b → min (common_prefix_len a k) (common_prefix_len b k) ≤
+    common_prefix_len x k
 unfolding less common_prefix_len
 common_prefix_len-between [] x b k l r = omega arith
 common_prefix_len-between (p ∷ a) x b [] l r = omega arith
@@ -227,10 +226,20 @@ common_prefix_len-between (p ∷ a) (y ∷ x) (q ∷ b) (z ∷ k) l r =
 
 -- nearer to k no fewer are in common, from below and from above
 pub common_prefix_len-below : (a x k : List ℕ) → a ≼ x → x ≼ k → common_prefix_len a k ≤ common_prefix_len x k
-common_prefix_len-below a x k l r = omega (arith, common_prefix_len-between a x k k l r, common_prefix_len-same-key k, common_prefix_len-right a k)
+common_prefix_len-below a x k l r = omega (
+  arith,
+  common_prefix_len-between a x k k l r,
+  common_prefix_len-same-key k,
+  common_prefix_len-right a k,
+)
 
 pub common_prefix_len-above : (x b k : List ℕ) → k ≼ x → x ≼ b → common_prefix_len b k ≤ common_prefix_len x k
-common_prefix_len-above x b k l r = omega (arith, common_prefix_len-between k x b k l r, common_prefix_len-same-key k, common_prefix_len-right b k)
+common_prefix_len-above x b k l r = omega (
+  arith,
+  common_prefix_len-between k x b k l r,
+  common_prefix_len-same-key k,
+  common_prefix_len-right b k,
+)
 
 -- ---- the order, by the common prefix and the bytes behind it
 
@@ -271,7 +280,8 @@ less-end-left (x ∷ xs) (y ∷ ys) h k =
     simp e (less-end-left xs ys (omega arith) (omega arith)))
     (λ e. let g : suc (length xs) ≤ 0 = simp e at h in absurd (omega arith))
 
-pub less-at : (a b : List ℕ) → common_prefix_len a b < length a → common_prefix_len a b < length b → less a b ≡ ltb (get_or a (common_prefix_len a b) 0) (get_or b (common_prefix_len a b) 0)
+pub less-at : (a b : List ℕ) → common_prefix_len a b < length a → common_prefix_len a b < length b →
+    less a b ≡ ltb (get_or a (common_prefix_len a b) 0) (get_or b (common_prefix_len a b) 0)
 unfolding less common_prefix_len
 less-at [] b h k = absurd (omega arith)
 less-at (x ∷ xs) [] h k = absurd (omega arith)

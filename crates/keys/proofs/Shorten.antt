@@ -1,5 +1,5 @@
 -- Laws of the shortened separator: it lies between left and right, and differs from left in at most one byte and the length.
-use Prim.Native.Nat.{ℕ, zero, suc, ◌+◌, ◌-◌, ◌^◌, ◌≤◌, ◌<◌}
+use Prim.Native.Nat.{ℕ, zero, suc, ◌+◌, ◌-◌, ◌≤◌, ◌<◌}
 use mathlib.Core.Path.{◌≡◌, refl, sym, ap, ◌∙◌}
 use mathlib.Core.Logic.{◌⊎◌, inl, inr, ⊎_elim}
 use mathlib.Core.List.{List, [], ◌∷◌, ◌++◌, append_assoc}
@@ -21,7 +21,8 @@ raise-all-ff [] h = refl
 raise-all-ff (x ∷ xs) h =
     rw (h 0 (omega arith)) (ap (λ (r : List ℕ). 255 ∷ r) (raise-all-ff xs (λ i l. h (suc i) (omega arith))))
 
-raise-at : (s : List ℕ) (p : ℕ) → p < length s → ((i : ℕ) → i < p → get_or s i 0 ≡ 255) → (get_or s p 0 ≡ 255 → ⊥) → raise s ≡ take p s ++ ((get_or s p 0 + 1) ∷ [])
+raise-at : (s : List ℕ) (p : ℕ) → p < length s → ((i : ℕ) → i < p → get_or s i 0 ≡ 255) → (get_or s p 0 ≡ 255 → ⊥) →
+    raise s ≡ take p s ++ ((get_or s p 0 + 1) ∷ [])
 unfolding raise
 raise-at [] p l h n = absurd (omega arith)
 raise-at (x ∷ xs) zero l h n = simp (ne_eqb x 255 n)
@@ -30,7 +31,8 @@ raise-at (x ∷ xs) (suc p) l h n =
     (ap (λ (r : List ℕ). x ∷ r) (raise-at xs p (omega arith) (λ i k. h (suc i) (omega arith)) n))
 
 -- "if there is none, unchanged": every byte behind the first differing one is FF
-pub shorten-all-ff : (left right : List ℕ) → ((i : ℕ) → common_prefix_len left right < i → i < length left → get_or left i 0 ≡ 255) → shorten left right ≡ left
+pub shorten-all-ff : (left right : List ℕ) → ((i : ℕ) → common_prefix_len left right < i → i < length left → get_or left i 0 ≡ 255) →
+    shorten left right ≡ left
 unfolding shorten common_prefix_len
 shorten-all-ff [] right h = refl
 shorten-all-ff (x ∷ xs) [] h =
@@ -76,7 +78,8 @@ pub record Raised (left right : List ℕ) : Type 0 where
   pub not-ff : get_or left place 0 ≡ 255 → ⊥
   pub result : shorten left right ≡ take place left ++ ((get_or left place 0 + 1) ∷ [])
 
-cons-ff : (x : ℕ) (xs : List ℕ) (n : ℕ) → x ≡ 255 → ((i : ℕ) → i < n → get_or xs i 0 ≡ 255) → (i : ℕ) → i < suc n → get_or (x ∷ xs) i 0 ≡ 255
+cons-ff : (x : ℕ) (xs : List ℕ) (n : ℕ) → x ≡ 255 → ((i : ℕ) → i < n → get_or xs i 0 ≡ 255) → (i : ℕ) → i < suc n →
+    get_or (x ∷ xs) i 0 ≡ 255
 cons-ff x xs n e h zero l = e
 cons-ff x xs n e h (suc i) l = h i (omega arith)
 
@@ -105,7 +108,8 @@ shorten-one-byte left right =
     (λ f.
     let b : common_prefix_len left right < n + f.0 = omega arith in
     let t : n + f.0 < length left = omega arith in
-    let u : (i : ℕ) → common_prefix_len left right < i → i < n + f.0 → get_or left i 0 ≡ 255 = λ i m l. get_or-from n left i (omega arith) ∙ f.2 (i - n) (omega arith) in
+    let u : (i : ℕ) → common_prefix_len left right < i → i < n + f.0 → get_or left i 0 ≡ 255 = λ i m l.
+    get_or-from n left i (omega arith) ∙ f.2 (i - n) (omega arith) in
     let v : get_or left (n + f.0) 0 ≡ 255 → ⊥ = λ e. f.3 (get_or-drop n left f.0 0 ∙ e) in
     inr record { place = n + f.0; behind = b; within = t; passed = u; not-ff = v; result = shorten-at left right (n + f.0) b t u v })
     (first-below-ff (drop n left))
@@ -158,27 +162,6 @@ shorten-length (x ∷ xs) (y ∷ ys) =
     by-test (eqb x y)
     (λ e. simp e (omega (arith, shorten-length xs ys)))
     (λ e. simp e (omega (arith, raise-length xs)))
-
--- ---- bytes stay bytes
-
-raise-bytes : (s : List ℕ) → ((i : ℕ) → get_or s i 0 < 2 ^ 8) → (i : ℕ) → get_or (raise s) i 0 < 2 ^ 8
-unfolding raise
-raise-bytes [] h i = h i
-raise-bytes (x ∷ xs) h zero =
-    by-test (eqb x 255) (λ e. simp e (h 0)) (λ e. simp e (omega (arith, h 0, eqb-false x 255 e)))
-raise-bytes (x ∷ xs) h (suc i) =
-    by-test (eqb x 255) (λ e. simp e (raise-bytes xs (λ j. h (suc j)) i)) (λ e. simp e (omega arith))
-
-pub shorten-bytes : (left right : List ℕ) → ((i : ℕ) → get_or left i 0 < 2 ^ 8) → (i : ℕ) → get_or (shorten left right) i 0 < 2 ^ 8
-unfolding shorten
-shorten-bytes [] right h i = h i
-shorten-bytes (x ∷ xs) [] h zero = h 0
-shorten-bytes (x ∷ xs) [] h (suc i) = raise-bytes xs (λ j. h (suc j)) i
-shorten-bytes (x ∷ xs) (y ∷ ys) h zero = by-test (eqb x y) (λ e. simp e (h 0)) (λ e. simp e (h 0))
-shorten-bytes (x ∷ xs) (y ∷ ys) h (suc i) =
-    by-test (eqb x y)
-    (λ e. simp e (shorten-bytes xs ys (λ j. h (suc j)) i))
-    (λ e. simp e (raise-bytes xs (λ j. h (suc j)) i))
 
 -- ---- in place, where left stands in the key area K
 

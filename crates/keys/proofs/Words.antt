@@ -29,7 +29,8 @@ common_prefix_len-fronts (suc n) (x ∷ a) (y ∷ b) =
     (λ e. simp e (omega arith))
 
 -- counted from a place within the common prefix on
-pub common_prefix_len-behind : (i : ℕ) (a b : List ℕ) → i ≤ common_prefix_len a b → i + common_prefix_len (drop i a) (drop i b) ≡ common_prefix_len a b
+pub common_prefix_len-behind : (i : ℕ) (a b : List ℕ) → i ≤ common_prefix_len a b → i + common_prefix_len (drop i a) (drop i b) ≡
+    common_prefix_len a b
 unfolding common_prefix_len
 common_prefix_len-behind zero a b h = omega arith
 common_prefix_len-behind (suc i) [] b h = absurd (omega arith)
@@ -47,10 +48,12 @@ common_prefix_len-front n a b h =
     sym (take-take n (common_prefix_len a b) a h) ∙ ap (take n) (common_prefix_len-take a b) ∙ take-take n (common_prefix_len a b) b h
 
 -- one byte more, at a place within the common prefix
-pub same_byte : (a b : List ℕ) (i : ℕ) → i < length a → i < length b → i ≤ common_prefix_len a b → get_or a i 0 ≡ get_or b i 0 → i < common_prefix_len a b
+pub same_byte : (a b : List ℕ) (i : ℕ) → i < length a → i < length b → i ≤ common_prefix_len a b → get_or a i 0 ≡ get_or b i 0 →
+    i < common_prefix_len a b
 same_byte a b i h k l e = omega (arith, common_prefix_len-behind i a b l, common_prefix_len-same a b i h k e)
 
-pub other_byte : (a b : List ℕ) (i : ℕ) → i < length a → i < length b → i ≤ common_prefix_len a b → (get_or a i 0 ≡ get_or b i 0 → ⊥) → i ≡ common_prefix_len a b
+pub other_byte : (a b : List ℕ) (i : ℕ) → i < length a → i < length b → i ≤ common_prefix_len a b → (get_or a i 0 ≡ get_or b i 0 → ⊥) →
+    i ≡ common_prefix_len a b
 other_byte a b i h k l e = omega (arith, common_prefix_len-behind i a b l, common_prefix_len-other a b i h k e)
 
 -- ---- a run of bytes, each compared
@@ -64,18 +67,36 @@ run_step a b n h k =
     (λ e.
     let l : n ≤ common_prefix_len a b = ltb-false (common_prefix_len a b) n e in
     by-test (eqb (get_or a n 0) (get_or b n 0))
-    (λ f. rw (e, f, le-ltb (common_prefix_len a b) (n + 1) (omega (arith, same_byte a b n h k l (eqb-true (get_or a n 0) (get_or b n 0) f)))))
-    (λ f. rw (e, f, lt-ltb (common_prefix_len a b) (n + 1) (omega (arith, other_byte a b n h k l (eqb-false (get_or a n 0) (get_or b n 0) f))))))
+    (λ f. rw (
+      e,
+      f,
+      le-ltb (common_prefix_len a b) (n + 1) (omega (
+        arith,
+        same_byte a b n h k l (eqb-true (get_or a n 0) (get_or b n 0)
+            f),
+      )),
+    ))
+    (λ f. rw (
+      e,
+      f,
+      lt-ltb (common_prefix_len a b) (n + 1) (omega (
+        arith,
+        other_byte a b n h k l (eqb-false (get_or a n 0) (get_or b n 0)
+            f),
+      )),
+    )))
 
 -- the same, n bytes from the place `at` on
 pub run-step-at : (a b : List ℕ) (at n : ℕ) → at + n < length a → at + n < length b
-    → ltb (common_prefix_len (drop at a) (drop at b)) n || not (eqb (get_or a (at + n) 0) (get_or b (at + n) 0)) ≡ ltb (common_prefix_len (drop at a) (drop at b)) (n + 1)
+    → ltb (common_prefix_len (drop at a) (drop at b)) n || not (eqb (get_or a (at + n) 0) (get_or b (at + n) 0)) ≡ ltb (common_prefix_len
+    (drop at a) (drop at b)) (n + 1)
 run-step-at a b at n h k =
     rw (← (get_or-drop at a n 0), ← (get_or-drop at b n 0))
     (run_step (drop at a) (drop at b) n (omega (arith, length-drop at a)) (omega (arith, length-drop at b)))
 
 -- a run that is in common
-pub same-run : (a b : List ℕ) (at n : ℕ) → at ≤ common_prefix_len a b → ltb (common_prefix_len (drop at a) (drop at b)) n ≡ false → at + n ≤ common_prefix_len a b
+pub same-run : (a b : List ℕ) (at n : ℕ) → at ≤ common_prefix_len a b → ltb (common_prefix_len (drop at a) (drop at b)) n ≡ false →
+    at + n ≤ common_prefix_len a b
 same-run a b at n l e = omega (arith, common_prefix_len-behind at a b l, ltb-false (common_prefix_len (drop at a) (drop at b)) n e)
 
 -- ---- trailing zeros
@@ -106,10 +127,12 @@ xor-zero a b e = omega (arith, xor_add_and a b, and_le_l a b, and_le_r a b)
 
 -- two words, by their lowest bytes x and y
 module _ (n a b x y : ℕ) (f : x < 2 ^ 8) (g : y < 2 ^ 8) where
-  parts : count_trailing_zeros (8 * suc n) (bit_xor (a * 2 ^ 8 + x) (b * 2 ^ 8 + y)) ≡ count_trailing_zeros (8 + 8 * n) (bit_xor a b * 2 ^ 8 + bit_xor x y)
+  parts : count_trailing_zeros (8 * suc n) (bit_xor (a * 2 ^ 8 + x) (b * 2 ^ 8 + y)) ≡ count_trailing_zeros (8 + 8 * n) (bit_xor a b * 2 ^
+      8 + bit_xor x y)
   parts = let e : 8 * suc n ≡ 8 + 8 * n = omega arith in rw (e, xor_block 8 a b x y f g)
 
-  lowest-same : x ≡ y → count_trailing_zeros (8 * suc n) (bit_xor (a * 2 ^ 8 + x) (b * 2 ^ 8 + y)) / 8 ≡ suc (count_trailing_zeros (8 * n) (bit_xor a b) / 8)
+  lowest-same : x ≡ y → count_trailing_zeros (8 * suc n) (bit_xor (a * 2 ^ 8 + x) (b * 2 ^ 8 + y)) / 8 ≡ suc (count_trailing_zeros (8 * n)
+      (bit_xor a b) / 8)
   lowest-same e =
       let z : bit_xor a b * 2 ^ 8 + bit_xor x y ≡ bit_xor a b * 2 ^ 8 = rw (e, xor_self y) (omega arith) in
       let t = trailing-shifted 8 (8 * n) (bit_xor a b) in
@@ -139,15 +162,20 @@ common_prefix_len-word (suc n) (x ∷ a) (y ∷ b) f g h k =
 
 -- eight bytes more
 module _ (a b : List ℕ) (f : DigitsBelow 8 a) (g : DigitsBelow 8 b) (i : ℕ) (h : i + 8 ≤ length a) (k : i + 8 ≤ length b) where
-  pub word_count : count_trailing_zeros 64 (bit_xor (le_val (take 8 (drop i a))) (le_val (take 8 (drop i b)))) / 8 ≡ min 8 (common_prefix_len (drop i a) (drop i b))
+  pub word_count : count_trailing_zeros 64 (bit_xor (le_val (take 8 (drop i a))) (le_val (take 8 (drop i b)))) / 8 ≡ min 8
+      (common_prefix_len (drop i a) (drop i b))
   word_count =
-      common_prefix_len-word 8 (drop i a) (drop i b) (below-drop 8 i a f) (below-drop 8 i b g) (omega (arith, length-drop i a)) (omega (arith, length-drop i b))
+      common_prefix_len-word 8 (drop i a) (drop i b) (below-drop 8 i a f) (below-drop 8 i b g) (omega (
+        arith,
+        length-drop i a,
+      )) (omega (arith, length-drop i b))
       ∙ common_prefix_len-fronts 8 (drop i a) (drop i b)
 
   pub same_word : i ≤ common_prefix_len a b → le_val (take 8 (drop i a)) ≡ le_val (take 8 (drop i b)) → i + 8 ≤ common_prefix_len a b
   same_word l e =
       let w : bit_xor (le_val (take 8 (drop i a))) (le_val (take 8 (drop i b))) ≡ 0 = rw e (xor_self (le_val (take 8 (drop i b)))) in
-      let t : 64 / 8 ≡ min 8 (common_prefix_len (drop i a) (drop i b)) = sym (ap (λ (x : ℕ). x / 8) (ap (count_trailing_zeros 64) w ∙ trailing_of_zero 64)) ∙ word_count in
+      let t : 64 / 8 ≡ min 8 (common_prefix_len (drop i a) (drop i b)) = sym (ap (λ (x : ℕ).
+      x / 8) (ap (count_trailing_zeros 64) w ∙ trailing_of_zero 64)) ∙ word_count in
       omega (arith, common_prefix_len-behind i a b l)
 
   pub other_word : i ≤ common_prefix_len a b → (le_val (take 8 (drop i a)) ≡ le_val (take 8 (drop i b)) → ⊥) → common_prefix_len a b < i + 8

@@ -1,10 +1,11 @@
 -- The numbers of the table of refusals.
 use Rattle.std.specs.Prelude.{ℕ, Result, Ok, Err}
 use Rattle.layout.specs.declared.refusals.Refusal.{Refusal}
-use Rattle.layout.specs.declared.refusals.Refusal.TheVariants.{AreaBad, KeyLong, NumbersBad, JoinBad, OrdinalBad, KeyBad, RoomBad, ListBad}
-use Rattle.layout.specs.declared.refusals.Refusal.TheVariants.{OutShort, FileShort, NoDirectory, DirectoryBad, KeysUnsorted, RecordsBad, GroupBad}
-use Rattle.layout.specs.declared.refusals.Refusal.TheVariants.{BlockBad, UnknownId, OrdinalBelow, KeyAbove, Unfit, TableBad, FlagBad, StateBad}
-use Rattle.layout.specs.declared.refusals.Refusal.TheVariants.{RoomShort, NoExample, KeyListBad, NotCanonical}
+use Rattle.layout.specs.declared.refusals.Refusal.TheVariants.{AreaBad, KeyLong, NumbersBad, JoinBad, OrdinalBad, KeyBad}
+use Rattle.layout.specs.declared.refusals.Refusal.TheVariants.{RoomBad, ListBad, OutShort, FileShort, NoDirectory, DirectoryBad}
+use Rattle.layout.specs.declared.refusals.Refusal.TheVariants.{KeysUnsorted, RecordsBad, GroupBad, BlockBad, UnknownId, OrdinalBelow}
+use Rattle.layout.specs.declared.refusals.Refusal.TheVariants.{KeyAbove, Unfit, TableBad, FlagBad, StateBad, RoomShort}
+use Rattle.layout.specs.declared.refusals.Refusal.TheVariants.{NoExample, KeyListBad, NotCanonical}
 
 -- the row that a refusal is
 abbrev pub number_of : Refusal → ℕ

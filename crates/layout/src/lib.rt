@@ -1,6 +1,8 @@
 // Lengths and limits of the layouts, and the numbers of refusals, each in one place: writers and readers rest on these.
 #![tactic(auto)]
 
+ghost use Rattle.std.specs.Prelude.{◌≡◌, ◌+◌, ltb};
+
 pub mod refusals;
 
 // The most blocks that an index has.
@@ -20,3 +22,11 @@ pub const MAX_KEY_LEN: usize = 1024;
 
 // The most keys of a batch.
 pub const MAX_BATCH_KEYS: usize = 64;
+
+// Whether `len` bytes from `offset` on end beyond `room` bytes, whatever the numbers are.
+#[inline]
+pub fn ends_beyond(offset: u64, len: u64, room: u64) -> bool
+    ensures { result ≡ ltb room (offset + len) }
+{
+    offset.checked_add(len).is_none_or(|end| end > room)
+}

@@ -74,8 +74,5 @@ impl From<Refusal> for u32 {
 pub fn number<T: Drop>(answer: Result<T, Refusal>) -> u32
     ensures { result ≡ no_of answer }
 {
-    match answer {
-        Ok(_) => 0,
-        Err(refusal) => u32::from(refusal),
-    }
+    answer.err().map_or(0, u32::from)
 }

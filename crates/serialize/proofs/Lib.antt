@@ -1,4 +1,3 @@
-pub mod Tests
 pub mod Digits
 pub mod Numbers
 pub mod Stores

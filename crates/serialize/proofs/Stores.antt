@@ -5,7 +5,7 @@ use Prim.Native.Nat.{ℕ, suc, ◌+◌, ◌-◌, ◌*◌, ◌^◌, ◌≤◌, �
 use native.Mathlib.Nat.{add-zero, zero-add, add-suc, suc-add}
 use native.Mathlib.Omega.{arith}
 use lib.ListN.{length, take, drop, set, length-set, length-take, length-drop, take-append-drop, drop_of_length-le}
-use lib.Seq.{sets, sets-eq, take-length, take_at, drop_at, length-take-le, take_all, drop-set-add, take-set-le, drop-set-lt}
+use lib.Seq.{sets, sets-eq, take-length, take_at, drop_at, length-take-le, take_all, drop-set-add, take-set-le}
 use borrow.Rule.Slice.PartMut.{put_mid}
 use Rattle.std.proofs.lemmas.List.{set-append_left}
 use Rattle.serialize.specs.Digits.{le_val, le_bytes}
@@ -23,13 +23,12 @@ sets-outside-take d (x ∷ w) at n h = sets-outside-take (set d at x) w (suc at)
 -- what was written is what a reader finds
 pub sets-part : (d w : List ℕ) (at : ℕ) → at + length w ≤ length d → take (length w) (drop at (sets d at w)) ≡ w
 sets-part d w at h =
-    rw (sets-eq w d at h, append_assoc (take at d) w (drop (at + length w) d), drop_at (take at d) (w ++ drop (at + length w) d) at (length-take-le at d (omega arith)))
+    rw (
+      sets-eq w d at h,
+      append_assoc (take at d) w (drop (at + length w) d),
+      drop_at (take at d) (w ++ drop (at + length w) d) at (length-take-le at d (omega arith)),
+    )
     (take_at w (drop (at + length w) d) (length w) refl)
-
--- what stands behind stays
-pub sets-outside-drop : (d w : List ℕ) (at n : ℕ) → at + length w ≤ n → drop n (sets d at w) ≡ drop n d
-sets-outside-drop d [] at n h = refl
-sets-outside-drop d (x ∷ w) at n h = sets-outside-drop (set d at x) w (suc at) n (omega arith) ∙ drop-set-lt n d at x (omega arith)
 
 -- stores behind a front, seen from what lies behind it
 sets_behind : (d w : List ℕ) (a at : ℕ) → take a d ++ sets (drop a d) at w ≡ sets d (a + at) w
@@ -66,7 +65,9 @@ pub copied : (d w : List ℕ) → length w ≤ length d → take (length w) w ++
 copied d w h = sym (sets-eq w d 0 (omega arith) ∙ rw (zero-add (length w), take-length w))
 
 -- a number written and read back
-pub written_read : (d : List ℕ) (at w v : ℕ) → at + w ≤ length d → v < 2 ^ (8 * w) → le_val (take w (drop at (sets d at (le_bytes w v)))) ≡ v
+pub written_read : (d : List ℕ) (at w v : ℕ) → at + w ≤ length d → v < 2 ^ (8 * w)
+    → le_val (take w (drop at (sets d at (le_bytes w v)))) ≡ v
 written_read d at w v h k =
-    let e : take (length (le_bytes w v)) (drop at (sets d at (le_bytes w v))) ≡ le_bytes w v = sets-part d (le_bytes w v) at (rw (length-digits_of 8 w v) h) in
+    let e : take (length (le_bytes w v)) (drop at (sets d at (le_bytes w v))) ≡ le_bytes w v =
+    sets-part d (le_bytes w v) at (rw (length-digits_of 8 w v) h) in
     ap le_val (rw (length-digits_of 8 w v) at e) ∙ of_digits-digits_of-lt 8 w v k

@@ -1,4 +1,5 @@
-// Little-endian numbers in slices of bytes: the Rust's `BinarySerializable` for u16, u32 and u64.
+// Little-endian numbers in slices of bytes: the Rust's `BinarySerializable` for u16, u32 and u64. Here and in each crate of the library
+// bytes and room are lent slices, since it has no heap.
 #![tactic(auto)]
 
 ghost use Rattle.std.specs.Prelude.{◌≡◌, ◌+◌, ◌*◌, ◌^◌, ◌≤◌, ◌<◌, length};
@@ -12,8 +13,8 @@ pub fn deserialize_le(bytes: &[u8], at: usize, width: usize) -> u64
     ensures upper_bound { result < 2 ^ (8 * width) }
 {
     let mut value: u64 = 0;
-    for i in 0..width {
-        value |= (bytes[at + i] as u64) << (8 * i);
+    for (i, byte) in bytes[at..at + width].iter().enumerate() {
+        value |= u64::from(*byte) << (8 * i);
     }
     value
 }
@@ -24,13 +25,15 @@ pub fn serialize_le(out: &mut [u8], at: usize, width: usize, value: u64)
     ensures { out.new ≡ sets out.old at (le_bytes width value) }
 {
     let mut rest = value;
-    for p in at..at + width {
-        out[p] = (rest & 255) as u8;
+    for byte in &mut out[at..at + width] {
+        *byte = (rest & 255) as u8;
         rest >>= 8;
     }
 }
 
-// Twins by a type, kept: each is one line, the type's name with its width, and a trait would repeat these lines in three impls.
+// Twins by a type, kept: a trait would repeat these one-line bodies in three impls. std's from_le_bytes takes an array, so that a
+// slice would need first_chunk and a case for the bytes that aren't there. Each asks for the bytes of its own width: a struct of slice
+// and place would be made and taken apart at each call.
 pub fn deserialize_u64(bytes: &[u8], at: usize) -> u64
     requires { at + 8 ≤ length bytes.now }
     ensures { result ≡ number_at bytes.now at 8 }
@@ -63,12 +66,12 @@ pub fn serialize_u32(out: &mut [u8], at: usize, value: u32)
     requires { at + 4 ≤ length out.old }
     ensures { out.new ≡ sets out.old at (le_bytes 4 value) }
 {
-    serialize_le(out, at, 4, value as u64)
+    serialize_le(out, at, 4, u64::from(value))
 }
 
 pub fn serialize_u16(out: &mut [u8], at: usize, value: u16)
     requires { at + 2 ≤ length out.old }
     ensures { out.new ≡ sets out.old at (le_bytes 2 value) }
 {
-    serialize_le(out, at, 2, value as u64)
+    serialize_le(out, at, 2, u64::from(value))
 }

@@ -1,4 +1,5 @@
 pub mod Columns
+mod Cut
 mod Derivations
 mod Points
 mod Step

@@ -42,11 +42,16 @@ module _ (n : ℕ) (p q : code.Point) (g : Sloped n p) (h : Sloped n q) where
   higher-stays l = simp (lt-leb (slope_at (point_of p)) (slope_at (point_of q)) (rw (g.sloped, h.sloped) at l))
 
 module _ (area : List ℕ) (at stride base count : ℕ) where
-  left-start : 0 < count → slope_left area at stride base count (record { i = 1; v = get_or area at 0 - base }) (record { i = 1; v = get_or area at 0 - base }) 1 ≡ best_slope (column area at stride base count)
+  left-start : 0 < count
+      → slope_left area at stride base count (record { i = 1; v = get_or area at 0 - base })
+      (record { i = 1; v = get_or area at 0 - base }) 1 ≡ best_slope (column area at stride base count)
   unfolding best_slope
   left-start h = rw (rw (mul-zero, add-zero, sub-zero) at (column-step area at stride base count 0 h))
 
-  left_step : (lo hi : Point) (j : ℕ) → j < count → slope_left area at stride base count (lower_point lo (record { i = j + 1; v = get_or area (at + stride * j) 0 - base })) (higher_point hi (record { i = j + 1; v = get_or area (at + stride * j) 0 - base })) (j + 1) ≡ slope_left area at stride base count lo hi j
+  left_step : (lo hi : Point) (j : ℕ) → j < count
+      → slope_left area at stride base count (lower_point lo (record { i = j + 1; v = get_or area (at + stride * j) 0 - base }))
+      (higher_point hi (record { i = j + 1; v = get_or area (at + stride * j) 0 - base })) (j + 1)
+      ≡ slope_left area at stride base count lo hi j
   unfolding lowest highest points_from
   left_step lo hi j h = rw (column-step area at stride base count j h, add-one (j + 1))
 
@@ -56,7 +61,8 @@ module _ (area : List ℕ) (at stride base count : ℕ) where
       let e : count - j ≡ 0 = omega arith in
       rw e
 
-  pub kept-start : (p : code.Point) (v : ℕ) → 0 < count → (v ≡ get_or area (at + stride * 0) 0 - base) × (v < 2 ^ 62) → New 1 v p → ExtremesAt area at stride base count p p 1
+  pub kept-start : (p : code.Point) (v : ℕ) → 0 < count → (v ≡ get_or area (at + stride * 0) 0 - base) × (v < 2 ^ 62) → New 1 v p
+      → ExtremesAt area at stride base count p p 1
   kept-start p v h value e =
       let is : v ≡ get_or area at 0 - base = rw (mul-zero, add-zero) at value.0 in
       let good = new-good count 1 v p e (omega arith) h value.1 in
@@ -69,16 +75,21 @@ module _ (area : List ℕ) (at stride base count : ℕ) where
       }
 
   -- the slope as the code works it out
-  pub kept-stop : (low high : code.Point) (j : ℕ) → count ≤ j → ExtremesAt area at stride base count low high j → (low.v + high.v + (low.i + high.i) / 2) / (low.i + high.i) % 2 ^ 32 ≡ best_slope (column area at stride base count)
+  pub kept-stop : (low high : code.Point) (j : ℕ) → count ≤ j → ExtremesAt area at stride base count low high j
+      → (low.v + high.v + (low.i + high.i) / 2) / (low.i + high.i) % 2 ^ 32 ≡ best_slope (column area at stride base count)
   unfolding slope_between
   kept-stop low high j h k = sym (left-stop (point_of low) (point_of high) j h) ∙ k.same
 
 -- one more point q, of the value v at place j: what is kept, by how its slope compares
-module _ (area : List ℕ) (at stride base count : ℕ) (low high q : code.Point) (j v : ℕ) (h : j < count) (k : ExtremesAt area at stride base count low high j) (value : (v ≡ get_or area (at + stride * j) 0 - base) × (v < 2 ^ 62)) (e : New (j + 1) v q) where
+module _ (area : List ℕ) (at stride base count : ℕ) (low high q : code.Point) (j v : ℕ) (h : j < count)
+    (k : ExtremesAt area at stride base count low high j) (value : (v ≡ get_or area (at + stride * j) 0 - base) × (v < 2 ^ 62))
+    (e : New (j + 1) v q) where
   good : Sloped count q
   good = new-good count (j + 1) v q e (omega arith) (omega arith) value.1
 
-  kept_step : (low' high' : code.Point) → Sloped count low' → Sloped count high' → low'.slope ≤ high'.slope → point_of low' ≡ lower_point (point_of low) (point_of q) → point_of high' ≡ higher_point (point_of high) (point_of q) → ExtremesAt area at stride base count low' high' (j + 1)
+  kept_step : (low' high' : code.Point) → Sloped count low' → Sloped count high' → low'.slope ≤ high'.slope
+      → point_of low' ≡ lower_point (point_of low) (point_of q) → point_of high' ≡ higher_point (point_of high) (point_of q)
+      → ExtremesAt area at stride base count low' high' (j + 1)
   kept_step low' high' lows highs ordered l g =
       record {
         within = omega arith;

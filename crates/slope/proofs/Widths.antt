@@ -4,15 +4,12 @@ use mathlib.Core.Path.{◌≡◌}
 use mathlib.Core.List.{List, [], ◌∷◌}
 use native.Mathlib.Omega.{arith}
 use native.Mathlib.Nat.{add-zero, add-suc, suc-add, le-max_left, le-max_right, le_trans, lt_of_le_of_lt, mul-le-mul_left, pow-suc}
-use native.Mathlib.Numerals.{add-one}
+use native.Mathlib.Numerals.{add-one, one-add}
 use lib.ListN.{length, get_or}
 use lib.Pow.{pow_mono}
 use Rattle.bitpacker.specs.Bits.{num_bits_of}
 use Rattle.slope.specs.Slope.{best_slope, slope_between, derivation, max_derivation, stored_of, width_of}
 use Rattle.bitpacker.proofs.NumBits.{num_bits_of-lt, num_bits_of-le}
-
-one-add : (j : ℕ) → 1 + j ≡ suc j
-one-add j = omega arith
 
 -- no derivation is above the largest, numbered from i on
 pub derivation-le-from : (s i : ℕ) (vs : List ℕ) (j : ℕ) → j < length vs → derivation s (i + j) (get_or vs j 0) ≤ max_derivation s i vs
@@ -27,7 +24,8 @@ pub derivation-le : (s : ℕ) (vs : List ℕ) (j : ℕ) → j < length vs → de
 derivation-le s vs j h = rw one-add at (derivation-le-from s 1 vs j h)
 
 -- and the largest is below what all are below
-pub max_derivation-lt-from : (s i b : ℕ) (vs : List ℕ) → 0 < b → ((j : ℕ) → j < length vs → derivation s (i + j) (get_or vs j 0) < b) → max_derivation s i vs < b
+pub max_derivation-lt-from : (s i b : ℕ) (vs : List ℕ) → 0 < b → ((j : ℕ) → j < length vs → derivation s (i + j) (get_or vs j 0) < b)
+    → max_derivation s i vs < b
 unfolding max_derivation
 max_derivation-lt-from s i b [] pos h = pos
 max_derivation-lt-from s i b (v ∷ vs) pos h =
@@ -36,7 +34,8 @@ max_derivation-lt-from s i b (v ∷ vs) pos h =
     max_derivation-lt-from s (suc i) b vs pos (λ j l. rw (suc-add, ← add-suc) (h (suc j) (omega arith))) in
     omega arith
 
-pub max_derivation-lt : (s b : ℕ) (vs : List ℕ) → 0 < b → ((j : ℕ) → j < length vs → derivation s (suc j) (get_or vs j 0) < b) → max_derivation s 1 vs < b
+pub max_derivation-lt : (s b : ℕ) (vs : List ℕ) → 0 < b → ((j : ℕ) → j < length vs → derivation s (suc j) (get_or vs j 0) < b)
+    → max_derivation s 1 vs < b
 max_derivation-lt s b vs pos h = max_derivation-lt-from s 1 b vs pos (λ j l. rw one-add (h j l))
 
 -- what is stored of the point (i, v) is at least 0 and below 2 ^ w
@@ -52,7 +51,8 @@ near_fits s b i v h =
     let p : 2 ^ (b + 1) ≡ 2 ^ b * 2 = rw (add-one, pow-suc) in
     record { above = rw e (omega arith); below = rw (e, p) (omega arith) }
 
-pub stored-fits : (s : ℕ) (vs : List ℕ) (j : ℕ) → max_derivation s 1 vs < 2 ^ 64 → j < length vs → StoredFits s (width_of s vs) (suc j) (get_or vs j 0)
+pub stored-fits : (s : ℕ) (vs : List ℕ) (j : ℕ) → max_derivation s 1 vs < 2 ^ 64 → j < length vs
+    → StoredFits s (width_of s vs) (suc j) (get_or vs j 0)
 unfolding width_of
 stored-fits s vs j small h =
     near_fits s (num_bits_of (max_derivation s 1 vs)) (suc j) (get_or vs j 0)
@@ -75,7 +75,8 @@ unfolding width_of max_derivation
 width-none s = omega (arith, num_bits_of-le 0 0 (omega arith) (omega arith))
 
 -- up to 256 values of k bits, with any slope of 32 bits: the derivations have k bits, and the width is at most one more
-module _ (s k : ℕ) (vs : List ℕ) (slope : s < 2 ^ 32) (few : length vs ≤ 256) (small : (j : ℕ) → j < length vs → get_or vs j 0 < 2 ^ k) (low : 40 ≤ k) where
+module _ (s k : ℕ) (vs : List ℕ) (slope : s < 2 ^ 32) (few : length vs ≤ 256) (small : (j : ℕ) → j < length vs → get_or vs j 0 < 2 ^ k)
+    (low : 40 ≤ k) where
   pub max_derivation-below : max_derivation s 1 vs < 2 ^ k
   unfolding derivation
   max_derivation-below =

@@ -38,7 +38,8 @@ impl Point {
     }
 }
 
-// The lowest and the highest of the points before place j; a tie goes to the later one.
+// The lowest and the highest of the points before place j; a tie goes to the later one. That they are a column's stands in clauses: a
+// ghost field that said so would need the column in each of them.
 #[derive(Clone, Copy)]
 struct Extremes {
     low: Point,
@@ -82,7 +83,8 @@ impl Slope {
     }
 }
 
-// Values that stand in a lent area: `count` of them, every stride-th from place `at` on, less the base.
+// Values that stand in a lent area, since there is no heap for a list of them: `count`, every stride-th from place `at` on, less the
+// base.
 #[derive(Clone, Copy)]
 pub struct Column<'a> {
     pub area: &'a [u64],
@@ -106,7 +108,9 @@ impl<'a> Column<'a> {
         self.area[self.at + self.stride * j] - self.base
     }
 
-    // Up to the first point whose slope takes more than 32 bits; it lies above the highest. Most of the others need no division.
+    // Up to the first point whose slope takes more than 32 bits; it lies above the highest. Most of the others need no division. A loop:
+    // try_fold would give the stop as Err and the end as Ok of the same Extremes, to be made one again, and would make all of them anew
+    // in a turn that changes two numbers.
     fn uncut_extremes(&self, start: Extremes) -> Extremes
         requires { ExtremesOf self.now start.low start.high start.j }
         ensures { ExtremesOf self.now result.low result.high result.j }
@@ -145,22 +149,22 @@ impl<'a> Column<'a> {
         requires { ExtremesOf self.now start.low start.high start.j }
         ensures { ExtremesOf self.now result.low result.high result.j × (self.now.count ≤ result.j) }
     {
-        let mut low = start.low;
-        let mut high = start.high;
-        for j in start.j..self.count {
+        (start.j..self.count).fold(start, |kept: Extremes, j| {
             let later = Point::new(j as u64 + 1, self.value(j));
-            if later.slope <= low.slope {
-                low = later;
+            Extremes {
+                low: if later.slope <= kept.low.slope {
+                    later
+                } else {
+                    kept.low
+                },
+                high: if later.slope >= kept.high.slope {
+                    later
+                } else {
+                    kept.high
+                },
+                j: j + 1,
             }
-            if later.slope >= high.slope {
-                high = later;
-            }
-        }
-        Extremes {
-            low,
-            high,
-            j: self.count,
-        }
+        })
     }
 
     // The slope of the values.
@@ -180,16 +184,15 @@ impl<'a> Column<'a> {
         between(all.low, all.high)
     }
 
-    // The largest |v - slope × i|.
+    // The largest |v - slope × i|. Not inlined, so that its loop has the registers.
+    #[inline(never)]
     pub fn max_derivation(&self, slope: u32) -> u64
         ensures { result ≡ max_derivation slope 1 (values self.now) }
     {
-        let mut largest: u64 = 0;
-        for j in 0..self.count {
-            let predicted = (slope as u64) * (j as u64 + 1);
-            largest = largest.max(self.value(j).abs_diff(predicted));
-        }
-        largest
+        (0..self.count).fold(0, |largest: u64, j| {
+            let predicted = u64::from(slope) * (j as u64 + 1);
+            largest.max(self.value(j).abs_diff(predicted))
+        })
     }
 
     // The width that the values need with this slope.

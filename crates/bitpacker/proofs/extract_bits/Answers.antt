@@ -1,4 +1,5 @@
--- `bitpacker::extract_bits` meets its contract, at every width to 56 and every bit offset: eight bytes from the field's first byte on hold the field.
+-- `bitpacker::extract_bits` meets its contract, at every width to 56 and every bit offset: eight bytes from the field's first byte on
+-- hold the field.
 use mathlib.Core.Path.{◌≡◌, ap, ◌∙◌}
 use mathlib.Core.List.{List}
 use Prim.Native.Nat.{ℕ, ◌+◌, ◌-◌, ◌*◌, ◌/◌, ◌%◌, ◌^◌, ◌≤◌, ◌<◌}
@@ -36,5 +37,5 @@ overflow_sub-result c = rw (one_shl c.args.num_bits (omega arith)) (pow_pos c.ar
 pub returns : goal.returns
 returns c =
     let a = c.args in
-    rw c.load-unshifted.ensures
+    rw (c.load-unshifted.ensures, c.from.ensures)
     (extracted a.«data».now a.addr_bits a.num_bits (λ k. (c.type_inv.data k).fits) (omega arith))

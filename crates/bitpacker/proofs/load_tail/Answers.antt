@@ -10,7 +10,8 @@ use Rattle.serialize.proofs.Digits.{of_digits-take, of_digits-drop, below-drop}
 use Rattle.bitpacker.proofs.load_tail.Goals as goal
 
 -- the number of 4 + k bytes by its parts
-split : (l : List ℕ) (at k left : ℕ) → DigitsBelow 8 l → left ≡ 4 + k → number_at l at 4 + 4294967296 * number_at l (at + 4) k ≡ number_at l at left
+split : (l : List ℕ) (at k left : ℕ) → DigitsBelow 8 l → left ≡ 4 + k
+    → number_at l at 4 + 4294967296 * number_at l (at + 4) k ≡ number_at l at left
 split l at k left h e =
     let all = le_val (drop at l) in
     let low : number_at l at 4 ≡ all % 2 ^ 32 = of_digits-take 8 4 (drop at l) (below-drop 8 at l h) in

@@ -1,7 +1,10 @@
 -- The runs passed are in common, if the first `from` bytes are.
-use Rattle.std.proofs.Common.{◌+◌, ◌*◌, ◌≤◌}
+use Rattle.std.proofs.Common.{◌-◌, ◌≤◌}
 use Rattle.keys.specs.Order.{common_prefix_len}
 use Rattle.keys.proofs.first_other_run.Given as goal
 
-abbrev pub invariant-loop-run : goal.invariant-loop-run
-invariant-loop-run l = l.from ≤ common_prefix_len l.left l.right → l.from + 64 * l.run ≤ common_prefix_len l.left l.right
+abbrev pub invariant-loop-at : goal.invariant-loop-at
+invariant-loop-at l = l.from ≤ common_prefix_len l.left l.right → l.at ≤ common_prefix_len l.left l.right
+
+abbrev pub decreases-loop-at : goal.decreases-loop-at
+decreases-loop-at l = l.last - l.at

@@ -23,7 +23,8 @@ word p v = bit_or p.buffer (v * 2 ^ p.filled % 2 ^ 64)
 
 module _ (p : BitPacker) (v n : ℕ) (w : Waiting p) (small : v < 2 ^ n) where
   -- nothing leaves
-  kept-packer : p.filled + n < 64 → ◌≡◌ {A = BitPacker} (record { buffer = word p v; filled = p.filled + n; written = p.written }) (packed_with p v n)
+  kept-packer : p.filled + n < 64
+      → ◌≡◌ {A = BitPacker} (record { buffer = word p v; filled = p.filled + n; written = p.written }) (packed_with p v n)
   unfolding packed_with
   kept-packer h =
       let e : words_of p n ≡ 0 = omega arith in
@@ -41,7 +42,8 @@ module _ (p : BitPacker) (v n : ℕ) (w : Waiting p) (small : v < 2 ^ n) where
 
   -- a word leaves
   left-packer : 64 ≤ p.filled + n → n ≤ 56
-      → ◌≡◌ {A = BitPacker} (record { buffer = v / 2 ^ (64 - p.filled); filled = p.filled + n - 64; written = p.written + 8 }) (packed_with p v n)
+      → ◌≡◌ {A = BitPacker} (record { buffer = v / 2 ^ (64 - p.filled); filled = p.filled + n - 64; written = p.written + 8 })
+      (packed_with p v n)
   unfolding packed_with
   left-packer h k =
       let e : words_of p n ≡ 1 = omega arith in
@@ -57,7 +59,7 @@ pub returns-then-total-lt64 : goal.returns-then-total-lt64
 returns-then-total-lt64 c =
     let start = c in
     let a = start.args in
-    let p = start.requires in (
+    let p = start.requires in rw c.from.ensures (
       kept-packer a.self a.value a.num_bits p.0 p.2 (omega arith),
       kept-bytes a.self a.value a.num_bits p.0 p.2 a.out.now (omega arith),
     )
@@ -66,7 +68,7 @@ pub returns : goal.returns
 returns c =
     let start = c in
     let a = start.args in
-    let p = start.requires in (
+    let p = start.requires in rw c.from.ensures (
       left-packer a.self a.value a.num_bits p.0 p.2 (omega arith) p.1,
       c.serialize_u64.ensures
           ∙ ap (sets a.out.now a.self.written) (left-bytes a.self a.value a.num_bits p.0 p.2 (omega arith) p.1),

@@ -2,15 +2,12 @@
 use Rattle.std.proofs.Common.{arith}
 use Rattle.serialize.specs.Digits.{le_val}
 use Rattle.group.specs.Read.{ordinal_read}
-use Rattle.group.proofs.Reading.{field_lt, ordinal_read-suc}
+use Rattle.group.proofs.Reading.{ordinal_read-suc}
 use Rattle.group_read.proofs.Group.first_ordinal.Goals as goal
 
 pub returns-then-i-eq0 : goal.returns-then-i-eq0
 unfolding ordinal_read
 returns-then-i-eq0 c = rw c.if-i-eq0.true
-
-pub value-requires : goal.value-requires
-value-requires c = (rw c.extract_bits-field.ensures (field_lt _ _ _ (omega arith)), omega arith)
 
 pub returns : goal.returns
 returns c =

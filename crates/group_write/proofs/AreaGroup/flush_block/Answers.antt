@@ -1,5 +1,6 @@
 -- Each turn of the loop stores a range and an ordinal, and behind it the last range is stored and all is flushed.
-use Rattle.group_write.proofs.Flush.{before-none, range-asked, range-room, ordinal-asked, ordinal-room, turn-done, last-asked, last-room, flush-room, flush-done}
+use Rattle.group_write.proofs.Flush.{before-none, range-asked, range-room, ordinal-asked, ordinal-room, turn-done, last-asked, last-room}
+use Rattle.group_write.proofs.Flush.{flush-room, flush-done}
 use Rattle.group_write.proofs.AreaGroup.flush_block.Goals as goal
 
 pub loop-i-init : goal.loop-i-init

@@ -29,15 +29,20 @@ loop-j-preserved c =
           let less : w.new-low.result.slope < low.slope =
           rw w.new-low.ensures.2 (below low.slope i v (omega arith) few (omega (arith, w.if-v-lo.true))) in
           rw (w.low-is, w.high-is)
-          (kept_low _ _ _ _ _ _ _ w.new-low.result _ _ at kept value w.new-low.ensures (omega (arith, less)) (omega (arith, less, kept.ordered)))
+          (kept_low _ _ _ _ _ _ _ w.new-low.result _ _ at kept value w.new-low.ensures (omega (arith, less))
+          (omega (arith, less, kept.ordered)))
       | else-v-lo+then-v-lo-2+then-low-high w ↦
           let e : low.slope ≡ high.slope = omega (arith, w.if-low-high.true) in
-          let new = level low.slope i v (omega arith) few (omega (arith, w.if-v-lo.false)) (omega (arith, w.if-v-lo.false, w.if-v-lo-2.true)) in
-          rw (w.low-is, w.high-is, ← e) (kept-both _ _ _ _ _ _ _ tied _ _ at kept value (refl, refl, sym new) (omega arith) (omega (arith, e)))
+          let new =
+          level low.slope i v (omega arith) few (omega (arith, w.if-v-lo.false)) (omega (arith, w.if-v-lo.false, w.if-v-lo-2.true)) in
+          rw (w.low-is, w.high-is, ← e)
+          (kept-both _ _ _ _ _ _ _ tied _ _ at kept value (refl, refl, sym new) (omega arith) (omega (arith, e)))
       | else-v-lo+then-v-lo-2+else-low-high w ↦
-          let new = level low.slope i v (omega arith) few (omega (arith, w.if-v-lo.false)) (omega (arith, w.if-v-lo.false, w.if-v-lo-2.true)) in
+          let new =
+          level low.slope i v (omega arith) few (omega (arith, w.if-v-lo.false)) (omega (arith, w.if-v-lo.false, w.if-v-lo-2.true)) in
           rw (w.low-is, w.high-is)
-          (kept_low _ _ _ _ _ _ _ tied _ _ at kept value (refl, refl, sym new) (omega arith) (omega (arith, kept.ordered, w.if-low-high.false)))
+          (kept_low _ _ _ _ _ _ _ tied _ _ at kept value (refl, refl, sym new) (omega arith)
+          (omega (arith, kept.ordered, w.if-low-high.false)))
       | else-v-lo+else-v-lo-2+then-v-high+else-i-v w ↦
           let fit = fits i v (omega arith) (omega (arith, w.if-i-v.false)) in
           rw (w.low-is, w.high-is) (kept_high _ _ _ _ _ _ _ w.near-high.result _ _ at kept value w.near-high.ensures
