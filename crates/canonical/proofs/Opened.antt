@@ -1,4 +1,5 @@
--- The parts that an opened record names are those of the store, with all that the store's check asks; and the number of a file that is refused.
+-- The parts that an opened record names are those of the store, with all that the store's check asks; and the number of a file that is
+-- refused.
 use Prim.Native.Nat.{ℕ, ◌+◌, ◌-◌, ◌*◌, ◌≤◌}
 use mathlib.Core.Path.{◌≡◌, sym, ap, ◌∙◌}
 use mathlib.Core.Bool.{Bool, cond}
@@ -70,5 +71,9 @@ module _ (L : ℕ) (f : List ℕ) (opened : SSTableIndexV3) (len : GroupLenOk L)
       (take (opened.addrs + opened.addrs_len - opened.addrs) (drop opened.addrs f)) opened.n
       → cond r 0 27 ≡ canonical_no (settings_of L) f
   number_by r bytes e =
-      let same : r ≡ is_store_canonical best_slope L (group_records_part f) (addrs_part f) (count_in f) = rw (records-lent, addrs-lent, facts.count) at e in
+      let same : r ≡ is_store_canonical best_slope L (group_records_part f) (addrs_part f) (count_in f) = rw (
+        records-lent,
+        addrs-lent,
+        facts.count,
+      ) at e in
       ap (λ (t : Bool). cond t 0 27) same ∙ sym (canonical-parts (settings_of L) f len bytes facts.accepted)

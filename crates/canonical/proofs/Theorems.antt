@@ -79,7 +79,8 @@ module _ (S : Settings) (f : List ℕ) (opened : open_no S.len_of_group f ≡ 0)
   count =
       let ok = open-ok S.len_of_group f opened in
       let there = (directory-ok f (footer-ok f ok.footer) ok.directory).some in
-      let same : b.n ≡ count_in f = sym (length-blocks_at B stride 0 b.n) ∙ ap length hold.blocks-are ∙ length-blocks_from (block_in S.len_of_group f) 0 (count_in f) in
+      let same : b.n ≡ count_in f = sym (length-blocks_at B stride 0 b.n) ∙ ap length hold.blocks-are ∙ length-blocks_from (block_in
+      S.len_of_group f) 0 (count_in f) in
       rw same there
 
   index-anew : area_index S b B K ≡ rewritten S f

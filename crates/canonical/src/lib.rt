@@ -14,7 +14,8 @@ use layout::refusals::Refusal;
 use store_read::BlockAddrStore;
 
 // Row 27 for an index that opened. The directory and the lengths can't differ from what finish writes: rows 10 to 14 leave one
-// form for them.
+// form for them. The store is cut out here, as opening and the lookups do it: the record was opened from these bytes, so nothing is
+// tested, and `index`, which all three know, doesn't know store_read.
 fn check_store(data: &[u8], opened: SSTableIndexV3, group_len: usize) -> Result<(), Refusal>
     requires { GroupLenOk group_len × OpensBy group_len «data».now opened }
     ensures { no_of result ≡ canonical_no (settings_of group_len) «data».now }
@@ -29,12 +30,13 @@ fn check_store(data: &[u8], opened: SSTableIndexV3, group_len: usize) -> Result<
         group_len,
     };
     if store_canonical::store_canonical(&store) {
-        return Ok(());
+        Ok(())
+    } else {
+        Err(Refusal::NotCanonical)
     }
-    Err(Refusal::NotCanonical)
 }
 
-// The same with groups of a given length.
+// The same with groups of a given length, of which the C interface asks for one.
 fn check_grouped(data: &[u8], group_len: usize) -> Result<(), Refusal>
     requires { GroupLenOk group_len }
     ensures { no_of result ≡ canonical_no (settings_of group_len) «data».now }

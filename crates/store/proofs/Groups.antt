@@ -1,9 +1,12 @@
--- How blocks fall into groups of L: the count of groups, the blocks of an area that one group takes and leaves, and that a group of a store's area is a group's area.
+-- How blocks fall into groups of L: the count of groups, the blocks of an area that one group takes and leaves, and that a group of a
+-- store's area is a group's area.
 use Prim.Native.Nat.{ℕ, zero, suc, ◌+◌, ◌-◌, ◌*◌, ◌/◌, ◌≤◌, ◌<◌, min}
 use mathlib.Core.Path.{◌≡◌, ap, ◌∙◌, sym}
 use mathlib.Core.List.{List, ◌∷◌}
 use mathlib.Core.Logic.{⊎_elim}
-use native.Mathlib.Nat.{add-zero, zero-add, add-suc, suc-add, sub-zero, zero-sub, suc-sub-suc, zero-min, min-zero, suc-min-suc, mul-suc, mul-le-mul, mul-le-mul_left, lt_of_mul-lt-mul_left, mod-lt, div-add-mod, div-eq_of_lt, add-div_right, eq-zero-or-pos}
+use native.Mathlib.Nat.{add-zero, zero-add, add-suc, suc-add, sub-zero, zero-sub, suc-sub-suc, zero-min, min-zero, suc-min-suc, mul-suc}
+use native.Mathlib.Nat.{mul-le-mul, mul-le-mul_left, lt_of_mul-lt-mul_left, mod-lt, div-add-mod, div-eq_of_lt, add-div_right}
+use native.Mathlib.Nat.{eq-zero-or-pos}
 use native.Mathlib.Numerals.{add-one, sub-one}
 use native.Mathlib.Omega.{arith}
 use lib.ListN.{length, take, drop, length-take, length-drop}
@@ -52,14 +55,11 @@ module _ {L : ℕ} (some : 1 ≤ L) where
       (eq-zero-or-pos (group_count L n - n))
 
   -- the groups that the group of `count` blocks from block `first` on leaves
-  pub group-count-turn : (n first count : ℕ) → count ≡ min L (n - first) → first < n → group_count L (n - first) ≡ suc (group_count L (n - (first + count)))
+  pub group-count-turn : (n first count : ℕ) → count ≡ min L (n - first) → first < n
+      → group_count L (n - first) ≡ suc (group_count L (n - (first + count)))
   group-count-turn n first count is more =
       let rest : n - first - L ≡ n - (first + count) = omega arith in
       group-count-suc (n - first) (omega arith) ∙ ap (λ (x : ℕ). suc (group_count L x)) rest
-
--- what the group of the blocks from L * g on leaves
-pub group-left : (L n g : ℕ) → n - L * g - min L (n - L * g) ≡ n - L * (g + 1)
-group-left L n g = rw (add-one g, mul-suc L g) (omega arith)
 
 -- ---- blocks of an area
 
@@ -73,7 +73,8 @@ module _ (area : List ℕ) (stride : ℕ) where
   unfolding blocks_at
   take-blocks_at zero i m = rw (zero-min m)
   take-blocks_at (suc c) i zero = rw (min-zero (suc c))
-  take-blocks_at (suc c) i (suc m) = rw (suc-min-suc c m) (ap (λ (x : List BlockAddr). block_at area stride i ∷ x) (take-blocks_at c (suc i) m))
+  take-blocks_at (suc c) i (suc m) =
+      rw (suc-min-suc c m) (ap (λ (x : List BlockAddr). block_at area stride i ∷ x) (take-blocks_at c (suc i) m))
 
   pub drop-blocks_at : (c i m : ℕ) → drop c (blocks_at area stride i m) ≡ blocks_at area stride (i + c) (m - c)
   unfolding blocks_at

@@ -4,7 +4,8 @@ use mathlib.Core.Bool.{Bool, false, ◌||◌}
 use mathlib.Core.List.{List}
 use mathlib.Core.Logic.{⊎_elim}
 use Prim.Native.Nat.{ℕ, zero, suc, ◌+◌, ◌-◌, ◌*◌, ◌/◌, ◌%◌, ◌≤◌, ◌<◌}
-use native.Mathlib.Nat.{add-zero, add_assoc, mul-suc, mod-lt, mod-eq_of_lt, div-eq_of_lt, div-add-mod, mul-div-le, mul-add-div, mul-add-mod_self_left, eq-or-lt_of_le, lt_of_not-le, le_of_suc-le-suc}
+use native.Mathlib.Nat.{add-zero, add_assoc, mul-suc, mod-eq_of_lt, div-eq_of_lt, mul-div-le, mul-add-div}
+use native.Mathlib.Nat.{mul-add-mod_self_left, eq-or-lt_of_le, lt_of_not-le, le_of_suc-le-suc}
 use native.Mathlib.Numerals.{add-one}
 use native.Mathlib.Omega.{arith}
 use lib.Dec.{leb}
@@ -13,7 +14,7 @@ use lib.ListN.{length, take, drop, length-drop}
 use lib.Seq.{take_all}
 use Rattle.layout.specs.Layout.{max_group_len}
 use Rattle.serialize.specs.Digits.{le_val}
-use Rattle.serialize.proofs.Tests.{neither}
+use Rattle.std.proofs.lemmas.Bool.{or_parts}
 use Rattle.group.specs.declared.BlockAddr.{BlockAddr}
 use Rattle.group.specs.declared.BlockAddrBlockMetadata.{BlockAddrBlockMetadata}
 use Rattle.group.specs.Legal.{limit, Legal}
@@ -27,18 +28,11 @@ use Rattle.store.proofs.Groups.{group-count-lt}
 -- ---- groups
 
 module _ (L n : ℕ) (some : 1 ≤ L) where
-  pub groups-some : 1 ≤ n → 1 ≤ group_count L n
-  groups-some h = group-count-lt some n 0 (omega arith)
-
   pub block-begins : (i : ℕ) → i < n → L * (i / L) < n
   block-begins i h = omega (arith, mul-div-le i L)
 
   pub block-there : (i : ℕ) → i < n → i / L < group_count L n
   block-there i h = group-count-lt some n (i / L) (block-begins i h)
-
-  -- a block's place in its group
-  pub inner-there : (i : ℕ) → i < n → i % L < len_of_group L n (i / L)
-  inner-there i h = let p : 0 < L = omega arith in omega (arith, mod-lt i p, div-add-mod i L)
 
 -- ---- blocks
 
@@ -54,7 +48,8 @@ module _ (L : ℕ) (recs addr : List ℕ) (some : 1 ≤ L) where
 
   -- its first ordinal
   pub ordinal-of-group : (g j : ℕ) → j < L
-      → (store_block L recs addr (L * g + j)).first_ordinal ≡ ordinal_read (group_meta recs g) (le_val (drop (group_meta recs g).offset addr)) j
+      → (store_block L recs addr (L * g + j)).first_ordinal
+      ≡ ordinal_read (group_meta recs g) (le_val (drop (group_meta recs g).offset addr)) j
   unfolding block_read
   ordinal-of-group g j h = ap (λ (b : BlockAddr). b.first_ordinal) (block-of-group g j h)
 
@@ -64,7 +59,8 @@ module _ (L : ℕ) (recs addr : List ℕ) (some : 1 ≤ L) where
   first-of-group g = rw (add-zero (L * g)) at (ordinal-of-group g 0 (omega arith))
 
 -- ordinals rise over all blocks
-pub ordinals-rise : (block : ℕ → BlockAddr) (n : ℕ) → Legal block n → (i j : ℕ) → i < j → j < n → (block i).first_ordinal < (block j).first_ordinal
+pub ordinals-rise : (block : ℕ → BlockAddr) (n : ℕ) → Legal block n → (i j : ℕ) → i < j → j < n
+    → (block i).first_ordinal < (block j).first_ordinal
 ordinals-rise block n k i zero h l = absurd (let z : ⊥ = omega arith in z)
 ordinals-rise block n k i (suc j) h l =
     let step = (k.follows j l).rises in
@@ -88,11 +84,11 @@ rest_part s n = take_all (length s - n) (drop n s) (omega (arith, length-drop n 
 module _ (m : BlockAddrBlockMetadata) (count : ℕ) (addr : List ℕ)
     (e : (group_bad m count (length addr) || (leb limit m.range_start || leb limit m.first_ordinal)) ≡ false) where
   pub group-kept : GroupOk m count (length addr)
-  group-kept = group-ok m count (length addr) (neither (group_bad m count (length addr)) _ e).0
+  group-kept = group-ok m count (length addr) (or_parts (group_bad m count (length addr)) _ e).0
 
   pub part-readable : count ≤ max_group_len → Readable m (length (take (length addr - m.offset) (drop m.offset addr)))
   part-readable few =
-      let firsts = neither (leb limit m.range_start) (leb limit m.first_ordinal) (neither (group_bad m count (length addr)) _ e).1 in
+      let firsts = or_parts (leb limit m.range_start) (leb limit m.first_ordinal) (or_parts (group_bad m count (length addr)) _ e).1 in
       rw (rest_part addr m.offset, length-drop m.offset addr)
       (readable m count (length addr) group-kept few (leb-false limit m.range_start firsts.0) (leb-false limit m.first_ordinal firsts.1))
 
@@ -115,7 +111,8 @@ module _ (recs addr : List ℕ) (g : ℕ) (m : BlockAddrBlockMetadata) (e : m �
 
 module _ (f : ℕ → ℕ) (n x : ℕ) where
   last-most : (i j : ℕ) → Last f n x i → Last f n x j → j ≤ i
-  last-most i j a b = le_of_suc-le-suc (lt_of_not-le (λ (h : i < j). let above = a.later j h b.inside in let below = b.at_most in omega arith))
+  last-most i j a b =
+      le_of_suc-le-suc (lt_of_not-le (λ (h : i < j). let above = a.later j h b.inside in let below = b.at_most in omega arith))
 
   -- there is one at most
   pub last-unique : (i j : ℕ) → Last f n x i → Last f n x j → i ≡ j
@@ -151,7 +148,8 @@ module _ (L : ℕ) (recs addr : List ℕ) (n ord g j : ℕ) (some : 1 ≤ L) (ok
       ⊎_elim
       (λ (e : suc j ≡ L).
       let seam : L * g + j + 1 ≡ L * (g + 1) = omega (arith, mul-suc L g, ap (λ (x : ℕ). L * x) (add-one g)) in
-      let same : ordinal (L * g + j + 1) ≡ (group_meta recs (g + 1)).first_ordinal = ap ordinal seam ∙ first-of-group L recs addr some (g + 1) in
+      let same : ordinal (L * g + j + 1) ≡ (group_meta recs (g + 1)).first_ordinal =
+      ap ordinal seam ∙ first-of-group L recs addr some (g + 1) in
       let above = next-group (group-count-lt some n (g + 1) (omega arith)) in
       rw same above)
       (λ (l : suc j < L).

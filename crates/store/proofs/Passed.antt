@@ -12,7 +12,7 @@ use lib.Dec.{eqb, ltb, leb}
 use lib.ListN.{length, take, drop}
 use Rattle.layout.specs.Layout.{max_group_len}
 use Rattle.serialize.specs.Digits.{le_val}
-use Rattle.serialize.proofs.Tests.{neither}
+use Rattle.std.proofs.lemmas.Bool.{or_parts}
 use Rattle.group.specs.declared.BlockAddr.{BlockAddr}
 use Rattle.group.specs.declared.BlockAddrBlockMetadata.{BlockAddrBlockMetadata}
 use Rattle.group.specs.Legal.{limit, Follows, Legal}
@@ -47,9 +47,9 @@ module _ (m : BlockAddrBlockMetadata) (g : ℕ) (before : BlockAddr) where
 
   first-ok : first_bad ≡ false → FirstOk
   first-ok e =
-      let both = neither outside (ltb 0 g && seam) e in
+      let both = or_parts outside (ltb 0 g && seam) e in
       let own : 0 < g → (not (eqb m.range_start before.end) ≡ false) × (leb m.first_ordinal before.first_ordinal ≡ false) =
-      λ h. neither _ _ (rw (lt-ltb 0 g h) at both.1) in
+      λ h. or_parts _ _ (rw (lt-ltb 0 g h) at both.1) in
       record {
         inside = both.0;
         touches = λ h. eqb-true m.range_start before.end (not-false _ (own h).0);
@@ -60,7 +60,12 @@ module _ (m : BlockAddrBlockMetadata) (g : ℕ) (before : BlockAddr) where
   first_good ok =
       ⊎_elim
       (λ (z : g ≡ 0). rw (ok.inside, z))
-      (λ (h : 0 < g). rw (ok.inside, lt-ltb 0 g h, eq-eqb m.range_start before.end (ok.touches h), lt-leb m.first_ordinal before.first_ordinal (ok.rises h)))
+      (λ (h : 0 < g). rw (
+        ok.inside,
+        lt-ltb 0 g h,
+        eq-eqb m.range_start before.end (ok.touches h),
+        lt-leb m.first_ordinal before.first_ordinal (ok.rises h),
+      ))
       (eq-zero-or-pos g)
 
 -- ---- the answer of a group
@@ -121,15 +126,17 @@ module _ (L : ℕ) (recs addr : List ℕ) (n : ℕ) where
     last = λ h. absurd (let z : ⊥ = omega arith in z);
   }
 
-  pub passed-all : (k : ℕ) {before : BlockAddr} → n ≤ L * k → Passed L recs addr n k before → (firsts_bad recs k || blocks_bad (store_block L recs addr) n) ≡ false
+  pub passed-all : (k : ℕ) {before : BlockAddr} → n ≤ L * k → Passed L recs addr n k before
+      → (firsts_bad recs k || blocks_bad (store_block L recs addr) n) ≡ false
   passed-all k h p =
       let e : min n (L * k) ≡ n = omega arith in
       rw (p.firsts, blocks-keep (store_block L recs addr) n (rw e at p.legal))
 
-  row-refused : (k : ℕ) → (firsts_bad recs k ≡ false → Legal (store_block L recs addr) n → ⊥) → true ≡ (firsts_bad recs k || blocks_bad (store_block L recs addr) n)
+  row-refused : (k : ℕ) → (firsts_bad recs k ≡ false → Legal (store_block L recs addr) n → ⊥)
+      → true ≡ (firsts_bad recs k || blocks_bad (store_block L recs addr) n)
   row-refused k h =
       refused (firsts_bad recs k || blocks_bad (store_block L recs addr) n)
-      (λ e. let both = neither (firsts_bad recs k) _ e in h both.0 (blocks-kept (store_block L recs addr) n both.1))
+      (λ e. let both = or_parts (firsts_bad recs k) _ e in h both.0 (blocks-kept (store_block L recs addr) n both.1))
 
 -- a group with blocks before it isn't the first
 later : (L g : ℕ) → 0 < L * g → 0 < g
@@ -167,10 +174,12 @@ module _ {L : ℕ} {recs addr : List ℕ} {n g : ℕ} {m : BlockAddrBlockMetadat
   own-legal legal =
       legal-same (λ j h. sym (own_is j h)) (legal-part legal (L * g) (m.block_len + 1) (omega (arith, group-kept.blocks)))
 
-  pub group-refused : (k : ℕ) (r : Option BlockAddr) → r ≡ last_of own m.block_len → r ≡ None → true ≡ (firsts_bad recs k || blocks_bad block n)
+  pub group-refused : (k : ℕ) (r : Option BlockAddr) → r ≡ last_of own m.block_len → r ≡ None
+      → true ≡ (firsts_bad recs k || blocks_bad block n)
   group-refused k r is e =
       row-refused L recs addr n k
-      (λ firsts legal. true≢false (sym (told-broken _ (own m.block_len) (sym is ∙ e)) ∙ blocks-keep own (m.block_len + 1) (own-legal legal)))
+      (λ firsts legal. true≢false
+      (sym (told-broken _ (own m.block_len) (sym is ∙ e)) ∙ blocks-keep own (m.block_len + 1) (own-legal legal)))
 
   module _ {before : BlockAddr} (passed : Passed L recs addr n g before) where
     before-is : 0 < g → before ≡ block (L * g - 1)
@@ -193,15 +202,18 @@ module _ {L : ℕ} {recs addr : List ℕ} {n g : ℕ} {m : BlockAddrBlockMetadat
 
     module _ (good : first_bad m g before ≡ false) where
       pub group-readable : Readable m (length (take (length addr - m.offset) (drop m.offset addr)))
-      group-readable = part-readable m (len_of_group L n g) addr (rw group.keeps (first-ok m g before good).inside) (omega (arith, group.few))
+      group-readable =
+          part-readable m (len_of_group L n g) addr (rw group.keeps (first-ok m g before good).inside) (omega (arith, group.few))
 
-      pub passed-turn : (r : Option BlockAddr) (after : BlockAddr) → r ≡ last_of own m.block_len → r ≡ Some after → Passed L recs addr n (g + 1) after
+      pub passed-turn : (r : Option BlockAddr) (after : BlockAddr) → r ≡ last_of own m.block_len → r ≡ Some after
+          → Passed L recs addr n (g + 1) after
       unfolding firsts_bad block_read range_read ordinal_read
       passed-turn r after is e =
           let ok = first-ok m g before good in
           let told = told-block (blocks_bad own (m.block_len + 1)) (own m.block_len) after (sym is ∙ e) in
           let front : min n (L * g) ≡ L * g = omega (arith, group.there) in
-          let whole : min n (L * (g + 1)) ≡ L * g + (m.block_len + 1) = rw (add-one g, mul-suc L g) (omega (arith, group.there, group-kept.blocks)) in
+          let whole : min n (L * (g + 1)) ≡ L * g + (m.block_len + 1) =
+          rw (add-one g, mul-suc L g) (omega (arith, group.there, group-kept.blocks)) in
           let end : L * g + (m.block_len + 1) - 1 ≡ L * g + m.block_len = omega arith in
           record {
             firsts = rw (add-one g, passed.firsts) (rw group.is at ok.inside);

@@ -1,4 +1,5 @@
--- What is left to plan of a store while its groups are planned one after the other: the plans of the groups left, put behind those before, give all of them.
+-- What is left to plan of a store while its groups are planned one after the other: the plans of the groups left, put behind those
+-- before, give all of them.
 use Prim.Native.Nat.{ℕ, ◌+◌, ◌-◌, ◌*◌, ◌≤◌, ◌<◌, min}
 use mathlib.Core.Path.{◌≡◌, refl, sym, ap, ◌∙◌}
 use mathlib.Core.List.{List}
@@ -27,7 +28,8 @@ pub record Planning (area : List ℕ) (stride n L : ℕ) (kept₀ kept : List �
   pub lengths : len + length (bits area stride n L first) ≡ length (addrs best_slope L (group_count L n) (blocks_at area stride 0 n))
   pub groups : g + group_count L (n - first) ≡ group_count L n
   pub long : length kept ≡ length kept₀
-  pub same : sets kept (2 * g) (plans_from area stride n L first) ≡ sets kept₀ 0 (plans best_slope L (group_count L n) (blocks_at area stride 0 n))
+  pub same : sets kept (2 * g) (plans_from area stride n L first)
+      ≡ sets kept₀ 0 (plans best_slope L (group_count L n) (blocks_at area stride 0 n))
 
 pub planning-all : (area : List ℕ) (stride n L : ℕ) (kept : List ℕ) → Planning area stride n L kept kept 0 0 0
 planning-all area stride n L kept = record {
@@ -45,15 +47,20 @@ module _ {area : List ℕ} {stride n L : ℕ} {kept₀ kept : List ℕ} {len g f
       × (kept ≡ sets kept₀ 0 (plans best_slope L (group_count L n) (blocks_at area stride 0 n)))
   planning-none none =
       let all = blocks_at area stride first (n - first) in (
-        omega (arith, ap length (addrs-none best_slope group.some n first none all), none_left best_slope group.some n first none all, planning.lengths, planning.groups, length-store-area best_slope group.some area stride 0 n),
+        omega (
+          arith,
+          ap length (addrs-none best_slope group.some n first none all),
+          none_left best_slope group.some n first none all,
+          planning.lengths,
+          planning.groups,
+          length-store-area best_slope group.some area stride 0 n,
+        ),
         (rw (plans-none best_slope group.some n first none all) at planning.same),
       )
 
   module _ (count : ℕ) (is : count ≡ min L (n - first)) (more : first < n) where
-    pub plan-room : 2 * group_count L n ≤ length kept₀ → 2 * g + 2 ≤ length kept
-    plan-room h = omega (arith, planning.groups, planning.long, group-count-turn group.some n first count is more)
-
-    pub plan-bits : length (bits area stride n L first) ≡ length (group_addrs best_slope (blocks_at area stride first count)) + length (bits area stride n L (first + count))
+    pub plan-bits : length (bits area stride n L first)
+        ≡ length (group_addrs best_slope (blocks_at area stride first count)) + length (bits area stride n L (first + count))
     plan-bits = length-addrs-turn best_slope group.some area stride n first count is more
 
     pub planning-turn : (r : ℕ) (kept' : List ℕ) → r ≡ length (group_addrs best_slope (blocks_at area stride first count))

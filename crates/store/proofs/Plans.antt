@@ -45,11 +45,13 @@ standing-sets d w i h =
     ∙ take-append_seam w (drop (i + length w) d)
 
 -- two numbers that stand at a place
-pub standing-two : (l : List ℕ) (i : ℕ) (w : List ℕ) → length w ≡ 2 → StandsAt l i w → (i + 2 ≤ length l) × (get_or l i 0 ∷ get_or l (i + 1) 0 ∷ [] ≡ w)
+pub standing-two : (l : List ℕ) (i : ℕ) (w : List ℕ) → length w ≡ 2 → StandsAt l i w → (i + 2 ≤ length l)
+    × (get_or l i 0 ∷ get_or l (i + 1) 0 ∷ [] ≡ w)
 standing-two l i w size h =
     let room : i + 2 ≤ length l = omega (arith, ap length h, length-take (length w) (drop i l), length-drop i l) in
     let there : drop i l ≡ get_or l i 0 ∷ get_or l (i + 1) 0 ∷ drop (i + 2) l =
-    drop-cons l i 0 (omega arith) ∙ ap (λ (r : List ℕ). get_or l i 0 ∷ r) (rw (add-one i, add-two i) (drop-cons l (suc i) 0 (omega arith))) in
+    drop-cons l i 0 (omega arith)
+    ∙ ap (λ (r : List ℕ). get_or l i 0 ∷ r) (rw (add-one i, add-two i) (drop-cons l (suc i) 0 (omega arith))) in
     (room, sym (ap (take 2) there) ∙ (rw size at h))
   where
     add-two : (k : ℕ) → k + 2 ≡ suc (suc k)
@@ -87,7 +89,12 @@ module _ (choose : List ℕ → ℕ) where
         ≡ group_plan choose (blocks_at area stride first count)
         ++ plans choose L (group_count L (n - (first + count))) (blocks_at area stride (first + count) (n - (first + count)))
     unfolding plans
-    plans-turn = rw (group-count-turn some n first count is more, next-group choose some area stride n first count is more, blocks-left area stride L n first count is)
+    plans-turn =
+        rw (
+          group-count-turn some n first count is more,
+          next-group choose some area stride n first count is more,
+          blocks-left area stride L n first count is,
+        )
 
     pub length-plan : length (group_plan choose (blocks_at area stride first count)) ≡ 2
     length-plan = length-group_plan (blocks_at area stride first count) (rw (length-blocks_at area stride first count) (omega arith))
@@ -96,15 +103,18 @@ module _ (choose : List ℕ → ℕ) where
   unfolding plans
   plans-none some n first none bs = rw (none_left choose some n first none bs)
 
-  pub length-plans-area : {L : ℕ} → 1 ≤ L → (area : List ℕ) (stride i n : ℕ) → length (plans choose L (group_count L n) (blocks_at area stride i n)) ≡ 2 * group_count L n
+  pub length-plans-area : {L : ℕ} → 1 ≤ L → (area : List ℕ) (stride i n : ℕ)
+      → length (plans choose L (group_count L n) (blocks_at area stride i n)) ≡ 2 * group_count L n
   length-plans-area {L} some area stride i n =
       length-plans L (group_count L n) (blocks_at area stride i n) some (rw (length-blocks_at area stride i n) (group-count-below some n))
 
   -- what was planned stands at the front
   pub plans-stand : {L : ℕ} → 1 ≤ L → (area : List ℕ) (stride n : ℕ) (kept kept' : List ℕ) → 2 * group_count L n ≤ length kept
-      → kept' ≡ sets kept 0 (plans choose L (group_count L n) (blocks_at area stride 0 n)) → StandsAt kept' 0 (plans choose L (group_count L n) (blocks_at area stride 0 n))
+      → kept' ≡ sets kept 0 (plans choose L (group_count L n) (blocks_at area stride 0 n))
+      → StandsAt kept' 0 (plans choose L (group_count L n) (blocks_at area stride 0 n))
   plans-stand {L} some area stride n kept kept' room e =
-      rw e (standing-sets kept (plans choose L (group_count L n) (blocks_at area stride 0 n)) 0 (omega (arith, length-plans-area some area stride 0 n)))
+      rw e (standing-sets kept (plans choose L (group_count L n) (blocks_at area stride 0 n)) 0
+      (omega (arith, length-plans-area some area stride 0 n)))
 
   -- what is kept of a group's record
   pub kept-plan : (area : List ℕ) (stride first count : ℕ) {m : BlockAddrBlockMetadata} → 0 < count

@@ -1,4 +1,5 @@
--- What was written is read back: the records and address bytes of legal blocks keep rows 15 and 16 and give the blocks, so that equal bytes mean equal blocks.
+-- What was written is read back: the records and address bytes of legal blocks keep rows 15 and 16 and give the blocks, so that
+-- equal bytes mean equal blocks.
 use Prim.Native.Nat.{ℕ, suc, ◌+◌, ◌-◌, ◌*◌, ◌/◌, ◌%◌, ◌^◌, ◌≤◌, ◌<◌, min}
 use mathlib.Core.Path.{◌≡◌, refl, sym, ap, ap₂, ◌∙◌}
 use mathlib.Core.Bool.{false}
@@ -11,9 +12,7 @@ use lib.ListN.{length, take, drop, length-append, length-take, length-drop}
 use lib.Seq.{ext_get_or, get_or-take, get_or-drop, take_at, drop_at}
 use Rattle.serialize.specs.Digits.{le_val, le_bytes, DigitsBelow}
 use Rattle.serialize.proofs.Digits.{length-digits_of, digits_of-inj, below-drop}
-use Rattle.slope.specs.Slope.{best_slope}
-use Rattle.slope.proofs.Widths.{best_slope-lt}
-use Rattle.group.specs.Blocks.{block_of, blocks_at}
+use Rattle.group.specs.Blocks.{block_of}
 use Rattle.group.specs.Legal.{limit, Legal}
 use Rattle.group.specs.Write.{meta_of, group_number, addr_bytes}
 use Rattle.group.specs.Read.{block_read}
@@ -21,16 +20,17 @@ use Rattle.group.specs.Facts.{Fitting}
 use Rattle.group.specs.declared.BlockAddr.{BlockAddr}
 use Rattle.group.specs.declared.BlockAddrBlockMetadata.{BlockAddrBlockMetadata}
 use Rattle.group.proofs.Legal.{numbers-good}
-use Rattle.group.proofs.Blocks.{length-blocks_at, legal-same}
+use Rattle.group.proofs.Blocks.{legal-same}
 use Rattle.group.proofs.Metadata.{MetaFits, meta-back}
 use Rattle.group.proofs.Written.{fits, meta-fits, length-addr_bytes}
 use Rattle.group.proofs.Reading.{GroupOk, group-not-bad}
 use Rattle.group.proofs.Back.{block_back}
 use Rattle.store.specs.Store.{group_count, group_addrs, group_records, addrs, store_bytes}
 use Rattle.store.specs.Read.{group_meta, len_of_group, store_block, meta_bad, store_get, StoreOk}
-use Rattle.store.specs.Facts.{GroupLenOk, StoreArea}
+use Rattle.store.specs.Facts.{GroupLenOk}
 use Rattle.std.specs.Prelude.{Some}
-use Rattle.store.proofs.Groups.{group-count-above, group-count-below, group-count-lt, group-first-lt, group-count-le, legal-take, legal-drop, store-legal}
+use Rattle.store.proofs.Groups.{group-count-above, group-count-below, group-count-lt, group-first-lt, group-count-le, legal-take}
+use Rattle.store.proofs.Groups.{legal-drop}
 use Rattle.store.proofs.Stored.{below-append, length-records, addrs-le, group-cons, record-at, bits_at, bits_inside, addrs-below}
 
 -- records and address bytes that give the blocks bs
@@ -46,15 +46,6 @@ pub record Storable (choose : List ℕ → ℕ) (L : ℕ) (bs : List BlockAddr) 
   pub group : GroupLenOk L
   pub few : length bs ≤ 65536
   pub legal : Legal (block_of bs) (length bs)
-
--- the blocks of an area, as they are written
-pub area-storable : {area : List ℕ} {stride n L : ℕ} → StoreArea area stride n → GroupLenOk L → Storable best_slope L (blocks_at area stride 0 n)
-area-storable {area} {stride} {n} store group = record {
-  slopes = best_slope-lt;
-  group = group;
-  few = rw (length-blocks_at area stride 0 n) store.few;
-  legal = store-legal store;
-}
 
 -- ---- one group
 
@@ -144,15 +135,19 @@ module _ {choose : List ℕ → ℕ} {L : ℕ} {bs : List BlockAddr} (given : St
 
       -- its block j
       block-at : (j : ℕ) → j < len_of_group L (length bs) g
-          → block_read (group_meta (group_records choose L count 0 bs) g) (le_val (drop (group_meta (group_records choose L count 0 bs) g).offset (addrs choose L count bs ++ rest))) j
+          → block_read (group_meta (group_records choose L count 0 bs) g)
+          (le_val (drop (group_meta (group_records choose L count 0 bs) g).offset (addrs choose L count bs ++ rest))) j
           ≡ block_of bs (L * g + j)
       block-at j h =
           let addr = addrs choose L count bs ++ rest in
-          let behind = below-drop 8 meta.offset addr (below-append 8 (addrs choose L count bs) rest (addrs-below choose L count bs) bytes) in
+          let behind =
+          below-drop 8 meta.offset addr (below-append 8 (addrs choose L count bs) rest (addrs-below choose L count bs) bytes) in
           let front : take (length (addr_bytes meta head tail)) (drop meta.offset addr) ≡ addr_bytes meta head tail =
-          ap (λ (x : ℕ). take (length (addr_bytes meta head tail)) (drop x addr)) offset-is ∙ (rw group-bits at (bits_at choose given.group.some bs count g inside there rest)) in
+          ap (λ (x : ℕ). take (length (addr_bytes meta head tail)) (drop x addr)) offset-is
+          ∙ (rw group-bits at (bits_at choose given.group.some bs count g inside there rest)) in
           let last : j < suc (length tail) = omega (arith, length-group) in
-          rw group-meta (block_back meta head tail fit group-legal (drop meta.offset addr) behind front j (le_of_suc-le-suc last) ∙ group_at j last)
+          rw group-meta
+          (block_back meta head tail fit group-legal (drop meta.offset addr) behind front j (le_of_suc-le-suc last) ∙ group_at j last)
 
 -- ---- all groups
 
@@ -208,8 +203,11 @@ module _ {choose choose' : List ℕ → ℕ} {L : ℕ} {bs bs' : List BlockAddr}
   unfolding store_bytes
   same_count =
       let first : le_bytes 8 (36 * size) ≡ le_bytes 8 (36 * size') =
-      sym (take_at (le_bytes 8 (36 * size)) (group_records choose L size 0 bs ++ addrs choose L size bs) 8 (length-digits_of 8 8 (36 * size)))
-      ∙ ap (take 8) e ∙ take_at (le_bytes 8 (36 * size')) (group_records choose' L size' 0 bs' ++ addrs choose' L size' bs') 8 (length-digits_of 8 8 (36 * size')) in
+      sym (take_at (le_bytes 8 (36 * size)) (group_records choose L size 0 bs ++ addrs choose L size bs) 8
+      (length-digits_of 8 8 (36 * size)))
+      ∙ ap (take 8) e
+      ∙ take_at (le_bytes 8 (36 * size')) (group_records choose' L size' 0 bs' ++ addrs choose' L size' bs') 8
+      (length-digits_of 8 8 (36 * size')) in
       let few = group-count-le given.group.some (length bs) in
       let few' = group-count-le given.group.some (length bs') in
       let same = digits_of-inj 8 8 (36 * size) (36 * size') (omega (arith, given.few)) (omega (arith, given'.few)) first in
@@ -218,14 +216,19 @@ module _ {choose choose' : List ℕ → ℕ} {L : ℕ} {bs bs' : List BlockAddr}
   behind : group_records choose L size 0 bs ++ addrs choose L size bs ≡ group_records choose' L size' 0 bs' ++ addrs choose' L size' bs'
   unfolding store_bytes
   behind =
-      sym (drop_at (le_bytes 8 (36 * size)) (group_records choose L size 0 bs ++ addrs choose L size bs) 8 (length-digits_of 8 8 (36 * size)))
-      ∙ ap (drop 8) e ∙ drop_at (le_bytes 8 (36 * size')) (group_records choose' L size' 0 bs' ++ addrs choose' L size' bs') 8 (length-digits_of 8 8 (36 * size'))
+      sym (drop_at (le_bytes 8 (36 * size)) (group_records choose L size 0 bs ++ addrs choose L size bs) 8
+      (length-digits_of 8 8 (36 * size)))
+      ∙ ap (drop 8) e
+      ∙ drop_at (le_bytes 8 (36 * size')) (group_records choose' L size' 0 bs' ++ addrs choose' L size' bs') 8
+      (length-digits_of 8 8 (36 * size'))
 
   records-long : length (group_records choose L size 0 bs) ≡ 36 * size
   records-long = length-records choose L size 0 bs given.group.some (group-count-below given.group.some (length bs))
 
   records-long' : length (group_records choose' L size' 0 bs') ≡ 36 * size
-  records-long' = length-records choose' L size' 0 bs' given.group.some (group-count-below given.group.some (length bs')) ∙ ap (λ (x : ℕ). 36 * x) (sym same_count)
+  records-long' =
+      length-records choose' L size' 0 bs' given.group.some (group-count-below given.group.some (length bs'))
+      ∙ ap (λ (x : ℕ). 36 * x) (sym same_count)
 
   same-records : group_records choose L size 0 bs ≡ group_records choose' L size' 0 bs'
   same-records =

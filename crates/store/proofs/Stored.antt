@@ -21,7 +21,8 @@ use Rattle.group.proofs.Metadata.{length-meta_bytes}
 use Rattle.group.proofs.Written.{fits, length-addr_bytes}
 use Rattle.store.specs.Store.{group_count, group_record, group_addrs, group_records, addrs, store_bytes}
 use Rattle.store.specs.Facts.{GroupLenOk, StoreArea}
-use Rattle.store.proofs.Groups.{group-count-zero, group-count-turn, group-count-below, group-count-le, blocks_at-cons, take-blocks_at, blocks-left, legal-take, legal-drop, store-legal}
+use Rattle.store.proofs.Groups.{group-count-zero, group-count-turn, group-count-below, group-count-le, blocks_at-cons, take-blocks_at}
+use Rattle.store.proofs.Groups.{blocks-left, legal-take, legal-drop, store-legal}
 
 -- ---- stores in two places
 
@@ -73,7 +74,8 @@ module _ (choose : List ℕ → ℕ) where
 
     pub records-turn : (offset : ℕ) → group_records choose L (group_count L (n - first)) offset (blocks_at area stride first (n - first))
         ≡ group_record choose offset (blocks_at area stride first count)
-        ++ group_records choose L (group_count L (n - (first + count))) (offset + length (group_addrs choose (blocks_at area stride first count)))
+        ++ group_records choose L (group_count L (n - (first + count)))
+        (offset + length (group_addrs choose (blocks_at area stride first count)))
         (blocks_at area stride (first + count) (n - (first + count)))
     unfolding group_records
     records-turn offset = rw (group-count-turn some n first count is more, next-group, blocks-left area stride L n first count is)
@@ -103,9 +105,11 @@ module _ (choose : List ℕ → ℕ) where
     unfolding group_addrs addr_bytes group_number meta_of
     planned-bits = rw (is, blocks_at-cons area stride first count group.some)
 
-    pub planned-fits : ((vs : List ℕ) → choose vs < 2 ^ 32) → Fitting m (block_at area stride first) (blocks_at area stride (first + 1) (count - 1))
+    pub planned-fits : ((vs : List ℕ) → choose vs < 2 ^ 32)
+        → Fitting m (block_at area stride first) (blocks_at area stride (first + 1) (count - 1))
     planned-fits slopes =
-        rw is (fits (block_at area stride first) (blocks_at area stride (first + 1) (count - 1)) (group-legal group) choose offset slopes (omega (arith, length-group group, group.few)))
+        rw is (fits (block_at area stride first) (blocks_at area stride (first + 1) (count - 1)) (group-legal group) choose offset slopes
+        (omega (arith, length-group group, group.few)))
 
     pub planned-length : ((vs : List ℕ) → choose vs < 2 ^ 32)
         → ((m.range_start_nbits + m.first_ordinal_nbits) * m.block_len + m.range_start_nbits + 7) / 8
@@ -122,7 +126,8 @@ module _ (choose : List ℕ → ℕ) where
   length-record offset (b ∷ bs) h = length-meta_bytes (meta_of choose offset b bs)
 
   -- k groups of which none is empty
-  pub length-records : (L k offset : ℕ) (bs : List BlockAddr) → 1 ≤ L → L * k < length bs + L → length (group_records choose L k offset bs) ≡ 36 * k
+  pub length-records : (L k offset : ℕ) (bs : List BlockAddr) → 1 ≤ L → L * k < length bs + L
+      → length (group_records choose L k offset bs) ≡ 36 * k
   unfolding group_records
   length-records L zero offset bs some h = refl
   length-records L (suc k) offset bs some h =
@@ -159,16 +164,19 @@ module _ (choose : List ℕ → ℕ) where
 
   -- the same of the blocks of an area
   module _ {L : ℕ} (some : 1 ≤ L) (area : List ℕ) (stride i n : ℕ) where
-    pub length-records-area : (offset : ℕ) → length (group_records choose L (group_count L n) offset (blocks_at area stride i n)) ≡ 36 * group_count L n
+    pub length-records-area : (offset : ℕ)
+        → length (group_records choose L (group_count L n) offset (blocks_at area stride i n)) ≡ 36 * group_count L n
     length-records-area offset =
-        length-records L (group_count L n) offset (blocks_at area stride i n) some (rw (length-blocks_at area stride i n) (group-count-below some n))
+        length-records L (group_count L n) offset (blocks_at area stride i n) some
+        (rw (length-blocks_at area stride i n) (group-count-below some n))
 
     pub length-store-area : length (store_bytes choose L (blocks_at area stride i n))
         ≡ 8 + 36 * group_count L n + length (addrs choose L (group_count L n) (blocks_at area stride i n))
     length-store-area = rw (length-blocks_at area stride i n) at (length-store_bytes L (blocks_at area stride i n) some)
 
     pub sets-store-area : (d : List ℕ)
-        → sets (sets (sets d 0 (le_bytes 8 (36 * group_count L n))) 8 (group_records choose L (group_count L n) 0 (blocks_at area stride i n)))
+        → sets (sets (sets d 0 (le_bytes 8 (36 * group_count L n))) 8
+        (group_records choose L (group_count L n) 0 (blocks_at area stride i n)))
         (8 + 36 * group_count L n) (addrs choose L (group_count L n) (blocks_at area stride i n))
         ≡ sets d 0 (store_bytes choose L (blocks_at area stride i n))
     sets-store-area d = rw (length-blocks_at area stride i n) at (sets-store d L (blocks_at area stride i n) some)
@@ -183,7 +191,8 @@ module _ (choose : List ℕ → ℕ) where
         let fit = fits b bs legal choose 0 slopes (omega arith) in
         let r = fit.ranges.high in
         let o = fit.ordinals.high in
-        let most : (m.range_start_nbits + m.first_ordinal_nbits) * length bs ≤ 112 * 255 = mul-le-mul {n₂ = 112} {m₂ = 255} (omega arith) (omega arith) in
+        let most : (m.range_start_nbits + m.first_ordinal_nbits) * length bs ≤ 112 * 255 =
+        mul-le-mul {n₂ = 112} {m₂ = 255} (omega arith) (omega arith) in
         rw (length-addr_bytes m b bs) (omega arith)
 
     pub addrs-le : (L k : ℕ) (bs : List BlockAddr) → L ≤ 256 → Legal (block_of bs) (length bs) → length (addrs choose L k bs) ≤ 3577 * k
@@ -200,7 +209,12 @@ module _ (choose : List ℕ → ℕ) where
     pub store-addrs-le : {area : List ℕ} {stride n L : ℕ} → StoreArea area stride n → GroupLenOk L
         → length (addrs choose L (group_count L n) (blocks_at area stride 0 n)) ≤ 3577 * 65536
     store-addrs-le {area} {stride} {n} {L} store group =
-        omega (arith, addrs-le L (group_count L n) (blocks_at area stride 0 n) group.few (store-legal store), group-count-le group.some n, store.few)
+        omega (
+          arith,
+          addrs-le L (group_count L n) (blocks_at area stride 0 n) group.few (store-legal store),
+          group-count-le group.some n,
+          store.few,
+        )
 
   -- ---- places
 
@@ -220,7 +234,15 @@ module _ (choose : List ℕ → ℕ) where
   records-add L (suc g) k offset bs =
       let e : L * suc g ≡ L + L * g = omega (arith, mul-suc L g) in
       let one = group_addrs choose (take L bs) in
-      rw (suc-add g k, e, ← (drop-drop (L * g) L bs), append_assoc, length-append one (addrs choose L g (drop L bs)), ← (add_assoc offset (length one) (length (addrs choose L g (drop L bs)))), records-add L g k (offset + length one) (drop L bs))
+      rw (
+        suc-add g k,
+        e,
+        ← (drop-drop (L * g) L bs),
+        append_assoc,
+        length-append one (addrs choose L g (drop L bs)),
+        ← (add_assoc offset (length one) (length (addrs choose L g (drop L bs)))),
+        records-add L g k (offset + length one) (drop L bs),
+      )
 
   module _ {L : ℕ} (some : 1 ≤ L) (bs : List BlockAddr) (G g : ℕ) (inside : g < G) (there : L * g < length bs) where
     -- the blocks of group g
@@ -241,19 +263,22 @@ module _ (choose : List ℕ → ℕ) where
         ap (λ (n : ℕ). take 36 (drop (36 * g) (group_records choose L n offset bs))) e
         ∙ rw (
           records-add L g (suc (G - suc g)) offset bs,
-          drop_at (group_records choose L g offset bs) (group_records choose L (suc (G - suc g)) at (drop (L * g) bs)) (36 * g) (length-records L g offset bs some (omega arith)),
+          drop_at (group_records choose L g offset bs) (group_records choose L (suc (G - suc g)) at (drop (L * g) bs)) (36 * g)
+              (length-records L g offset bs some (omega arith)),
           group-cons,
         )
         (take_at (meta_bytes one) _ 36 (length-meta_bytes one))
 
     -- its bits, and what stands before and behind them
-    pub bits-behind : addrs choose L G bs ≡ addrs choose L g bs ++ (group_addrs choose (take L (drop (L * g) bs)) ++ addrs choose L (G - suc g) (drop L (drop (L * g) bs)))
+    pub bits-behind : addrs choose L G bs ≡ addrs choose L g bs
+        ++ (group_addrs choose (take L (drop (L * g) bs)) ++ addrs choose L (G - suc g) (drop L (drop (L * g) bs)))
     unfolding addrs
     bits-behind =
         let e : G ≡ g + suc (G - suc g) = omega arith in
         ap (λ (n : ℕ). addrs choose L n bs) e ∙ addrs-add L g (suc (G - suc g)) bs
 
-    pub bits_at : (rest : List ℕ) → take (length (group_addrs choose (take L (drop (L * g) bs)))) (drop (length (addrs choose L g bs)) (addrs choose L G bs ++ rest))
+    pub bits_at : (rest : List ℕ)
+        → take (length (group_addrs choose (take L (drop (L * g) bs)))) (drop (length (addrs choose L g bs)) (addrs choose L G bs ++ rest))
         ≡ group_addrs choose (take L (drop (L * g) bs))
     bits_at rest =
         let one = group_addrs choose (take L (drop (L * g) bs)) in
@@ -284,4 +309,6 @@ module _ (choose : List ℕ → ℕ) where
   pub addrs-below : (L k : ℕ) (bs : List BlockAddr) → DigitsBelow 8 (addrs choose L k bs)
   unfolding addrs
   addrs-below L zero bs i = omega arith
-  addrs-below L (suc k) bs i = below-append 8 (group_addrs choose (take L bs)) (addrs choose L k (drop L bs)) (group-below (take L bs)) (addrs-below L k (drop L bs)) i
+  addrs-below L (suc k) bs i =
+      below-append 8 (group_addrs choose (take L bs)) (addrs choose L k (drop L bs)) (group-below (take L bs))
+      (addrs-below L k (drop L bs)) i

@@ -23,7 +23,15 @@ use Rattle.group.specs.Read.{value_read, range_read, ordinal_read, block_read}
 use Rattle.group.specs.Facts.{Readable}
 use Rattle.group.proofs.Blocks.{legal-same, ends-rise, ordinals-rise}
 use Rattle.group.proofs.Reading.{value_in}
-use Rattle.group.proofs.Written.{length-range_values, length-ordinal_values, length_fields, fields_at, range-end-at, ordinal-at, length-addr_bytes}
+use Rattle.group.proofs.Written.{
+  length-range_values,
+  length-ordinal_values,
+  length_fields,
+  fields_at,
+  range-end-at,
+  ordinal-at,
+  length-addr_bytes,
+}
 use Rattle.store_canonical.specs.Canonical.{group_first, group_rest, padding_of}
 use Rattle.store_canonical.proofs.Blocks.{length-blocks_from, blocks_from-all}
 
@@ -64,7 +72,8 @@ module _ (W : ℕ) (l : List ℕ) (bytes : DigitsBelow 8 l) (inside : bytes_of W
   front-padding : take (bytes_of W) l ≡ le_bytes (bytes_of W) (le_val l % 2 ^ W) → le_val l / 2 ^ W % 2 ^ (8 * bytes_of W - W) ≡ 0
   front-padding e =
       let small : le_val l % 2 ^ W < 2 ^ (8 * bytes_of W) = lt_of_lt_of_le (mod-lt (le_val l) (pow_pos W)) (pow_mono (omega arith)) in
-      let v : le_val (take (bytes_of W) l) ≡ le_val l % 2 ^ W = ap le_val e ∙ of_digits-digits_of-lt 8 (bytes_of W) (le_val l % 2 ^ W) small in
+      let v : le_val (take (bytes_of W) l) ≡ le_val l % 2 ^ W = ap le_val e ∙ of_digits-digits_of-lt 8 (bytes_of W) (le_val l % 2 ^ W)
+      small in
       omega (arith, front-value, le-mul_of_pos_right (le_val l / 2 ^ W % 2 ^ (8 * bytes_of W - W)) (pow_pos W))
 
 -- ---- a value that is read stands for its field
@@ -88,7 +97,8 @@ module _ (m : BlockAddrBlockMetadata) (l : List ℕ) (bytes : DigitsBelow 8 l) (
 
   -- the fields that the writer makes are those that stand there
   ranges-is : (j : ℕ) → j ≤ m.block_len
-      → get_or (fields m.range_start_slope m.range_start_nbits 1 (range_values (group_first m l).start (group_first m l) (group_rest m l))) j 0
+      → get_or (fields m.range_start_slope m.range_start_nbits 1 (range_values (group_first m l).start (group_first m l) (group_rest m
+      l))) j 0
       ≡ le_val l / 2 ^ range_bit m.range_start_nbits m.first_ordinal_nbits j % 2 ^ m.range_start_nbits
   unfolding block_read range_read
   ranges-is j h =

@@ -3,9 +3,9 @@ use borrow.Author.Tests.{eqb-true, eq-eqb, not-false}
 use mathlib.Core.Path.{◌≡◌, refl, sym, ◌∙◌}
 use mathlib.Core.Bool.{Bool, true, false, not, ◌&&◌, true≢false}
 use lib.Dec.{eqb}
+use Rattle.std.proofs.lemmas.Bool.{and_parts}
 use Rattle.group.specs.declared.BlockAddrBlockMetadata.{BlockAddrBlockMetadata}
 use Rattle.group.proofs.Metadata.{same-meta}
-use Rattle.store_canonical.proofs.Same.{both}
 
 module _ (a b : BlockAddrBlockMetadata) where
   abbrev pub equal : Bool
@@ -21,13 +21,13 @@ module _ (a b : BlockAddrBlockMetadata) where
 
   pub equal-same : not equal ≡ false → a ≡ b
   equal-same e =
-      let t₀ = both (eqb a.offset b.offset) _ (not-false _ e) in
-      let t₁ = both (eqb a.range_start b.range_start) _ t₀.1 in
-      let t₂ = both (eqb a.first_ordinal b.first_ordinal) _ t₁.1 in
-      let t₃ = both (eqb a.range_start_slope b.range_start_slope) _ t₂.1 in
-      let t₄ = both (eqb a.first_ordinal_slope b.first_ordinal_slope) _ t₃.1 in
-      let t₅ = both (eqb a.first_ordinal_nbits b.first_ordinal_nbits) _ t₄.1 in
-      let t₆ = both (eqb a.range_start_nbits b.range_start_nbits) _ t₅.1 in
+      let t₀ = and_parts (eqb a.offset b.offset) _ (not-false _ e) in
+      let t₁ = and_parts (eqb a.range_start b.range_start) _ t₀.1 in
+      let t₂ = and_parts (eqb a.first_ordinal b.first_ordinal) _ t₁.1 in
+      let t₃ = and_parts (eqb a.range_start_slope b.range_start_slope) _ t₂.1 in
+      let t₄ = and_parts (eqb a.first_ordinal_slope b.first_ordinal_slope) _ t₃.1 in
+      let t₅ = and_parts (eqb a.first_ordinal_nbits b.first_ordinal_nbits) _ t₄.1 in
+      let t₆ = and_parts (eqb a.range_start_nbits b.range_start_nbits) _ t₅.1 in
       same-meta (eqb-true _ _ t₀.0) (eqb-true _ _ t₁.0) (eqb-true _ _ t₂.0) (eqb-true _ _ t₃.0) (eqb-true _ _ t₄.0) (eqb-true _ _ t₅.0)
       (eqb-true _ _ t₆.0) (eqb-true _ _ t₆.1)
 

@@ -1,4 +1,5 @@
--- A group whose blocks stand in an area: the area is a group's, and what is planned from it is the record of the blocks read, which a record equals that agrees with it in what the writer chooses.
+-- A group whose blocks stand in an area: the area is a group's, and what is planned from it is the record of the blocks read,
+-- which a record equals that agrees with it in what the writer chooses.
 use Prim.Native.Nat.{ℕ, ◌+◌, ◌-◌, ◌*◌, ◌≤◌, ◌<◌}
 use mathlib.Core.Path.{◌≡◌, refl, sym, ap, ap₂, ◌∙◌}
 use mathlib.Core.List.{List, ◌∷◌}
@@ -74,7 +75,8 @@ same-plans a b e = record {
 
 -- first values and the count are read from the record itself
 pub planned-same : (m : BlockAddrBlockMetadata) (bytes : List ℕ) (choose : List ℕ → ℕ) (offset : ℕ)
-    → SamePlan m (meta_of choose offset (group_first m bytes) (group_rest m bytes)) → m ≡ meta_of choose offset (group_first m bytes) (group_rest m bytes)
+    → SamePlan m (meta_of choose offset (group_first m bytes) (group_rest m bytes)) → m ≡ meta_of choose offset (group_first m bytes)
+    (group_rest m bytes)
 unfolding meta_of block_read range_read ordinal_read
 planned-same m bytes choose offset same =
     same-meta same.offset refl refl same.range-slope same.ordinal-slope same.ordinal-width same.range-width

@@ -1,17 +1,13 @@
 -- The test whether two lists are equal is true exactly of equal lists.
 use Prim.Native.Nat.{ℕ}
 use mathlib.Core.Path.{◌≡◌, refl}
-use mathlib.Core.Bool.{Bool, true, false, ◌&&◌, not-eq-not}
+use mathlib.Core.Bool.{true, false, not-eq-not}
 use mathlib.Core.List.{List, [], ◌∷◌}
 use native.Mathlib.Omega.{arith}
 use borrow.Author.Tests.{eqb-true, eq-eqb}
 use lib.Dec.{eqb}
+use Rattle.std.proofs.lemmas.Bool.{and_parts}
 use Rattle.store_canonical.specs.Same.{same_bytes}
-
--- two tests that both hold
-pub both : (a b : Bool) → a && b ≡ true → (a ≡ true) × (b ≡ true)
-both true b e = (refl, e)
-both false b e = absurd (let z : ◌≡◌ {A = ℕ} 0 1 = cc in omega arith)
 
 pub same_self : (a : List ℕ) → same_bytes a a ≡ true
 unfolding same_bytes
@@ -27,7 +23,7 @@ same-equal [] [] e = refl
 same-equal [] (y ∷ b) e = absurd (let z : ◌≡◌ {A = ℕ} 0 1 = cc in omega arith)
 same-equal (x ∷ a) [] e = absurd (let z : ◌≡◌ {A = ℕ} 0 1 = cc in omega arith)
 same-equal (x ∷ a) (y ∷ b) e =
-    let t = both (eqb x y) (same_bytes a b) e in
+    let t = and_parts (eqb x y) (same_bytes a b) e in
     let head = eqb-true x y t.0 in
     let tail = same-equal a b t.1 in
     cc

@@ -10,7 +10,7 @@ use lib.ListN.{length, take, drop, length-take, length-drop, take-append-drop, d
 use lib.Seq.{ext_get_or, get_or-take, get_or-drop, take_at, drop_at, drop-drop, take_all}
 use Rattle.layout.specs.Layout.{max_group_len}
 use Rattle.serialize.specs.Digits.{le_val, DigitsBelow}
-use Rattle.serialize.proofs.Tests.{neither}
+use Rattle.std.proofs.lemmas.Bool.{and_parts, or_parts}
 use Rattle.bitpacker.specs.Bits.{bytes_of}
 use Rattle.bitpacker.specs.Fields.{group_bits}
 use Rattle.group.specs.declared.BlockAddr.{BlockAddr}
@@ -32,7 +32,7 @@ use Rattle.store.proofs.Groups.{group-first-lt, legal-part}
 use Rattle.store.proofs.Lookup.{block-of-group, part-readable}
 use Rattle.store_canonical.specs.Same.{same_bytes}
 use Rattle.store_canonical.specs.Canonical.{store_blocks, is_store_canonical, group_first, group_rest, GroupCanonical}
-use Rattle.store_canonical.proofs.Same.{both, same_true, same-equal}
+use Rattle.store_canonical.proofs.Same.{same_true, same-equal}
 use Rattle.store_canonical.proofs.Blocks.{length-blocks_from, blocks_from-at, blocks_from-all}
 
 -- a store of n blocks that keeps its rows, with no record too many
@@ -60,14 +60,16 @@ joined : (l a r : List ℕ) (k : ℕ) → take k l ≡ a → drop k l ≡ r → 
 joined l a r k e f = sym (take-append-drop k l) ∙ ap₂ (λ (x y : List ℕ). x ++ y) e f
 
 -- the bits of a group don't depend on where they stand
-bits-anywhere : (choose : List ℕ → ℕ) (offset : ℕ) (m : BlockAddrBlockMetadata) (b : BlockAddr) (bs : List BlockAddr) → m ≡ meta_of choose offset b bs
+bits-anywhere : (choose : List ℕ → ℕ) (offset : ℕ) (m : BlockAddrBlockMetadata) (b : BlockAddr) (bs : List BlockAddr) →
+    m ≡ meta_of choose offset b bs
     → addr_bytes m b bs ≡ group_addrs choose (b ∷ bs)
 unfolding group_addrs addr_bytes group_number meta_of
 bits-anywhere choose offset m b bs e = rw e
 
 -- ---- one group
 
-module _ {choose : List ℕ → ℕ} {L : ℕ} {recs addr : List ℕ} {n : ℕ} (given : Checked choose L recs addr n) (g : ℕ) (there : g < group_count L n) where
+module _ {choose : List ℕ → ℕ} {L : ℕ} {recs addr : List ℕ} {n : ℕ} (given : Checked choose L recs addr n) (g : ℕ) (there : g <
+    group_count L n) where
   abbrev m : BlockAddrBlockMetadata
   m = group_meta recs g
 
@@ -80,7 +82,7 @@ module _ {choose : List ℕ → ℕ} {L : ℕ} {recs addr : List ℕ} {n : ℕ} 
 
   rows : (group_bad m (len_of_group L n g) (length addr) ≡ false)
   unfolding meta_bad
-  rows = (neither (group_bad m (len_of_group L n g) (length addr)) _ (given.ok.groups g there)).0
+  rows = (or_parts (group_bad m (len_of_group L n g) (length addr)) _ (given.ok.groups g there)).0
 
   pub group-kept : GroupOk m (len_of_group L n g) (length addr)
   group-kept = group-ok m (len_of_group L n g) (length addr) rows
@@ -101,7 +103,11 @@ module _ {choose : List ℕ → ℕ} {L : ℕ} {recs addr : List ℕ} {n : ℕ} 
 
   pub own-legal : Legal (block_read m (le_val own)) (m.block_len + 1)
   own-legal =
-      legal-same (λ j h. sym (own_is j h)) (legal-part given.ok.legal (L * g) (m.block_len + 1) (omega (arith, group-kept.blocks, first-there)))
+      legal-same (λ j h. sym (own_is j h)) (legal-part given.ok.legal (L * g) (m.block_len + 1) (omega (
+        arith,
+        group-kept.blocks,
+        first-there,
+      )))
 
   -- its blocks are the next of the store's
   own-list : group_first m own ∷ group_rest m own ≡ take L (drop (L * g) (store_blocks L recs addr n))
@@ -158,7 +164,8 @@ module _ {choose : List ℕ → ℕ} {L : ℕ} {recs addr : List ℕ} {n : ℕ} 
 
   -- the writer's, of this group and the others
   records-split : (offset : ℕ) → group_records choose L (group_count L n - g) offset blocks
-      ≡ meta_bytes (meta_of choose offset (group_first m own) (group_rest m own)) ++ others (offset + length (group_addrs choose (group_first m own ∷ group_rest m own)))
+      ≡ meta_bytes (meta_of choose offset (group_first m own) (group_rest m own)) ++ others (offset + length (group_addrs choose
+      (group_first m own ∷ group_rest m own)))
   unfolding group_records group_record
   records-split offset = rw (one_more, ← own-list, blocks-after)
 
@@ -205,8 +212,12 @@ module _ {choose : List ℕ → ℕ} {L : ℕ} {recs addr : List ℕ} {n : ℕ} 
     module _ (inside : offset ≤ length addr) (left : Left choose L recs addr n g offset) where
       meta-same : m ≡ meta_of choose offset (group_first m own) (group_rest m own)
       meta-same =
-          meta-back (meta_of choose offset (group_first m own) (group_rest m own)) recs (36 * g) (planned-fits offset (omega (arith, given.small)))
-          (front_same (drop (36 * g) recs) _ _ 36 (length-meta_bytes (meta_of choose offset (group_first m own) (group_rest m own))) (left.records ∙ records-split offset))
+          meta-back (meta_of choose offset (group_first m own) (group_rest m own)) recs (36 * g) (planned-fits offset (omega (
+            arith,
+            given.small,
+          )))
+          (front_same (drop (36 * g) recs) _ _ 36 (length-meta_bytes (meta_of choose offset (group_first m own) (group_rest m own)))
+          (left.records ∙ records-split offset))
 
       pub left-group : GroupCanonical choose offset m own
       unfolding meta_of
@@ -217,7 +228,8 @@ module _ {choose : List ℕ → ℕ} {L : ℕ} {recs addr : List ℕ} {n : ℕ} 
             meta = meta-same;
             bits =
                 ap (λ (x : ℕ). take (length (addr_bytes m (group_first m own) (group_rest m own))) (drop x addr)) at
-                ∙ front_same (drop offset addr) _ _ (length (addr_bytes m (group_first m own) (group_rest m own))) (sym (ap length same)) (left.bits ∙ bits-split)
+                ∙ front_same (drop offset addr) _ _ (length (addr_bytes m (group_first m own) (group_rest m own))) (sym (ap length same))
+                (left.bits ∙ bits-split)
                 ∙ sym same;
           }
 
@@ -227,9 +239,11 @@ module _ {choose : List ℕ → ℕ} {L : ℕ} {recs addr : List ℕ} {n : ℕ} 
           record {
             records =
                 sym next-record
-                ∙ rest-same (drop (36 * g) recs) (meta_bytes (meta_of choose offset (group_first m own) (group_rest m own))) (others (offset + k)) 36 (length-meta_bytes (meta_of choose offset (group_first m own) (group_rest m own)))
+                ∙ rest-same (drop (36 * g) recs) (meta_bytes (meta_of choose offset (group_first m own) (group_rest m own))) (others
+                (offset + k)) 36 (length-meta_bytes (meta_of choose offset (group_first m own) (group_rest m own)))
                 (left.records ∙ (rw long at (records-split offset)));
-            bits = sym (drop-drop k offset addr) ∙ rest-same (drop offset addr) (group_addrs choose (group_first m own ∷ group_rest m own)) other-bits k long (left.bits ∙ bits-split);
+            bits = sym (drop-drop k offset addr) ∙ rest-same (drop offset addr) (group_addrs choose (group_first m own ∷ group_rest m
+                own)) other-bits k long (left.bits ∙ bits-split);
           }
 
 -- ---- all groups
@@ -239,7 +253,7 @@ module _ (choose : List ℕ → ℕ) (L : ℕ) (recs addr : List ℕ) (n : ℕ) 
   pub left-told : is_store_canonical choose L recs addr n ≡ true → Left choose L recs addr n 0 0
   unfolding is_store_canonical
   left-told e =
-      let t = both (same_bytes recs _) _ e in
+      let t = and_parts (same_bytes recs _) _ e in
       record {
         records = rw (mul-zero L, sub-zero (group_count L n)) (same-equal recs _ t.0);
         bits = rw (mul-zero L, sub-zero (group_count L n)) (same-equal addr _ t.1);
@@ -253,7 +267,8 @@ module _ (choose : List ℕ → ℕ) (L : ℕ) (recs addr : List ℕ) (n : ℕ) 
       rw (same_true recs _ records, same_true addr _ bits)
 
 -- behind the last group nothing may be left
-module _ {choose : List ℕ → ℕ} {L : ℕ} {recs addr : List ℕ} {n : ℕ} (given : Checked choose L recs addr n) (g offset : ℕ) (all : g ≡ group_count L n) where
+module _ {choose : List ℕ → ℕ} {L : ℕ} {recs addr : List ℕ} {n : ℕ} (given : Checked choose L recs addr n) (g offset : ℕ) (all : g ≡
+    group_count L n) where
   none : group_count L n - g ≡ 0
   none = omega arith
 

@@ -18,19 +18,24 @@ use group_write::AreaGroup;
 use layout::META_LEN;
 use store_read::BlockAddrStore;
 
-// How many numbers a block takes in the area.
+// How many numbers a block takes in the area: numbers and not blocks, since AreaGroup reads the builder's area, which is C's numbers with
+// five a block, by the same code.
 const STRIDE: usize = 3;
 
 // As many blocks take a small area, so that a short index doesn't clear the large one.
 const SMALL_STORE: usize = 16;
 
-// Reads the group's blocks into the front of the area. Each field is read once: a block's end is the start of the next.
+// Reads the group's blocks into the front of the area. Each field is read once: a block's end is the start of the next, which a loop
+// hands on from turn to turn. Not inlined, so that the loop has the registers.
 #[tactic(auto, unfolding(group::specs::Read::range_read, group::specs::Blocks::blocks_at))]
+#[inline(never)]
 fn read_group(group: &Group, area: &mut [u64])
     requires { 3 * (group.now.meta.block_len + 1) ≤ length area.old }
     ensures { blocks_at area.new 3 0 (group.now.meta.block_len + 1)
         ≡ blocks_from (block_read group.now.meta (le_val group.now.«data».now)) 0 (group.now.meta.block_len + 1) }
 {
+    // A copy of its own, which writes into the area can't change, so that a turn doesn't read it anew.
+    let group = *group;
     let count = usize::from(group.meta.block_len) + 1;
     let mut start = group.meta.range_start;
     for i in 0..count {
@@ -59,7 +64,7 @@ fn padding(group: &Group) -> u64
         .meta
         .widths()
         .group_bits(usize::from(group.meta.block_len));
-    bitpacker::extract_bits(bytes(group.data), bits, ((bits + 7) / 8 * 8 - bits) as u8)
+    bitpacker::extract_bits(bytes(group.data), bits, (bits.div_ceil(8) * 8 - bits) as u8)
 }
 
 // Whether a group is the one that the writer makes of its blocks, with its bits at `offset`. Fields aren't written anew: with the
@@ -84,21 +89,21 @@ fn group_canonical(group: &Group, offset: u64, area: &mut [u64]) -> bool
     padding(group) == 0
 }
 
-// The same of a whole store, with an area that has room for a group's blocks.
-fn groups_canonical(store: &BlockAddrStore, area: &mut [u64]) -> bool
+// The same of a whole store, with an area of W numbers for a group's blocks, whose length is fixed since the library has no heap. A loop,
+// since the closure of `all` would carry the offset on and change the area.
+fn groups_canonical<const W: usize>(store: &BlockAddrStore) -> bool
     requires { (length store.now.metas.now ≡ meta_len * group_count store.now.group_len store.now.n)
         × (store_no store.now.group_len store.now.metas.now store.now.addrs.now store.now.n ≡ 0)
-        × (3 * min store.now.group_len store.now.n ≤ length area.old) }
+        × (3 * min store.now.group_len store.now.n ≤ W) × (W ≤ 768) }
     ensures { result ≡ is_store_canonical best_slope store.now.group_len store.now.metas.now store.now.addrs.now store.now.n }
 {
+    let mut area = [0u64; W];
     let metas = bytes(store.metas);
     let mut offset: usize = 0;
     for g in 0..store.group_count() {
         let meta = BlockAddrBlockMetadata::deserialize(metas, META_LEN * g);
-        let from = meta.offset as usize;
-        let data = &store.addrs[from..];
-        let group = Group { meta, data };
-        if !group_canonical(&group, offset as u64, area) {
+        let group = store.group_of(meta);
+        if !group_canonical(&group, offset as u64, &mut area) {
             return false;
         }
         offset += meta.addr_len();
@@ -113,9 +118,8 @@ pub fn store_canonical(store: &BlockAddrStore) -> bool
     ensures { result ≡ is_store_canonical best_slope store.now.group_len store.now.metas.now store.now.addrs.now store.now.n }
 {
     if store.n <= SMALL_STORE {
-        let mut area = [0u64; 48];
-        return groups_canonical(store, &mut area);
+        groups_canonical::<48>(store)
+    } else {
+        groups_canonical::<768>(store)
     }
-    let mut area = [0u64; 768];
-    groups_canonical(store, &mut area)
 }

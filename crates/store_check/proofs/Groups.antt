@@ -1,33 +1,40 @@
 -- A group of a store whose groups keep row 15, as the code reads its record.
 use borrow.Author.Tests.{lt-ltb}
-use Prim.Native.Nat.{ℕ, ◌<◌}
-use mathlib.Core.Path.{◌≡◌, refl, ◌∙◌}
+use Prim.Native.Nat.{ℕ, ◌+◌, ◌-◌, ◌≤◌, ◌<◌}
+use native.Mathlib.Omega.{arith}
+use mathlib.Core.Path.{◌≡◌, refl, sym, ◌∙◌}
+use mathlib.Core.List.{List}
 use mathlib.Core.Bool.{Bool, true, false, not, ◌||◌}
 use lib.Dec.{eqb, leb}
+use lib.ListN.{length, take, drop}
 use Rattle.std.specs.Prelude.{Option, Some, None, MatchOption}
 use Rattle.std.specs.Option.{unwrap_or}
+use Rattle.serialize.specs.Digits.{le_val}
 use Rattle.group.specs.declared.BlockAddr.{BlockAddr}
 use Rattle.group.specs.Blocks.{no_block}
 use Rattle.group.specs.Legal.{limit}
 use Rattle.group.specs.declared.BlockAddrBlockMetadata.{BlockAddrBlockMetadata}
+use Rattle.group.specs.Read.{block_read}
+use Rattle.group.specs.Facts.{Readable}
 use Rattle.store.specs.Store.{group_count}
-use Rattle.store.specs.Read.{group_meta}
-use Rattle.store.specs.Check.{groups_bad}
+use Rattle.store.specs.Read.{group_meta, store_block}
+use Rattle.store.specs.Check.{groups_bad, firsts_bad, blocks_bad}
 use Rattle.store.proofs.Groups.{group-first-lt}
 use Rattle.store.proofs.Rows.{groups-kept}
-use Rattle.store.proofs.Passed.{Group, Passed, first_bad, passed_none}
-use Rattle.store_read.specs.declared.BlockAddrStore.{BlockAddrStore}
-
-pub group-is : (s : BlockAddrStore) {g : ℕ} {m : BlockAddrBlockMetadata} → m ≡ group_meta s.metas.now g → g < group_count s.group_len s.n
-    → groups_bad s.group_len s.metas.now s.addrs.now s.n (group_count s.group_len s.n) ≡ false
-    → Group s.group_len s.metas.now s.addrs.now s.n g m
-group-is s {g} {m} is there kept = record {
-  some = s.len.some;
-  few = s.len.few;
-  there = group-first-lt s.len.some s.n g there;
-  is = is;
-  keeps = rw is (groups-kept s.group_len s.metas.now s.addrs.now s.n (group_count s.group_len s.n) g there kept);
+use Rattle.store.proofs.Lookup.{rest_part}
+use Rattle.store.proofs.Passed.{
+  Group,
+  Passed,
+  first_bad,
+  passed_none,
+  group-kept,
+  group-readable,
+  group-refused,
+  first-refused,
+  passed-turn,
+  last_of,
 }
+use Rattle.store_read.specs.declared.BlockAddrStore.{BlockAddrStore}
 
 -- before group g, which stands behind a block or is the first
 abbrev pub Before : BlockAddrStore → Option BlockAddr → ℕ → Type 0
@@ -37,7 +44,8 @@ Before s (Some b) g = (0 < g) × Passed s.group_len s.metas.now s.addrs.now s.n 
 abbrev pub block_before : Option BlockAddr → BlockAddr
 block_before o = unwrap_or o no_block
 
-pub before-passed : (s : BlockAddrStore) (o : Option BlockAddr) (g : ℕ) → Before s o g → Passed s.group_len s.metas.now s.addrs.now s.n g (block_before o)
+pub before-passed : (s : BlockAddrStore) (o : Option BlockAddr) (g : ℕ) → Before s o g → Passed s.group_len s.metas.now s.addrs.now s.n g
+    (block_before o)
 before-passed s None g e = rw e (passed_none s.group_len s.metas.now s.addrs.now s.n no_block)
 before-passed s (Some b) g e = e.1
 
@@ -48,7 +56,61 @@ or-false false = refl
 -- the code's test of a group's first values
 pub first-tested : (s : BlockAddrStore) (m : BlockAddrBlockMetadata) (o : Option BlockAddr) (g : ℕ) (t : Bool) → Before s o g
     → MatchOption o (t ≡ (leb limit m.range_start || leb limit m.first_ordinal))
-    (λ last. t ≡ ((leb limit m.range_start || leb limit m.first_ordinal) || (not (eqb m.range_start last.end) || leb m.first_ordinal last.first_ordinal)))
+    (λ last. t ≡ ((leb limit m.range_start || leb limit m.first_ordinal) || (not (eqb m.range_start last.end) || leb m.first_ordinal
+    last.first_ordinal)))
     → t ≡ first_bad m g (block_before o)
 first-tested s m None g t e h = h ∙ rw e (or-false (leb limit m.range_start || leb limit m.first_ordinal))
 first-tested s m (Some b) g t e h = h ∙ rw (lt-ltb 0 g e.0) refl
+
+-- a group that the code goes on to: m is the record of group g of the store's `count`
+module _ (s : BlockAddrStore) {g count : ℕ} {m : BlockAddrBlockMetadata} (counted : count ≡ group_count s.group_len s.n) (below : g < count)
+    (is : m ≡ group_meta s.metas.now g)
+    (kept : groups_bad s.group_len s.metas.now s.addrs.now s.n (group_count s.group_len s.n) ≡ false) where
+  there : g < group_count s.group_len s.n
+  there = rw counted at below
+
+  group : Group s.group_len s.metas.now s.addrs.now s.n g m
+  group = record {
+    some = s.len.some;
+    few = s.len.few;
+    there = group-first-lt s.len.some s.n g there;
+    is = is;
+    keeps = rw is (groups-kept s.group_len s.metas.now s.addrs.now s.n (group_count s.group_len s.n) g there kept);
+  }
+
+  abbrev row_16 : Bool
+  row_16 = firsts_bad s.metas.now (group_count s.group_len s.n)
+      || blocks_bad (store_block s.group_len s.metas.now s.addrs.now) s.n
+
+  -- the answer of its blocks, as its bytes were lent
+  told : {lent : BlockAddrBlockMetadata} {d : List ℕ} → (lent ≡ m) × (d ≡ drop m.offset s.addrs.now) → {r : Option BlockAddr}
+      → r ≡ last_of (block_read lent (le_val d)) lent.block_len
+      → r ≡ last_of (block_read m (le_val (take (length s.addrs.now - m.offset) (drop m.offset s.addrs.now)))) m.block_len
+  told e h = rw (rest_part s.addrs.now m.offset, ← e.1, ← e.0) h
+
+  pub blocks-refused : {lent : BlockAddrBlockMetadata} {d : List ℕ} → (lent ≡ m) × (d ≡ drop m.offset s.addrs.now) → {r : Option BlockAddr}
+      → r ≡ last_of (block_read lent (le_val d)) lent.block_len → r ≡ None → true ≡ row_16
+  blocks-refused e h none = group-refused group _ _ (told e h) none
+
+  module _ (o : Option BlockAddr) (before : Before s o g) {t : Bool}
+      (test : MatchOption o (t ≡ (leb limit m.range_start || leb limit m.first_ordinal))
+      (λ last. t ≡ ((leb limit m.range_start || leb limit m.first_ordinal) || (not (eqb m.range_start last.end) || leb m.first_ordinal
+      last.first_ordinal)))) where
+    tested : t ≡ first_bad m g (block_before o)
+    tested = first-tested s m o g t before test
+
+    pub first-values-refused : t ≡ true → true ≡ row_16
+    first-values-refused h = first-refused group (before-passed s o g before) _ there (sym tested ∙ h)
+
+    module _ (good : t ≡ false) where
+      pub lends : (m.offset ≤ length s.addrs.now) × Readable m (length (drop m.offset s.addrs.now))
+      lends = (
+        omega (arith, (group-kept group).inside),
+        rw (rest_part s.addrs.now m.offset) at (group-readable group (before-passed s o g before) (sym tested ∙ good)),
+      )
+
+      pub blocks-passed : {lent : BlockAddrBlockMetadata} {d : List ℕ} → (lent ≡ m) × (d ≡ drop m.offset s.addrs.now)
+          → {r : Option BlockAddr} → r ≡ last_of (block_read lent (le_val d)) lent.block_len → {last : BlockAddr} → r ≡ Some last
+          → Before s (Some last) (g + 1)
+      blocks-passed e h some =
+          (omega arith, passed-turn group (before-passed s o g before) (sym tested ∙ good) _ _ (told e h) some)

@@ -1,9 +1,7 @@
 -- Starts and ordinals that rise to a last block in range make every block of a group legal.
 use mathlib.Core.Path.{◌≡◌, refl, sym, ap, ◌∙◌}
 use mathlib.Core.Bool.{true, false, true≢false}
-use mathlib.Core.Logic.{⊎_elim}
 use Prim.Native.Nat.{ℕ, zero, suc, ◌+◌, ◌-◌, ◌≤◌, ◌<◌}
-use native.Mathlib.Nat.{eq-or-lt_of_le, le_of_suc-le-suc}
 use native.Mathlib.Numerals.{add-one}
 use native.Mathlib.Omega.{arith}
 use Rattle.group.specs.declared.BlockAddrBlockMetadata.{BlockAddrBlockMetadata}
@@ -24,13 +22,6 @@ module _ (m : BlockAddrBlockMetadata) (N : ℕ) where
 
   abbrev pub Rising : ℕ → Type 0
   Rising i = (j : ℕ) → j < i → Rises j
-
-  pub rising-turn : (i : ℕ) → Rising i → range_read m N i ≤ range_read m N (i + 1) → ordinal_read m N i < ordinal_read m N (i + 1) → Rising (i + 1)
-  rising-turn i up s o j h =
-      ⊎_elim
-      (λ (e : j ≡ i). rw e (record { start = rw (add-one i) at s; ordinal = rw (add-one i) at o }))
-      (λ (l : j < i). up j l)
-      (eq-or-lt_of_le (le_of_suc-le-suc (rw (add-one i) at h)))
 
   module _ (last : ℕ) (up : Rising last) (ok : NumbersOk (block_read m N last)) where
     -- block j, k before the last
@@ -71,8 +62,10 @@ module _ (m : BlockAddrBlockMetadata) (N : ℕ) where
         unfolding block_read
         last-is = rw (s, o, e, whole, add-one last) refl
 
-        pub last-broken : are_numbers_bad (record { start = start; end = end; first_ordinal = ordinal }) ≡ true → None ≡ last_of (block_read m N) last
-        last-broken b = broken (λ legal. true≢false (sym b ∙ ap are_numbers_bad last-is ∙ numbers-good (block_read m N last) (legal.numbers last (omega arith))))
+        pub last-broken : are_numbers_bad (record { start = start; end = end; first_ordinal = ordinal }) ≡ true →
+            None ≡ last_of (block_read m N) last
+        last-broken b = broken (λ legal. true≢false (sym b ∙ ap are_numbers_bad last-is ∙ numbers-good (block_read m N last)
+            (legal.numbers last (omega arith))))
 
         pub last-kept : Rising i → are_numbers_bad (record { start = start; end = end; first_ordinal = ordinal }) ≡ false
             → Some (record { start = start; end = end; first_ordinal = ordinal }) ≡ last_of (block_read m N) last

@@ -10,7 +10,6 @@ ghost use Rattle.store.specs.Store.{group_count};
 ghost use Rattle.store.specs.Read.{store_block};
 ghost use Rattle.store.specs.Check.{groups_bad, firsts_bad, blocks_bad, store_no};
 
-use group::rows::LIMIT;
 use group::{BlockAddr, BlockAddrBlockMetadata};
 use group_read::{BlockStartAddr, Group};
 use layout::META_LEN;
@@ -23,34 +22,28 @@ fn groups_bad(store: &BlockAddrStore) -> bool
     ensures { result ≡ groups_bad store.now.group_len store.now.metas.now store.now.addrs.now store.now.n
         (group_count store.now.group_len store.now.n) }
 {
-    for g in 0..store.group_count() {
+    (0..store.group_count()).any(|g| {
         let meta = BlockAddrBlockMetadata::deserialize(store.metas, META_LEN * g);
-        let count = store.blocks_in(g);
-        if group_read::group_bad(meta, count, store.addrs.len()) {
-            return true;
-        }
-    }
-    false
+        group_read::group_bad(meta, store.blocks_in(g), store.addrs.len())
+    })
 }
 
-// Whether a group's first values are outside row 16's range or, behind another group, break 4 or 5 after its last block.
-#[tactic(auto, unfolding(group::specs::Legal::limit))]
+// Whether a group's first values are outside row 16's range or, behind another group, break 4 or 5 after its last block. By the record's
+// fields: the first block's end, which `join_bad` and `ordinal_bad` would want with it, isn't read yet.
+#[tactic(auto, unfolding(group::specs::Read::first_values_bad))]
 fn first_bad(meta: BlockAddrBlockMetadata, before: Option<BlockAddr>) -> bool
     ensures { MatchOption before (result ≡ (leb limit meta.range_start || leb limit meta.first_ordinal))
         (λ last. result ≡ ((leb limit meta.range_start || leb limit meta.first_ordinal)
         || (not (eqb meta.range_start last.end) || leb meta.first_ordinal last.first_ordinal))) }
 {
-    if meta.range_start >= LIMIT || meta.first_ordinal >= LIMIT {
-        return true;
-    }
-    match before {
-        None => false,
-        Some(last) => meta.range_start != last.end || meta.first_ordinal <= last.first_ordinal,
-    }
+    meta.first_values_bad()
+        || before.is_some_and(|last| meta.range_start != last.end
+            || meta.first_ordinal <= last.first_ordinal)
 }
 
 // The last block of a group whose blocks keep rows 3 to 5, where `block_start` reads block i's start and ordinal. Each field is read
-// once: a block's end is the start of the next, and as starts and ordinals don't fall, only the last are held to the limit.
+// once: a block's end is the start of the next, and as starts and ordinals don't fall, only the last are held to the limit. A loop: the
+// closure of a try_fold would call the closure given, and so need clauses of its own that repeat when that may be called.
 #[tactic(auto, unfolding(group::specs::Read::range_read, group::specs::Read::ordinal_read))]
 fn last_block_by<F: Fn(usize) -> BlockStartAddr>(group: &Group, block_start: F) -> Option<BlockAddr>
     requires may { (i : ℕ) → 0 < i → i ≤ group.now.meta.block_len → F.pre block_start i }
@@ -86,7 +79,8 @@ fn last_block_by<F: Fn(usize) -> BlockStartAddr>(group: &Group, block_start: F) 
     Some(block)
 }
 
-// The last block of a group, or that one of its blocks breaks rows 3 to 5.
+// The last block of a group, or that one of its blocks breaks rows 3 to 5. Not inlined, so that its loops have the registers.
+#[inline(never)]
 fn last_block(group: &Group) -> Option<BlockAddr>
     ensures { result ≡ cond (blocks_bad (block_read group.now.meta (le_val group.now.«data».now)) (group.now.meta.block_len + 1)) None
         (Some (block_read group.now.meta (le_val group.now.«data».now) group.now.meta.block_len)) }
@@ -105,7 +99,8 @@ fn last_block(group: &Group) -> Option<BlockAddr>
     }
 }
 
-// Row 16: whether a first value is outside the range, or a block breaks 3, 4 or 5.
+// Row 16: whether a first value is outside the range, or a block breaks 3, 4 or 5. A loop: as a try_fold it would hand on an Option, the
+// block before if there is one, inside the Option that says whether a row is hit.
 fn blocks_bad(store: &BlockAddrStore) -> bool
     requires { groups_bad store.now.group_len store.now.metas.now store.now.addrs.now store.now.n
         (group_count store.now.group_len store.now.n) ≡ false }
@@ -118,9 +113,7 @@ fn blocks_bad(store: &BlockAddrStore) -> bool
         if first_bad(meta, before) {
             return true;
         }
-        let offset = meta.offset as usize;
-        let data = &store.addrs[offset..];
-        let group = Group { meta, data };
+        let group = store.group_of(meta);
         let Some(last) = last_block(&group) else {
             return true;
         };

@@ -5,6 +5,7 @@ ghost use Rattle.std.specs.Prelude.{◌≡◌, true, false, ◌||◌, ◌+◌, �
 ghost use Rattle.layout.specs.Layout.{max_group_len};
 ghost use Rattle.group.specs.Legal.{limit};
 ghost use Rattle.group.specs.Read.{group_bad};
+ghost use Rattle.group.specs.Facts.{Readable};
 ghost use Rattle.store.specs.Store.{group_count};
 ghost use Rattle.store.specs.Read.{group_meta, len_of_group, meta_bad, block_or, store_get, store_block, StoreOk, OrdFoundIn, OrdFoundAs};
 ghost use Rattle.store.specs.Facts.{GroupLenOk, GroupRecordsOk};
@@ -25,10 +26,7 @@ fn meta_bad(meta: BlockAddrBlockMetadata, count: usize, addr_len: usize) -> bool
     requires { count ≤ max_group_len }
     ensures { result ≡ (group_bad meta count addr_len || (leb limit meta.range_start || leb limit meta.first_ordinal)) }
 {
-    if group_read::group_bad(meta, count, addr_len) {
-        return true;
-    }
-    meta.range_start >= group::rows::LIMIT || meta.first_ordinal >= group::rows::LIMIT
+    group_read::group_bad(meta, count, addr_len) || meta.first_values_bad()
 }
 
 // A store of n blocks in groups of `group_len`: its group records, and its address bytes.
@@ -43,16 +41,22 @@ pub struct BlockAddrStore<'a> {
 }
 
 impl<'a> BlockAddrStore<'a> {
+    #[inline(always)]
+    fn grouping(&self) -> Grouping
+        ensures { (result.n ≡ self.now.n) × (result.group_len ≡ self.now.group_len) }
+    {
+        Grouping {
+            n: self.n,
+            group_len: self.group_len,
+        }
+    }
+
     // How many groups its blocks make.
     #[inline(always)]
     pub fn group_count(&self) -> usize
         ensures { result ≡ group_count self.now.group_len self.now.n }
     {
-        let grouping = Grouping {
-            n: self.n,
-            group_len: self.group_len,
-        };
-        grouping.group_count()
+        self.grouping().group_count()
     }
 
     // How many blocks group g has.
@@ -61,11 +65,20 @@ impl<'a> BlockAddrStore<'a> {
         requires { self.now.group_len * g ≤ self.now.n }
         ensures { result ≡ len_of_group self.now.group_len self.now.n g }
     {
-        let grouping = Grouping {
-            n: self.n,
-            group_len: self.group_len,
-        };
-        grouping.blocks_in(g)
+        self.grouping().blocks_in(g)
+    }
+
+    // The group of a record that keeps its rule: its bits are in the address bytes from the record's offset on.
+    #[inline(always)]
+    pub fn group_of(&self, meta: BlockAddrBlockMetadata) -> Group<'a>
+        requires { (meta.offset ≤ length self.now.addrs.now) × Readable meta (length (drop meta.offset self.now.addrs.now)) }
+        ensures { (result.meta ≡ meta) × (result.«data».now ≡ drop meta.offset self.now.addrs.now) }
+    {
+        let offset = meta.offset as usize;
+        Group {
+            meta,
+            data: &self.addrs[offset..],
+        }
     }
 
     // Group g, where it can be read.
@@ -85,15 +98,11 @@ impl<'a> BlockAddrStore<'a> {
         if meta_bad(meta, count, self.addrs.len()) {
             return None;
         }
-        let offset = meta.offset as usize;
-        Some(Group {
-            meta,
-            data: &self.addrs[offset..],
-        })
+        Some(self.group_of(meta))
     }
 
     // Block `block_id`; where its group can't be read, one whose numbers break row 3. A plain block comes back in less time than an
-    // enum around it.
+    // enum around it, and a closure given to map_or would need clauses of its own.
     #[tactic(auto, unfolding(store::specs::Read::block_or, store::specs::Read::store_block))]
     #[inline(always)]
     pub fn block(&self, block_id: usize) -> BlockAddr
@@ -111,17 +120,14 @@ impl<'a> BlockAddrStore<'a> {
     }
 
     // `BlockAddrStore::get`, the reference by id: block `block_id`, or that it can't be read. The index takes `block` and tests row 3
-    // itself.
+    // itself, so this isn't a second reading but the same answer as an Option.
     #[tactic(auto, unfolding(store::specs::Read::store_get, store::specs::Read::block_or, group::specs::Rows::are_numbers_bad))]
     pub fn get(&self, block_id: usize) -> Option<BlockAddr>
         requires { block_id < self.now.n }
         ensures { result ≡ store_get self.now.group_len self.now.metas.now self.now.addrs.now self.now.n block_id }
     {
         let block = self.block(block_id);
-        if block.numbers_bad() {
-            return None;
-        }
-        Some(block)
+        (!block.numbers_bad()).then_some(block)
     }
 
     // The last group whose first ordinal is at or below `ord`, if ordinals rise and the first group's is.

@@ -3,4 +3,3 @@ pub mod Kept
 pub mod Rounds
 pub mod Scan
 pub mod Taken
-pub mod Window

@@ -26,7 +26,6 @@ use Rattle.store.proofs.Stored.{addrs-le, sets-turn, sets-store, length-record, 
 use Rattle.store_slice.specs.Slice.{block_list_no}
 use Rattle.store_slice.proofs.Kept.{records-legal}
 use Rattle.store_slice.proofs.Taken.{bits-add}
-use Rattle.store_slice.proofs.Window.{take-most}
 
 -- ---- what is planned
 
@@ -88,63 +87,57 @@ module _ {L : ℕ} (len : GroupLenOk L) (bs : List BlockAddr) where
 
 -- ---- a group in the window
 
--- the records of group g of a list that hits no row
-pub record Held (L : ℕ) (bs : List BlockAddr) (window : List ℕ) (g count : ℕ) : Type 0 where
+module _ {L : ℕ} (len : GroupLenOk L) (bs : List BlockAddr) (rows : block_list_no bs ≡ 0) {g : ℕ} (there : g < group_count L (length bs))
+  where
+    pub begins : L * g < length bs
+    begins = group-first-lt len.some (length bs) g there
+
+    -- where the window holds its records
+    module _ (window : List ℕ) {count : ℕ} (counted : count ≡ len_of_group L (length bs) g) (room : 3 * min L (length bs) ≤ length window)
+        (holds : blocks_at window 3 0 count ≡ take count (drop (L * g) bs)) where
+      -- a group of legal blocks
+      pub window-area : GroupArea window 3 0 count
+      window-area = record {
+        some = omega (arith, begins, len.some);
+        few = omega (arith, len.few);
+        wide = omega arith;
+        inside = omega arith;
+        legal =
+            legal-same (λ i h.
+            sym (blocks_at-at window 3 0 count i h)
+            ∙ ap (λ (l : List BlockAddr). block_of l i) holds
+            ∙ get_or-take count (drop (L * g) bs) i no_block h
+            ∙ get_or-drop (L * g) bs i no_block) (legal-part (records-legal bs rows) (L * g) count (omega (arith, begins)));
+      }
+
+-- a group that is group g of a list that hits no row
+pub record Held (L : ℕ) (bs group : List BlockAddr) (g : ℕ) : Type 0 where
   pub len : GroupLenOk L
   pub rows : block_list_no bs ≡ 0
   pub there : g < group_count L (length bs)
-  pub counted : count ≡ len_of_group L (length bs) g
-  pub room : 3 * min L (length bs) ≤ length window
-  pub holds : blocks_at window 3 0 count ≡ take count (drop (L * g) bs)
+  pub same : group ≡ take L (drop (L * g) bs)
 
 -- as the code counts the groups
-pub held : {L : ℕ} {bs : List BlockAddr} {window : List ℕ} {g count groups : ℕ} {grouping : Grouping} → GroupLenOk L → block_list_no bs ≡ 0
+pub held : {L : ℕ} {bs group : List BlockAddr} {g groups : ℕ} {grouping : Grouping} → GroupLenOk L → block_list_no bs ≡ 0
     → (grouping.n ≡ length bs) × (grouping.group_len ≡ L) → groups ≡ group_count grouping.group_len grouping.n → g < groups
-    → count ≡ len_of_group L (length bs) g → blocks_at window 3 0 count ≡ take count (drop (L * g) bs)
-    → 3 * min L (length bs) ≤ length window
-    → Held L bs window g count
-held len rows e groups there counted holds room = record {
-  len = len;
-  rows = rows;
-  there = rw (groups, e.0, e.1) at there;
-  counted = counted;
-  room = room;
-  holds = holds;
-}
+    → group ≡ take L (drop (L * g) bs) → Held L bs group g
+held len rows e groups there same = record { len = len; rows = rows; there = rw (groups, e.0, e.1) at there; same = same }
 
-module _ {L : ℕ} {bs : List BlockAddr} {window : List ℕ} {g count : ℕ} (held : Held L bs window g count) where
+module _ {L : ℕ} {bs group : List BlockAddr} {g : ℕ} (held : Held L bs group g) where
   abbrev G : ℕ
   G = group_count L (length bs)
 
   abbrev next : List BlockAddr
   next = take L (drop (L * g) bs)
 
-  abbrev group : List BlockAddr
-  group = blocks_at window 3 0 count
+  same : group ≡ next
+  same = held.same
 
-  begins : L * g < length bs
-  begins = group-first-lt held.len.some (length bs) g held.there
+  first : L * g < length bs
+  first = begins held.len bs held.rows held.there
 
   some : 0 < length next
-  some = rw (length-take L (drop (L * g) bs), length-drop (L * g) bs) (omega (arith, begins, held.len.some))
-
-  -- a group of legal blocks
-  pub window-area : GroupArea window 3 0 count
-  window-area = record {
-    some = omega (arith, begins, held.len.some);
-    few = omega (arith, held.len.few);
-    wide = omega arith;
-    inside = omega arith;
-    legal =
-        legal-same (λ i h.
-        sym (blocks_at-at window 3 0 count i h)
-        ∙ ap (λ (l : List BlockAddr). block_of l i) held.holds
-        ∙ get_or-take count (drop (L * g) bs) i no_block h
-        ∙ get_or-drop (L * g) bs i no_block) (legal-part (records-legal bs held.rows) (L * g) count (omega (arith, begins)));
-  }
-
-  same : group ≡ next
-  same = held.holds ∙ take-most L count (drop (L * g) bs) (omega arith) (λ h. omega (arith, length-drop (L * g) bs))
+  some = rw (length-take L (drop (L * g) bs), length-drop (L * g) bs) (omega (arith, first, held.len.some))
 
   -- the bits with this group's are few
   pub more-bits : {kept : List ℕ} {bits : ℕ} → Planned L bs kept bits g
@@ -154,7 +147,7 @@ module _ {L : ℕ} {bs : List BlockAddr} {window : List ℕ} {g count : ℕ} (he
       omega (arith, planned.size, e, here, bits-add L g bs, few-bits held.len bs held.rows (g + 1), held.there)
 
   before-size : length (plans best_slope L g bs) ≡ 2 * g
-  before-size = length-plans best_slope L g bs held.len.some (omega (arith, begins))
+  before-size = length-plans best_slope L g bs held.len.some (omega (arith, first))
 
   pub planned-next : {kept : List ℕ} {bits : ℕ} → 2 * G ≤ length kept → Planned L bs kept bits g → (kept' : List ℕ) (r : ℕ)
       → (r ≡ length (group_addrs best_slope group)) × (kept' ≡ sets kept (2 * g) (group_plan best_slope group))
@@ -194,7 +187,7 @@ module _ {L : ℕ} {bs : List BlockAddr} {window : List ℕ} {g count : ℕ} (he
           rest.size,
           rest.long,
           length-store_bytes best_slope L bs held.len.some,
-          bits_inside best_slope held.len.some bs G g held.there begins,
+          bits_inside best_slope held.len.some bs G g held.there first,
         ))
 
     -- the place of the group's bits, and what is written of it

@@ -1,19 +1,28 @@
 -- Rows over a list of records, read off what was seen of them one after the other.
 use mathlib.Core.Path.{◌≡◌, refl, sym, ◌∙◌, ap}
 use mathlib.Core.Bool.{Bool, true, false, ◌||◌, cond, or_assoc, or-false}
-use mathlib.Core.List.{List, [], ◌∷◌, ◌++◌}
-use Prim.Native.Nat.{ℕ, ◌+◌, ◌<◌}
-use native.Mathlib.Numerals.{add-one}
+use mathlib.Core.List.{List, [], ◌∷◌}
+use Prim.Native.Nat.{ℕ, suc, ◌+◌, ◌<◌}
+use native.Mathlib.Nat.{add-zero, zero-add}
+use Rattle.std.specs.List.{fold, range_with_len}
 use native.Mathlib.Omega.{arith}
-use lib.ListN.{length, take}
-use lib.Seq.{take-suc}
-use Rattle.std.specs.Prelude.{Option, Some}
+use lib.ListN.{length}
+use Rattle.std.specs.Prelude.{Option, None, Some}
 use Rattle.group.specs.declared.BlockAddr.{BlockAddr}
-use Rattle.group.specs.Blocks.{no_block, block_of}
+use Rattle.group.specs.Blocks.{block_of}
 use Rattle.group.specs.Rows.{are_numbers_bad, is_join_bad, is_ordinal_bad}
 use Rattle.store_slice.specs.declared.rows.Seen.{Seen}
 use Rattle.store_slice.specs.Slice.{any_bad, pair_bad, block_list_no}
 use Rattle.store_slice.specs.Records.{breaks_behind, seen_with, none_seen, seen_all, seen_number}
+
+-- what is seen by default
+pub default-none : (s : Seen) → (s.last ≡ None) × ((s.numbers_bad ≡ false) × ((s.join_bad ≡ false) × (s.ordinal_bad ≡ false))) →
+    s ≡ none_seen
+default-none s d = from-parts s.last s.numbers_bad s.join_bad s.ordinal_bad d.0 d.1.0 d.1.1.0 d.1.1.1
+  where
+    from-parts : (last : Option BlockAddr) (a b c : Bool) → last ≡ None → a ≡ false → b ≡ false → c ≡ false
+        → ◌≡◌ {A = Seen} (record { last = last; numbers_bad = a; join_bad = b; ordinal_bad = c }) none_seen
+    from-parts last a b c e p q r = rw (e, p, q, r) refl
 
 seen-numbers : (s : Seen) (bs : List BlockAddr) → (seen_all s bs).numbers_bad ≡ (s.numbers_bad || any_bad are_numbers_bad bs)
 unfolding seen_all seen_with any_bad
@@ -40,17 +49,23 @@ module _ (bad : BlockAddr → BlockAddr → Bool) (hit : Seen → Bool)
 
 -- ---- one record after the other
 
-seen-behind : (s : Seen) (bs : List BlockAddr) (b : BlockAddr) → seen_all s (bs ++ (b ∷ [])) ≡ seen_with (seen_all s bs) b
+fold-from : (bs : List BlockAddr) (f : ℕ → BlockAddr) (s : Seen) (a : ℕ) → ((i : ℕ) → i < length bs → f (a + i) ≡ block_of bs i)
+    → fold (λ (t : Seen) (i : ℕ). seen_with t (f i)) s (range_with_len a (length bs)) ≡ seen_all s bs
 unfolding seen_all
-seen-behind s [] b = refl
-seen-behind s (a ∷ bs) b = seen-behind (seen_with s a) bs b
+fold-from [] f s a h = refl
+fold-from (b ∷ bs) f s a h =
+    let first : f a ≡ b = rw (add-zero a) at (h 0 (omega arith)) in
+    let next : (i : ℕ) → i < length bs → f (a + 1 + i) ≡ block_of bs i = λ i l. ap f (omega arith) ∙ h (suc i) (omega arith) in
+    ap (λ (c : BlockAddr). fold (λ (t : Seen) (i : ℕ). seen_with t (f i)) (seen_with s c) (range_with_len (a + 1) (length bs))) first
+    ∙ fold-from bs f (seen_with s b) (a + 1) next
 
-pub seen_next : (bs : List BlockAddr) (i : ℕ) → i < length bs → seen_with (seen_all none_seen (take i bs)) (block_of bs i) ≡ seen_all none_seen (take (i + 1) bs)
-seen_next bs i h =
-    sym (seen-behind none_seen (take i bs) (block_of bs i)) ∙ ap (seen_all none_seen) (sym (take-suc bs i no_block h) ∙ ap (λ (k : ℕ). take k bs) (sym (add-one i)))
+pub fold-seen : (bs : List BlockAddr)
+    → fold (λ (t : Seen) (i : ℕ). seen_with t (block_of bs i)) none_seen (range_with_len 0 (length bs)) ≡ seen_all none_seen bs
+fold-seen bs = fold-from bs (block_of bs) none_seen 0 (λ i h. ap (block_of bs) (zero-add i))
 
 -- none of four numbers
-pub no_number : (a b c d : Bool) → ◌≡◌ {A = ℕ} (cond a 3 (cond b 4 (cond c 5 (cond d 7 0)))) 0 → (a ≡ false) × (b ≡ false) × (c ≡ false) × (d ≡ false)
+pub no_number : (a b c d : Bool) → ◌≡◌ {A = ℕ} (cond a 3 (cond b 4 (cond c 5 (cond d 7 0)))) 0 → (a ≡ false) × (b ≡ false) ×
+    (c ≡ false) × (d ≡ false)
 no_number true b c d e = absurd (let z : ⊥ = omega arith in z)
 no_number false true c d e = absurd (let z : ⊥ = omega arith in z)
 no_number false false true d e = absurd (let z : ⊥ = omega arith in z)

@@ -19,11 +19,9 @@ pub fn serialize(blocks: &[BlockAddr], out: &mut [u8]) -> Result<usize, Refusal>
     ensures { (stored_answer result ≡ slice_stored blocks.now out.old)
         × (out.new ≡ slice_out blocks.now out.old) }
 {
-    let mut window = [0u64; 768];
-    let mut kept = [0u64; 1_024];
     let writer = BlockAddrStoreWriter {
         records: &Structs { blocks },
         group_len: STORE_BLOCK_LEN,
     };
-    writer.serialize(&mut window, &mut kept, out)
+    writer.serialize_in::<768, 1_024>(out)
 }

@@ -1,14 +1,15 @@
 // Rows 3, 4, 5 and 7 over the records of a list, one after the other.
 ghost use Rattle.std.specs.Prelude.{◌≡◌};
 ghost use Rattle.layout.specs.Refusals.{no_of};
-ghost use Rattle.store_slice.specs.Records.{none_seen, seen_with, seen_number};
+ghost use Rattle.store_slice.specs.Records.{seen_with, seen_number};
 
 use group::BlockAddr;
 use layout::MAX_BLOCKS;
 use layout::refusals::Refusal;
 
-// The last of the records seen so far, and whether they break rows 3, 4 and 5.
-#[derive(Clone, Copy)]
+// The last of the records seen so far, and whether they break rows 3, 4 and 5. A flag for each row and not the first row hit, since
+// row 3 of any record comes before row 4 of an earlier one; the flags are or-ed without a branch a record.
+#[derive(Clone, Copy, Default)]
 pub struct Seen {
     pub last: Option<BlockAddr>,
     pub numbers_bad: bool,
@@ -17,17 +18,6 @@ pub struct Seen {
 }
 
 impl Seen {
-    pub fn none() -> Seen
-        ensures { result ≡ none_seen }
-    {
-        Seen {
-            last: None,
-            numbers_bad: false,
-            join_bad: false,
-            ordinal_bad: false,
-        }
-    }
-
     // One record more.
     #[tactic(auto, unfolding(crate::specs::Records::seen_with))]
     pub fn with(self, block: BlockAddr) -> Seen

@@ -1,10 +1,10 @@
 // The store of a list of records, which is gone over three times: the rows are looked at, the groups are planned, then they are
 // written. So the store's length is known before a byte is written, and there is room for one group.
 ghost use Rattle.std.specs.Prelude.{◌≡◌, ◌*◌, ◌≤◌, ◌<◌, min, length, take, drop};
+ghost use Rattle.layout.specs.Layout.{max_blocks};
 ghost use Rattle.layout.specs.Refusals.{no_of};
 ghost use Rattle.slope.specs.Slope.{best_slope};
-ghost use Rattle.group.specs.Blocks.{blocks_at};
-ghost use Rattle.store.specs.Read.{len_of_group};
+ghost use Rattle.group_write.specs.Group.{blocks_of};
 ghost use Rattle.store.specs.Store.{group_count, addrs};
 ghost use Rattle.store.specs.Plans.{plans, StandsAt};
 ghost use Rattle.store.specs.Facts.{GroupLenOk};
@@ -20,7 +20,8 @@ use layout::refusals::Refusal;
 use store::grouping::Grouping;
 use store_write::GroupPlace;
 
-// The numbers of a record in the window.
+// The numbers of a record in the window: numbers and not blocks, since AreaGroup reads the builder's area, which is C's numbers with five
+// a block, by the same code.
 const STRIDE: usize = 3;
 
 // A list's records, in groups of `group_len`.
@@ -46,30 +47,36 @@ impl<'a, R: Records> BlockAddrStoreWriter<'a, R> {
         ensures { no_of result ≡ block_list_no (R.blocks self.now.records.now) }
     {
         let n = self.records.count();
-        let mut seen = Seen::none();
-        for i in 0..n {
-            seen = seen.with(self.records.block(i));
-        }
+        let seen = (0..n).fold(Seen::default(), |seen: Seen, i| {
+            seen.with(self.records.block(i))
+        });
         seen.check(n)
     }
 
-    // Puts the records of group g into the window. Returns how many they are.
-    fn hold_group(&self, g: usize, window: &mut [u64]) -> usize
-        requires { (self.now.group_len * g < length (R.blocks self.now.records.now))
+    // Group g, whose records are put into the window: by place, as `put_block` does it for every area. That the rows are kept is a clause
+    // here and below: a struct that says so would hold this writer alone, and each function reach the list through both.
+    fn hold_group<'w>(&self, g: usize, window: &'w mut [u64]) -> AreaGroup<'w>
+        requires { (block_list_no (R.blocks self.now.records.now) ≡ 0)
+            × (g < group_count self.now.group_len (length (R.blocks self.now.records.now)))
             × (3 * min self.now.group_len (length (R.blocks self.now.records.now)) ≤ length window.old) }
-        ensures count { result ≡ len_of_group self.now.group_len (length (R.blocks self.now.records.now)) g }
-        ensures held { blocks_at window.new 3 0 result
-            ≡ take result (drop (self.now.group_len * g) (R.blocks self.now.records.now)) }
+        ensures { blocks_of result ≡ take self.now.group_len (drop (self.now.group_len * g) (R.blocks self.now.records.now)) }
     {
         let count = self.grouping().blocks_in(g);
         let first = self.group_len * g;
         for k in 0..count {
             put_block(self.records.block(first + k), window, STRIDE * k);
         }
-        count
+        AreaGroup {
+            area: window,
+            stride: STRIDE,
+            first: 0,
+            count,
+        }
     }
 
-    // Plans the groups. Returns how many bytes their bits take.
+    // Plans the groups. Returns how many bytes their bits take. A loop, as in `write`: a sum's closure would hold both areas, and change
+    // them. Both go over the groups as `AreaStore` does, whose groups lie in its area already: a trait over both would lend the window
+    // mutably for each group, and with its two impls take more lines than the two loops.
     fn plan(&self, window: &mut [u64], kept: &mut [u64]) -> usize
         requires { (block_list_no (R.blocks self.now.records.now) ≡ 0)
             × Rooms self.now.group_len (length (R.blocks self.now.records.now)) window.old kept.old }
@@ -81,19 +88,14 @@ impl<'a, R: Records> BlockAddrStoreWriter<'a, R> {
         let groups = self.grouping().group_count();
         let mut bits: usize = 0;
         for g in 0..groups {
-            let count = self.hold_group(g, window);
-            let group = AreaGroup {
-                area: window,
-                stride: STRIDE,
-                first: 0,
-                count,
-            };
+            let group = self.hold_group(g, window);
             bits += store_write::plan_group(&group, g, kept);
         }
         bits
     }
 
-    // Writes the store, whose groups are planned and whose bits take so many bytes, from the front of `out` on. Returns its length.
+    // Writes the store, whose groups are planned and whose bits take so many bytes, from the front of `out` on. Returns its length. Window
+    // and plans go apart, since the one is changed here and the other only read.
     fn write(
         &self,
         bits: usize,
@@ -119,18 +121,8 @@ impl<'a, R: Records> BlockAddrStoreWriter<'a, R> {
         serialize::serialize_u64(out, 0, metas as u64);
         let mut offset: usize = 0;
         for g in 0..groups {
-            let count = self.hold_group(g, window);
-            let group = AreaGroup {
-                area: window,
-                stride: STRIDE,
-                first: 0,
-                count,
-            };
-            let place = GroupPlace {
-                meta_at: 8 + META_LEN * g,
-                at: 8 + metas + offset,
-                offset,
-            };
+            let group = self.hold_group(g, window);
+            let place = GroupPlace::new(g, groups, offset);
             offset += store_write::write_group(&group, g, kept, place, out);
         }
         Ok(len)
@@ -151,5 +143,22 @@ impl<'a, R: Records> BlockAddrStoreWriter<'a, R> {
         self.check_rows()?;
         let bits = self.plan(window, kept);
         self.write(bits, window, kept, out)
+    }
+
+    // The same with areas of its own, W numbers for a group's records and K for the plans. Their lengths are fixed, since the library
+    // has no heap; who has few records chooses small ones, which take less time to clear.
+    pub fn serialize_in<const W: usize, const K: usize>(
+        &self,
+        out: &mut [u8],
+    ) -> Result<usize, Refusal>
+        requires { (3 * min self.now.group_len (length (R.blocks self.now.records.now)) ≤ W) × (W ≤ 768)
+            × (length (R.blocks self.now.records.now) ≤ max_blocks
+            → 2 * group_count self.now.group_len (length (R.blocks self.now.records.now)) ≤ K) × (K ≤ 1024) }
+        ensures stored { stored_answer result ≡ slice_stored_by self.now.group_len (R.blocks self.now.records.now) out.old }
+        ensures bytes { out.new ≡ slice_out_by self.now.group_len (R.blocks self.now.records.now) out.old }
+    {
+        let mut window = [0u64; W];
+        let mut kept = [0u64; K];
+        self.serialize(&mut window, &mut kept, out)
     }
 }

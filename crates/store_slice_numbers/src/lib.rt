@@ -18,7 +18,7 @@ const FEW: usize = 16;
 
 const SOME: usize = 1_024;
 
-// A list of records: start, end and first ordinal of each.
+// A list of records: start, end and first ordinal of each. It is lent, as C has it.
 #[derive(Clone, Copy)]
 pub struct Numbers<'a> {
     pub records: &'a [[u64; 3]],
@@ -33,33 +33,8 @@ impl<'a> Records for Numbers<'a> {
 
     #[inline]
     fn block(&self, i: usize) -> BlockAddr {
-        let numbers = self.records[i];
-        BlockAddr {
-            start: numbers[0],
-            end: numbers[1],
-            first_ordinal: numbers[2],
-        }
+        BlockAddr::from(self.records[i])
     }
-}
-
-// The same with areas of fixed lengths: W numbers for a group's records, K for the plans.
-fn serialize_in<const W: usize, const K: usize>(
-    blocks: &[[u64; 3]],
-    group_len: usize,
-    out: &mut [u8],
-) -> Result<usize, Refusal>
-    requires { GroupLenOk group_len × (3 * min group_len (length blocks.now) ≤ W) × (W ≤ 768)
-        × (length blocks.now ≤ max_blocks → 2 * group_count group_len (length blocks.now) ≤ K) × (K ≤ 1024) }
-    ensures { (stored_answer result ≡ slice_stored_by group_len (blocks_of_numbers blocks.now) out.old)
-        × (out.new ≡ slice_out_by group_len (blocks_of_numbers blocks.now) out.old) }
-{
-    let mut window = [0u64; W];
-    let mut kept = [0u64; K];
-    let writer = BlockAddrStoreWriter {
-        records: &Numbers { records: blocks },
-        group_len,
-    };
-    writer.serialize(&mut window, &mut kept, out)
 }
 
 // Writes the store of the records from the front of `out` on, in groups of 128 to 256 blocks. Returns its length.
@@ -68,9 +43,13 @@ pub fn serialize(blocks: &[[u64; 3]], group_len: usize, out: &mut [u8]) -> Resul
     ensures { (stored_answer result ≡ slice_stored_by group_len (blocks_of_numbers blocks.now) out.old)
         × (out.new ≡ slice_out_by group_len (blocks_of_numbers blocks.now) out.old) }
 {
+    let writer = BlockAddrStoreWriter {
+        records: &Numbers { records: blocks },
+        group_len,
+    };
     match blocks.len() {
-        0..=FEW => serialize_in::<48, 2>(blocks, group_len, out),
-        0..=SOME => serialize_in::<768, 16>(blocks, group_len, out),
-        _ => serialize_in::<768, 1_024>(blocks, group_len, out),
+        0..=FEW => writer.serialize_in::<48, 2>(out),
+        0..=SOME => writer.serialize_in::<768, 16>(out),
+        _ => writer.serialize_in::<768, 1_024>(out),
     }
 }

@@ -2,7 +2,7 @@
 use Prim.Native.Nat.{ℕ, ◌+◌, ◌*◌, ◌^◌, ◌≤◌, ◌<◌, min}
 use mathlib.Core.Path.{◌≡◌, refl}
 use mathlib.Core.List.{List, ◌++◌}
-use native.Mathlib.Nat.{mul-suc, mul-zero, mul-le-mul_left, sub-zero}
+use native.Mathlib.Nat.{mul-suc, mul-zero, mul-le-mul_left}
 use native.Mathlib.Numerals.{add-one}
 use native.Mathlib.Omega.{arith}
 use lib.ListN.{length}
@@ -17,8 +17,8 @@ use Rattle.store.specs.Plans.{group_plan, plans, StandsAt}
 use Rattle.store.proofs.Groups.{group-count-above, group-count-le, group-first-lt}
 use Rattle.store.proofs.Stored.{store-addrs-le}
 use Rattle.store.proofs.Plans.{plans-turn, length-plan, standing-front, standing-rest}
-use Rattle.store.proofs.Planning.{Planning, planning-all, planning-none, planning-turn, plan-room, plan-bits, plans_from}
-use Rattle.store.proofs.Left.{Left, left-all, left-none, bits-turn, record-room, bits-room, left-turn, whole}
+use Rattle.store.proofs.Planning.{Planning, planning-all, planning-none, planning-turn, plan-bits, plans_from}
+use Rattle.store.proofs.Left.{Left, left-none, bits-turn, bits-room, left-turn, whole}
 use Rattle.store_write.specs.Blocks.{all_of, in_group}
 use Rattle.store_write.specs.declared.AreaStore.{AreaStore}
 
@@ -53,9 +53,6 @@ module _ (s : AreaStore) where
     module _ {kept₀ kept : List ℕ} {len : ℕ} (planned : Planned s kept₀ kept len g) where
       here : Planning s.area.now s.stride s.n s.group_len kept₀ kept len g (s.group_len * g)
       here = rw first-is at planned
-
-      pub planned-room : 2 * groups_of s ≤ length kept₀ → 2 * g + 2 ≤ length kept
-      planned-room = plan-room here s.ok.1 (len_of_group s.group_len s.n g) refl group-there
 
       module _ {b : List BlockAddr} (is : b ≡ in_group s g) {r : ℕ} (bytes : r ≡ length (group_addrs best_slope b)) where
         pub planned-less : len + r < 2 ^ 32
@@ -92,27 +89,27 @@ module _ (s : AreaStore) where
       Left s.area.now s.stride s.n s.group_len out₀ base out (8 + 36 * g) offset (first_of s g)
       × StandsAt kept (2 * g) (plans_from s.area.now s.stride s.n s.group_len (first_of s g))
 
-  pub written-none : (kept out : List ℕ) (base : ℕ) → base ≡ 8 + 36 * groups_of s → StandsAt kept 0 (plans best_slope s.group_len (groups_of s) (all_of s)) → Written kept out base out 0 0
-  written-none kept out base is stands = rw first-none (left-all s.area.now s.stride s.n s.group_len out base is, rw (sub-zero s.n) stands)
-
-  module _ (kept : List ℕ) (g : ℕ) (there : g < groups_of s) {out₀ out : List ℕ} {base offset : ℕ} (written : Written kept out₀ base out offset g) where
+  module _ (kept : List ℕ) (g : ℕ) (there : g < groups_of s) {out₀ out : List ℕ} {base offset : ℕ}
+      (written : Written kept out₀ base out offset g) where
     left : Left s.area.now s.stride s.n s.group_len out₀ base out (8 + 36 * g) offset (s.group_len * g)
     left = rw (first-is g there) at written.0
 
     stands : StandsAt kept (2 * g) (plans_from s.area.now s.stride s.n s.group_len (s.group_len * g))
     stands = rw (first-is g there) at written.1
 
-    split : StandsAt kept (2 * g) (group_plan best_slope (in_group s g) ++ plans_from s.area.now s.stride s.n s.group_len (s.group_len * g + len_of_group s.group_len s.n g))
-    split = rw (plans-turn best_slope s.ok.1.some s.area.now s.stride s.n (s.group_len * g) (len_of_group s.group_len s.n g) refl (group-there g there)) at stands
-
-    pub written-apart : 8 + 36 * g + 36 ≤ base + offset
-    written-apart = record-room left s.ok.1 (len_of_group s.group_len s.n g) refl (group-there g there)
+    split : StandsAt kept (2 * g)
+        (group_plan best_slope (in_group s g)
+        ++ plans_from s.area.now s.stride s.n s.group_len (s.group_len * g + len_of_group s.group_len s.n g))
+    split = rw
+        (plans-turn best_slope s.ok.1.some s.area.now s.stride s.n (s.group_len * g) (len_of_group s.group_len s.n g) refl
+        (group-there g there)) at stands
 
     module _ {b : List BlockAddr} (is : b ≡ in_group s g) where
       pub written-stands : StandsAt kept (2 * g) (group_plan best_slope b)
       written-stands = rw is (standing-front kept (2 * g) (group_plan best_slope (in_group s g)) _ split)
 
-      pub written-room : length (store_bytes best_slope s.group_len (all_of s)) ≤ length out₀ → base + offset + length (group_addrs best_slope b) ≤ length out
+      pub written-room : length (store_bytes best_slope s.group_len (all_of s)) ≤ length out₀
+          → base + offset + length (group_addrs best_slope b) ≤ length out
       written-room h = rw is (bits-room left s.ok.1 (len_of_group s.group_len s.n g) refl (group-there g there) h)
 
       module _ {r : ℕ} (bytes : r ≡ length (group_addrs best_slope b)) where
@@ -126,26 +123,42 @@ module _ (s : AreaStore) where
               store-addrs-le best_slope best_slope-lt s.ok.0 s.ok.1,
             )
 
-        pub written-turn : {out' : List ℕ} → out' ≡ sets (sets out (8 + 36 * g) (group_record best_slope offset b)) (base + offset) (group_addrs best_slope b)
+        pub written-turn : {out' : List ℕ}
+            → out' ≡ sets (sets out (8 + 36 * g) (group_record best_slope offset b)) (base + offset) (group_addrs best_slope b)
             → Written kept out₀ base out' (offset + r) (g + 1)
         written-turn {out'} put =
             let next : 8 + 36 * g + 36 ≡ 8 + 36 * (g + 1) = omega arith in
             let plan : 2 * (g + 1) ≡ 2 * g + length (group_plan best_slope (in_group s g)) =
-            omega (arith, length-plan best_slope s.ok.1.some s.area.now s.stride s.n (s.group_len * g) (len_of_group s.group_len s.n g) refl (group-there g there)) in
+            omega (
+              arith,
+              length-plan best_slope s.ok.1.some s.area.now s.stride s.n (s.group_len * g) (len_of_group s.group_len s.n g) refl
+                  (group-there g there),
+            ) in
             rw (← (next-is g there)) (
-              rw next at (left-turn left s.ok.1 (len_of_group s.group_len s.n g) refl (group-there g there) r out' (rw is at bytes) (rw is at put)),
+              rw next at
+                  (left-turn left s.ok.1 (len_of_group s.group_len s.n g) refl (group-there g there) r out' (rw is at bytes)
+                  (rw is at put)),
               rw plan (standing-rest kept (2 * g) (group_plan best_slope (in_group s g)) _ split),
             )
 
   -- the place of a group's record, and where its bits begin
-  pub written-small : (kept : List ℕ) (g : ℕ) {out₀ out : List ℕ} {base offset : ℕ} → Written kept out₀ base out offset g → (8 + 36 * g ≤ base) × (base + offset < 2 ^ 33)
+  pub written-small : (kept : List ℕ) (g : ℕ) {out₀ out : List ℕ} {base offset : ℕ} → Written kept out₀ base out offset g
+      → (8 + 36 * g ≤ base) × (base + offset < 2 ^ 33)
   written-small kept g written = (
     omega (arith, written.0.records-end),
-    omega (arith, written.0.base-is, written.0.bits-end, group-count-le s.ok.1.some s.n, s.ok.0.few, store-addrs-le best_slope best_slope-lt s.ok.0 s.ok.1),
+    omega (
+      arith,
+      written.0.base-is,
+      written.0.bits-end,
+      group-count-le s.ok.1.some s.n,
+      s.ok.0.few,
+      store-addrs-le best_slope best_slope-lt s.ok.0 s.ok.1,
+    ),
   )
 
   -- the whole store
-  module _ (kept out : List ℕ) {out₀ l : List ℕ} {groups offset g : ℕ} (is : groups ≡ groups_of s) (number : out₀ ≡ sets out 0 (le_bytes 8 (36 * groups)))
+  module _ (kept out : List ℕ) {out₀ l : List ℕ} {groups offset g : ℕ} (is : groups ≡ groups_of s)
+      (number : out₀ ≡ sets out 0 (le_bytes 8 (36 * groups)))
       (written : Written kept out₀ (8 + 36 * groups) l offset g) (end : groups_of s ≤ g) where
     pub written-all : (8 + 36 * groups + offset ≡ length (store_bytes best_slope s.group_len (all_of s)))
         × (l ≡ sets out 0 (store_bytes best_slope s.group_len (all_of s)))

@@ -1,7 +1,7 @@
-// Writing a store over a lent area: planned group by group, then written.
+// Writing a store over a lent area: planned group by group, then written. Area, plans and output are lent, since there is no heap.
 #![tactic(auto)]
 
-ghost use Rattle.std.specs.Prelude.{◌≡◌, ◌+◌, ◌*◌, ◌≤◌, ◌<◌, length};
+ghost use Rattle.std.specs.Prelude.{◌≡◌, ◌+◌, ◌*◌, ◌^◌, ◌≤◌, ◌<◌, length};
 ghost use Rattle.std.proofs.lemmas.List.Edits.{sets};
 ghost use Rattle.slope.specs.Slope.{best_slope};
 ghost use Rattle.group_write.specs.Group.{blocks_of};
@@ -14,7 +14,7 @@ use layout::META_LEN;
 use slope::Slope;
 use store::grouping::Grouping;
 
-// The numbers that are kept of a group's plan.
+// The numbers that are kept of a group's plan; group_write's `planned_block` says what a struct in their place costs.
 const PLAN_LEN: usize = 2;
 
 // Plans group g. Returns how many bytes its bits take.
@@ -47,7 +47,24 @@ pub struct GroupPlace {
     pub ghost apart: { meta_at + 36 ≤ at },
 }
 
-// Writes group g, which was planned. Returns how many bytes its bits take.
+impl GroupPlace {
+    // The place of group g of so many in a store, whose bits are `offset` among all address bytes.
+    #[inline]
+    pub fn new(g: usize, groups: usize, offset: usize) -> GroupPlace
+        requires { (g < groups) × (8 + 36 * groups + offset < 2 ^ 64) }
+        ensures { (result.meta_at ≡ 8 + 36 * g) × (result.at ≡ 8 + 36 * groups + offset) × (result.offset ≡ offset) }
+    {
+        GroupPlace {
+            meta_at: 8 + META_LEN * g,
+            at: 8 + META_LEN * groups + offset,
+            offset,
+        }
+    }
+}
+
+// Writes group g, which was planned. Returns how many bytes its bits take. That plans stand in `kept` is a clause here, in `serialize` and
+// in store_slice's and builder_finish's functions that write: each speaks of other plans (a group's, an area's, a writer's, a builder's),
+// so that a struct that said so would serve one function.
 pub fn write_group(
     group: &AreaGroup,
     g: usize,
@@ -63,11 +80,13 @@ pub fn write_group(
 {
     let plan = PLAN_LEN * g;
     let meta = group.planned_block(kept[plan], kept[plan + 1], place.offset as u64);
-    meta.serialize(&mut out[place.meta_at..], 0);
+    meta.serialize(out, place.meta_at);
     group.flush_block(meta, &mut out[place.at..])
 }
 
-// The blocks of a store in a lent area: the n legal ones at its front, with `stride` numbers each, in groups of `group_len`.
+// The blocks of a store in a lent area: the n legal ones at its front, with `stride` numbers each, in groups of `group_len`. `plan` and
+// `serialize` are loops, since each turn writes into what is lent: of a closure that did so a sum would know nothing. store_slice goes
+// over its groups by itself: each is put into a window first, and a common loop would need a trait that lends it out of there.
 #[derive(Clone, Copy)]
 pub struct AreaStore<'a> {
     pub area: &'a [u64],
@@ -128,17 +147,12 @@ impl<'a> AreaStore<'a> {
         let groups = self.grouping().group_count();
         let metas = META_LEN * groups;
         serialize::serialize_u64(out, 0, metas as u64);
-        let addrs = 8 + metas;
         let mut offset: usize = 0;
         for g in 0..groups {
-            let place = GroupPlace {
-                meta_at: 8 + META_LEN * g,
-                at: addrs + offset,
-                offset,
-            };
+            let place = GroupPlace::new(g, groups, offset);
             let len = write_group(&self.group(g), g, kept, place, out);
             offset += len;
         }
-        addrs + offset
+        8 + metas + offset
     }
 }

@@ -19,19 +19,28 @@ pub slice_bounds-store-end-2 : goal.slice_bounds-store-end-2
 slice_bounds-store-end-2 c = let a = c.args in omega (arith, inside a.group_len a.«data».now a.opened c.requires.0 c.requires.1)
 
 pub invariant_of-store : goal.invariant_of-store
-invariant_of-store c = let a = c.args in record { len = c.requires.0; records = records-enough a.group_len a.«data».now a.opened c.requires.0 c.requires.1 }
+invariant_of-store c = let a = c.args in record {
+  len = c.requires.0;
+  records = records-enough a.group_len a.«data».now a.opened
+      c.requires.0 c.requires.1;
+}
 
 pub store_canonical-requires : goal.store_canonical-requires
-store_canonical-requires c = let a = c.args in (records-exact a.group_len a.«data».now a.opened c.requires.0 c.requires.1, store_kept a.group_len a.«data».now a.opened c.requires.0 c.requires.1)
+store_canonical-requires c = let a = c.args in (
+  records-exact a.group_len a.«data».now a.opened c.requires.0 c.requires.1,
+  store_kept a.group_len a.«data».now a.opened c.requires.0 c.requires.1,
+)
 
 pub returns-then-store_canonical : goal.returns-then-store_canonical
 returns-then-store_canonical c =
     let a = c.args in
     sym (ap (λ (t : Bool). cond t 0 27) c.if-store_canonical.true)
-    ∙ number_by a.group_len a.«data».now a.opened c.requires.0 c.requires.1 c.store_canonical.result (λ k. (c.type_inv.«data» k).fits) c.store_canonical.ensures
+    ∙ number_by a.group_len a.«data».now a.opened c.requires.0 c.requires.1 c.store_canonical.result (λ k.
+    (c.type_inv.«data» k).fits) c.store_canonical.ensures
 
-pub returns : goal.returns
-returns c =
+pub returns-else-store_canonical : goal.returns-else-store_canonical
+returns-else-store_canonical c =
     let a = c.args in
     sym (ap (λ (t : Bool). cond t 0 27) c.if-store_canonical.false)
-    ∙ number_by a.group_len a.«data».now a.opened c.requires.0 c.requires.1 c.store_canonical.result (λ k. (c.type_inv.«data» k).fits) c.store_canonical.ensures
+    ∙ number_by a.group_len a.«data».now a.opened c.requires.0 c.requires.1 c.store_canonical.result (λ k.
+    (c.type_inv.«data» k).fits) c.store_canonical.ensures

@@ -11,7 +11,13 @@ use Rattle.store_canonical.proofs.group_canonical.Goals as goal
 pub invariant_of-blocks : goal.invariant_of-blocks
 invariant_of-blocks c =
     let g = c.args.group.now in
-    record { ok = rw c.from.ensures (area-group g.meta g.«data».now _ c.read_group.ensures g.readable.few (omega (arith, c.requires.1, c.read_group.auto)) c.requires.0) }
+    record {
+      ok = rw c.from.ensures (area-group g.meta g.«data».now _ c.read_group.ensures g.readable.few (omega (
+        arith,
+        c.requires.1,
+        c.read_group.auto,
+      )) c.requires.0);
+    }
 
 pub returns-then-ne : goal.returns-then-ne
 returns-then-ne c =
@@ -29,7 +35,9 @@ returns c =
     (rw c.from.ensures at c.plan_block-planned.ensures) in (
       λ e. record {
         meta = equal-same _ _ (sym c.ne.ensures ∙ c.if-ne.false) ∙ planned;
-        bits = bits-exact g.meta g.«data».now c.padding.ensures.1 g.readable c.requires.0 (sym c.padding.ensures.0 ∙ eqb-true c.padding.result 0 e);
+        bits = bits-exact g.meta g.«data».now c.padding.ensures.1 g.readable c.requires.0 (sym c.padding.ensures.0 ∙ eqb-true
+            c.padding.result 0 e);
       },
-      λ e canonical. eqb-false c.padding.result 0 e (c.padding.ensures.0 ∙ padding-zero g.meta g.«data».now c.padding.ensures.1 g.readable c.requires.0 canonical.bits),
+      λ e canonical. eqb-false c.padding.result 0 e (c.padding.ensures.0 ∙ padding-zero g.meta g.«data».now c.padding.ensures.1 g.readable
+          c.requires.0 canonical.bits),
     )

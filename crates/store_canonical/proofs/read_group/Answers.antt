@@ -9,7 +9,8 @@ loop-i-preserved c =
     let inv = c.loop-i.invariant in (
       c.range_start.ensures,
       rw c.put_block.ensures
-          (own-turn g.meta g.«data».now c.loop-i.area c.loop-i.i c.loop-i.start c.range_start.result c.first_ordinal.result (omega arith) (omega arith) inv.1
+          (own-turn g.meta g.«data».now c.loop-i.area c.loop-i.i c.loop-i.start c.range_start.result c.first_ordinal.result (omega arith)
+          (omega arith) inv.1
           inv.0 c.range_start.ensures c.first_ordinal.ensures),
     )
 

@@ -30,5 +30,6 @@ returns c =
     let planned = c.plan_block-meta in
     let group = c.args.group.now.ok in (
       c.addr_len.ensures ∙ planned-length best_slope group 0 planned.ensures best_slope-lt,
-      put _ _ _ _ _ (plan-of planned.result _ _ c.packed.ensures c.packed-2.ensures ∙ kept-plan best_slope _ _ _ _ group.some planned.ensures),
+      put _ _ _ _ _
+          (plan-of planned.result _ _ c.packed.ensures c.packed-2.ensures ∙ kept-plan best_slope _ _ _ _ group.some planned.ensures),
     )

@@ -1,5 +1,6 @@
--- The planned record's bytes, then the bits behind them, each into what is left of the output from its place on.
-use Rattle.std.proofs.Common.{◌≡◌, ℕ, ◌+◌, ◌-◌, ◌*◌, ◌≤◌, List, [], ◌∷◌, length, get_or, take, drop, length-take, length-drop, refl, sym, ap, ◌∙◌, arith}
+-- The planned record's bytes, then the bits behind them, into what is left of the output from their place on.
+use Rattle.std.proofs.Common.{◌≡◌, ℕ, ◌+◌, ◌-◌, ◌*◌, ◌≤◌, List, [], ◌∷◌, length, get_or, take, drop, length-take, length-drop, refl, sym}
+use Rattle.std.proofs.Common.{ap, ◌∙◌, arith}
 use borrow.Rule.Slice.PartMut.{put_mid}
 use native.Mathlib.Nat.{add-zero}
 use lib.Seq.{length-sets}
@@ -11,7 +12,7 @@ use Rattle.group.specs.Meta.{meta_bytes}
 use Rattle.group.proofs.Blocks.{length-blocks_at}
 use Rattle.group_write.specs.Group.{blocks_of}
 use Rattle.group_write.specs.declared.AreaGroup.{AreaGroup}
-use Rattle.store.specs.Store.{group_record, group_addrs}
+use Rattle.store.specs.Store.{group_addrs}
 use Rattle.store.specs.Plans.{group_plan, StandsAt}
 use Rattle.store.proofs.Stored.{planned-record, planned-bits, planned-fits}
 use Rattle.store.proofs.Plans.{standing-two, length-group_plan, kept-plan}
@@ -22,7 +23,8 @@ two : (group : AreaGroup) (kept : List ℕ) (g : ℕ) → StandsAt kept (2 * g) 
     → (2 * g + 2 ≤ length kept) × (get_or kept (2 * g) 0 ∷ get_or kept (2 * g + 1) 0 ∷ [] ≡ group_plan best_slope (blocks_of group))
 two group kept g stands =
     standing-two kept (2 * g) _
-    (length-group_plan best_slope (blocks_of group) (rw (length-blocks_at group.area.now group.stride group.first group.count) group.ok.some)) stands
+    (length-group_plan best_slope (blocks_of group)
+    (rw (length-blocks_at group.area.now group.stride group.first group.count) group.ok.some)) stands
 
 -- what is lent from `at` on
 part_room : (l : List ℕ) (at k : ℕ) → at + k ≤ length l → k ≤ length (take (length l - at) (drop at l))
@@ -33,7 +35,8 @@ rest-room : (out l w : List ℕ) (i at k : ℕ) → l ≡ sets out i w → at + 
 rest-room out l w i at k e h = part_room l at k (omega (arith, ap length e, length-sets out i w))
 
 -- a store into what is lent from `at` on
-put-part : (l l' v w : List ℕ) (at : ℕ) → l' ≡ sets (take (length l - at) (drop at l)) 0 v → v ≡ w → put_mid at (length l - at) l l' ≡ sets l at w
+put-part : (l l' v w : List ℕ) (at : ℕ) → l' ≡ sets (take (length l - at) (drop at l)) 0 v → v ≡ w
+    → put_mid at (length l - at) l l' ≡ sets l at w
 put-part l l' v w at e is = ap (put_mid at (length l - at) l) e ∙ sets-in-part l v at 0 ∙ rw (add-zero at, is)
 
 pub overflow_mul-plan : goal.overflow_mul-plan
@@ -63,24 +66,21 @@ pub flush_block-requires : goal.flush_block-requires
 flush_block-requires c =
     let group = c.args.group.now.ok in
     let place = c.args.place in
-    let out = c.args.out.now in
-    let plan = c.planned_block-meta in
-    let bytes = meta_bytes plan.result in
-    let mid = put-part out c.serialize.new.out bytes bytes place.meta_at c.serialize.ensures refl in (
+    let plan = c.planned_block-meta in (
       planned-fits best_slope group place.offset plan.ensures best_slope-lt,
-      rw (planned-bits best_slope group place.offset plan.ensures) (rest-room out _ bytes place.meta_at _ _ mid c.requires.1),
+      rw (planned-bits best_slope group place.offset plan.ensures)
+          (rest-room c.args.out.now _ (meta_bytes plan.result) place.meta_at _ _ c.serialize.ensures c.requires.1),
     )
 
 pub returns : goal.returns
 returns c =
     let group = c.args.group.now in
     let place = c.args.place in
-    let out = c.args.out.now in
     let plan = c.planned_block-meta in
     let addrs = group_addrs best_slope (blocks_of group) in
     let bits = planned-bits best_slope group.ok place.offset plan.ensures in
-    let record-put = planned-record best_slope group.ok place.offset plan.ensures in
-    let mid = put-part out c.serialize.new.out (meta_bytes plan.result) (group_record best_slope place.offset (blocks_of group)) place.meta_at c.serialize.ensures record-put in (
+    let record-put = planned-record best_slope group.ok place.offset plan.ensures in (
       c.flush_block.ensures.0 ∙ ap length bits,
-      put-part _ _ _ addrs place.at c.flush_block.ensures.1 bits ∙ ap (λ (l : List ℕ). sets l place.at addrs) mid,
+      put-part _ _ _ addrs place.at c.flush_block.ensures.1 bits
+          ∙ ap (λ (l : List ℕ). sets l place.at addrs) (rw record-put at c.serialize.ensures),
     )

@@ -20,7 +20,8 @@ module _ (L : ℕ) (recs addr : List ℕ) (some : 1 ≤ L) (ord g : ℕ) where
   below-first zero e low h = rw (rw (mul-zero L) at (first-of-group L recs addr some 0)) h
   below-first (suc k) e low h = absurd (let l = low (omega arith) in let z : ⊥ = omega arith in z)
 
-  module _ (m : BlockAddrBlockMetadata) (part : List ℕ) (em : m ≡ group_meta recs g) (ep : part ≡ drop (group_meta recs g).offset addr) where
+  module _ (m : BlockAddrBlockMetadata) (part : List ℕ) (em : m ≡ group_meta recs g)
+      (ep : part ≡ drop (group_meta recs g).offset addr) where
     -- the block read is the definition's
     read-as : (j : ℕ) → j < L → (b : BlockAddr) → b ≡ block_read m (le_val part) j → b ≡ store_block L recs addr (L * g + j)
     read-as j h b r = rw (ep, em) at r ∙ sym (block-of-group L recs addr some g j h)
@@ -36,8 +37,11 @@ module _ (L : ℕ) (recs addr : List ℕ) (some : 1 ≤ L) (ord g : ℕ) where
 pub returns-then-group-ord-clause-ord_found_as : goal.returns-then-group-ord-clause-ord_found_as
 unfolding OrdFoundAs
 returns-then-group-ord-clause-ord_found_as c ok =
-    let s = c.args.self.now in
-    (omega arith, below-first s.group_len s.metas.now s.addrs.now s.len.some c.args.ord _ _ refl c.bisect_groups-g.ensures.low (rw c.in-Some.ensures.1 at c.if-group-ord.true))
+    let s = c.args.self.now in (
+      omega arith,
+      below-first s.group_len s.metas.now s.addrs.now s.len.some c.args.ord _ _ refl c.bisect_groups-g.ensures.low
+          (rw c.in-Some.ensures.1 at c.if-group-ord.true),
+    )
 
 pub returns-then-numbers_bad-clause-ord_found_as : goal.returns-then-numbers_bad-clause-ord_found_as
 unfolding OrdFoundAs
@@ -47,16 +51,22 @@ returns-then-numbers_bad-clause-ord_found_as c ok =
     let j = c.bisect_for_ord-inner.result in
     let begins : s.group_len * g < s.n = group-first-lt s.len.some s.n g c.bisect_groups-g.ensures.there in
     let inside : j < len_of_group s.group_len s.n g = omega (arith, c.bisect_for_ord-inner.ensures.0, c.in-Some.ensures.2) in
-    let read = read-as s.group_len s.metas.now s.addrs.now s.len.some c.args.ord g _ _ c.in-Some.ensures.1 c.in-Some.ensures.3 j (omega (arith, inside)) _ c.deserialize_block_addr-addr.ensures in
-    absurd (true≢false (sym c.if-numbers_bad.true ∙ c.numbers_bad.ensures ∙ ap are_numbers_bad read ∙ numbers-good _ (ok.legal.numbers _ (omega (arith, inside, begins)))))
+    let read =
+    read-as s.group_len s.metas.now s.addrs.now s.len.some c.args.ord g _ _ c.in-Some.ensures.1 c.in-Some.ensures.3 j
+    (omega (arith, inside)) _ c.deserialize_block_addr-addr.ensures in
+    absurd (true≢false
+    (sym c.if-numbers_bad.true ∙ c.numbers_bad.ensures ∙ ap are_numbers_bad read
+    ∙ numbers-good _ (ok.legal.numbers _ (omega (arith, inside, begins)))))
 
 pub returns-clause-ord_found_in : goal.returns-clause-ord_found_in
 unfolding OrdFoundIn
 returns-clause-ord_found_in c =
     let s = c.args.self.now in
     let g = c.bisect_groups-g.result in
-    let begins : s.group_len * g < s.n = group-first-lt s.len.some s.n g c.bisect_groups-g.ensures.there in
-    (omega (arith, begins, c.bisect_for_ord-inner.ensures.0, c.in-Some.ensures.2), numbers-ok _ (sym c.numbers_bad.ensures ∙ c.if-numbers_bad.false))
+    let begins : s.group_len * g < s.n = group-first-lt s.len.some s.n g c.bisect_groups-g.ensures.there in (
+      omega (arith, begins, c.bisect_for_ord-inner.ensures.0, c.in-Some.ensures.2),
+      numbers-ok _ (sym c.numbers_bad.ensures ∙ c.if-numbers_bad.false),
+    )
 
 pub returns-clause-ord_found_as : goal.returns-clause-ord_found_as
 unfolding OrdFoundAs
@@ -65,6 +75,8 @@ returns-clause-ord_found_as c ok =
     let g = c.bisect_groups-g.result in
     let j = c.bisect_for_ord-inner.result in
     let begins : s.group_len * g < s.n = group-first-lt s.len.some s.n g c.bisect_groups-g.ensures.there in (
-      found s.group_len s.metas.now s.addrs.now s.len.some c.args.ord g _ _ c.in-Some.ensures.1 c.in-Some.ensures.3 s.n j ok begins c.in-Some.ensures.2 c.bisect_for_ord-inner.ensures c.bisect_groups-g.ensures.high,
-      read-as s.group_len s.metas.now s.addrs.now s.len.some c.args.ord g _ _ c.in-Some.ensures.1 c.in-Some.ensures.3 j (omega (arith, c.bisect_for_ord-inner.ensures.0, c.in-Some.ensures.2)) _ c.deserialize_block_addr-addr.ensures,
+      found s.group_len s.metas.now s.addrs.now s.len.some c.args.ord g _ _ c.in-Some.ensures.1 c.in-Some.ensures.3 s.n j ok begins
+          c.in-Some.ensures.2 c.bisect_for_ord-inner.ensures c.bisect_groups-g.ensures.high,
+      read-as s.group_len s.metas.now s.addrs.now s.len.some c.args.ord g _ _ c.in-Some.ensures.1 c.in-Some.ensures.3 j
+          (omega (arith, c.bisect_for_ord-inner.ensures.0, c.in-Some.ensures.2)) _ c.deserialize_block_addr-addr.ensures,
     )

@@ -1,11 +1,8 @@
 -- `BlockAddrStoreWriter::plan` meets its contract: a list that hits no row has legal groups, and room for their plans.
-use Rattle.std.proofs.Common.{◌≤◌, ◌*◌, ◌+◌, length, arith}
-use Rattle.std.specs.Prelude.{min}
-use Rattle.layout.specs.Layout.{max_blocks}
-use Rattle.store.specs.Store.{group_count}
+use Rattle.std.proofs.Common.{length, arith}
 use Rattle.store.proofs.Groups.{group-count-le}
 use Rattle.store_slice.proofs.Kept.{records-few}
-use Rattle.store_slice.proofs.Rounds.{held, more-bits, planned-none, window-area, planned-next}
+use Rattle.store_slice.proofs.Rounds.{held, more-bits, planned-none, planned-next}
 use Rattle.store_slice.proofs.writer.BlockAddrStoreWriter.plan.Goals as goal
 
 pub group_count-groups-requires : goal.group_count-groups-requires
@@ -16,14 +13,6 @@ group_count-groups-requires g c =
 pub loop-g-init : goal.loop-g-init
 loop-g-init g c = planned-none c.args.self.now.group_len (g.R.Records.blocks c.args.self.now.records.now) c.args.kept.now
 
-pub invariant_of-group : goal.invariant_of-group
-invariant_of-group g c =
-    let count = c.hold_group-count.ensures in
-    let now =
-    held c.args.self.now.len c.requires.0 c.grouping.ensures c.group_count-groups.ensures c.loop-g-test.true count.count count.held
-    (omega (arith, c.requires.1.records)) in
-    record { ok = window-area now }
-
 pub plan_group-bits-requires : goal.plan_group-bits-requires
 plan_group-bits-requires g c =
     let plans = c.requires.1.plans (records-few (g.R.Records.blocks c.args.self.now.records.now) c.requires.0) in
@@ -33,10 +22,8 @@ plan_group-bits-requires g c =
 pub overflow_add-bits : goal.overflow_add-bits
 overflow_add-bits g c =
     let bs = g.R.Records.blocks c.args.self.now.records.now in
-    let count = c.hold_group-count.ensures in
-    let now =
-    held c.args.self.now.len c.requires.0 c.grouping.ensures c.group_count-groups.ensures c.loop-g-test.true count.count count.held
-    (omega (arith, c.requires.1.records)) in
+    let now = held c.args.self.now.len c.requires.0 c.grouping.ensures c.group_count-groups.ensures c.loop-g-test.true
+    c.hold_group-group.ensures in
     omega (
       arith,
       more-bits now c.loop-g.invariant _ c.plan_group-bits.ensures.0,
@@ -46,10 +33,7 @@ overflow_add-bits g c =
 
 pub loop-g-preserved : goal.loop-g-preserved
 loop-g-preserved g c =
-    let bs = g.R.Records.blocks c.args.self.now.records.now in
-    let count = c.hold_group-count.ensures in
-    let plans = c.requires.1.plans (records-few bs c.requires.0) in
+    let plans = c.requires.1.plans (records-few (g.R.Records.blocks c.args.self.now.records.now) c.requires.0) in
     let now =
-    held c.args.self.now.len c.requires.0 c.grouping.ensures c.group_count-groups.ensures c.loop-g-test.true count.count count.held
-    (omega (arith, c.requires.1.records)) in
+    held c.args.self.now.len c.requires.0 c.grouping.ensures c.group_count-groups.ensures c.loop-g-test.true c.hold_group-group.ensures in
     planned-next now (omega arith) c.loop-g.invariant _ _ c.plan_group-bits.ensures

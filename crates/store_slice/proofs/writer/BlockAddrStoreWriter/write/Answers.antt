@@ -1,12 +1,11 @@
 -- `BlockAddrStoreWriter::write` meets its contract: row 9, or the header and then group after group.
-use Rattle.std.proofs.Common.{◌≤◌, ◌*◌, ◌+◌, length, ◌∙◌, arith}
-use Rattle.slope.specs.Slope.{best_slope}
+use Rattle.std.proofs.Common.{length, ◌∙◌, arith}
 use Rattle.store.specs.Store.{group_count}
 use Rattle.store.proofs.Groups.{group-count-le}
 use Rattle.store_slice.proofs.Answer.{short-answer, whole-answer}
 use Rattle.store_slice.proofs.Kept.{records-few}
 use Rattle.store_slice.proofs.Rounds.{held, few-bits, planned-length, rest-all, rest-none, rest-next}
-use Rattle.store_slice.proofs.Rounds.{window-area, standing, write-room}
+use Rattle.store_slice.proofs.Rounds.{standing, write-room}
 use Rattle.store_slice.proofs.writer.BlockAddrStoreWriter.write.Goals as goal
 
 pub group_count-groups-requires : goal.group_count-groups-requires
@@ -57,45 +56,38 @@ loop-g-init g c =
     let head = rw (c.group_count-groups.ensures, c.grouping.ensures.1, c.grouping.ensures.0) at c.serialize_u64.ensures in
     rest-all c.args.self.now.len (g.R.Records.blocks c.args.self.now.records.now) c.args.out.now c.serialize_u64.new.out head
 
-pub overflow_add-place-in-loop-g-2 : goal.overflow_add-place-in-loop-g-2
-overflow_add-place-in-loop-g-2 g c =
+pub new-place-requires : goal.new-place-requires
+new-place-requires g c =
     let bs = g.R.Records.blocks c.args.self.now.records.now in
     let groups = rw (c.grouping.ensures.1, c.grouping.ensures.0) at c.group_count-groups.ensures in
     let size = planned-length c.args.self.now.len bs groups c.requires.2 in
-    let count = c.hold_group-count.ensures in
-    let now =
-    held c.args.self.now.len c.requires.0 c.grouping.ensures c.group_count-groups.ensures c.loop-g-test.true count.count count.held
-    (omega (arith, c.requires.1)) in
-    omega (arith, groups, write-room now (omega (arith, size, c.if-out-len.false)) c.loop-g.invariant)
-
-pub invariant_of-group : goal.invariant_of-group
-invariant_of-group g c =
-    let count = c.hold_group-count.ensures in
-    let now =
-    held c.args.self.now.len c.requires.0 c.grouping.ensures c.group_count-groups.ensures c.loop-g-test.true count.count count.held
-    (omega (arith, c.requires.1)) in
-    record { ok = window-area now }
+    let now = held c.args.self.now.len c.requires.0 c.grouping.ensures c.group_count-groups.ensures c.loop-g-test.true
+    c.hold_group-group.ensures in
+    (c.loop-g-test.true, omega (arith, groups, write-room now (omega (arith, size, c.if-out-len.false)) c.loop-g.invariant))
 
 pub write_group-offset-requires : goal.write_group-offset-requires
 write_group-offset-requires g c =
     let bs = g.R.Records.blocks c.args.self.now.records.now in
     let groups = rw (c.grouping.ensures.1, c.grouping.ensures.0) at c.group_count-groups.ensures in
     let size = planned-length c.args.self.now.len bs groups c.requires.2 in
-    let count = c.hold_group-count.ensures in
-    let now =
-    held c.args.self.now.len c.requires.0 c.grouping.ensures c.group_count-groups.ensures c.loop-g-test.true count.count count.held
-    (omega (arith, c.requires.1)) in
-    rw groups (standing now c.args.kept.now c.requires.3, write-room now (omega (arith, size, c.if-out-len.false)) c.loop-g.invariant)
+    let now = held c.args.self.now.len c.requires.0 c.grouping.ensures c.group_count-groups.ensures c.loop-g-test.true
+    c.hold_group-group.ensures in
+    rw (c.new-place.ensures.1, groups) (
+      standing now c.args.kept.now c.requires.3,
+      write-room now (omega (
+        arith,
+        size,
+        c.if-out-len.false,
+      )) c.loop-g.invariant,
+    )
 
 pub overflow_add-offset : goal.overflow_add-offset
 overflow_add-offset g c =
     let bs = g.R.Records.blocks c.args.self.now.records.now in
     let groups = rw (c.grouping.ensures.1, c.grouping.ensures.0) at c.group_count-groups.ensures in
     let size = planned-length c.args.self.now.len bs groups c.requires.2 in
-    let count = c.hold_group-count.ensures in
-    let now =
-    held c.args.self.now.len c.requires.0 c.grouping.ensures c.group_count-groups.ensures c.loop-g-test.true count.count count.held
-    (omega (arith, c.requires.1)) in
+    let now = held c.args.self.now.len c.requires.0 c.grouping.ensures c.group_count-groups.ensures c.loop-g-test.true
+    c.hold_group-group.ensures in
     let room = write-room now (omega (arith, size, c.if-out-len.false)) c.loop-g.invariant in
     omega (arith, room, c.write_group-offset.ensures.0)
 
@@ -104,11 +96,15 @@ loop-g-preserved g c =
     let bs = g.R.Records.blocks c.args.self.now.records.now in
     let groups = rw (c.grouping.ensures.1, c.grouping.ensures.0) at c.group_count-groups.ensures in
     let size = planned-length c.args.self.now.len bs groups c.requires.2 in
-    let count = c.hold_group-count.ensures in
-    let now =
-    held c.args.self.now.len c.requires.0 c.grouping.ensures c.group_count-groups.ensures c.loop-g-test.true count.count count.held
-    (omega (arith, c.requires.1)) in
-    rest-next now (omega (arith, size, c.if-out-len.false)) c.loop-g.invariant _ _ (rw groups at c.write_group-offset.ensures)
+    let now = held c.args.self.now.len c.requires.0 c.grouping.ensures c.group_count-groups.ensures c.loop-g-test.true
+    c.hold_group-group.ensures in
+    let place = c.new-place.ensures in
+    rest-next now (omega (arith, size, c.if-out-len.false)) c.loop-g.invariant _ _ (rw (
+      place.0,
+      place.1,
+      place.2,
+      groups,
+    ) at c.write_group-offset.ensures)
 
 pub returns-clause-stored : goal.returns-clause-stored
 returns-clause-stored g c =
