@@ -48,7 +48,13 @@ module _ (S : Settings) (s : SSTableIndexBuilder) (B K : List ℕ) where
       finish-taken out' total directory h e f g = rw (listed, le-ltb (length out) (length (area_index S s B K)) h, e, f, g)
 
       -- with 0 or 1 blocks there is nothing to write
-      pub finish-none : length (area_index S s B K) ≤ length out → s.n < 2 → ◌≡◌ {A = Finish} (record { no = 0; builder = s; out = out; total = 0; directory = 0 }) (finish_def S s B K out)
+      pub finish-none : length (area_index S s B K) ≤ length out → s.n < 2 → ◌≡◌ {A = Finish} (record {
+        no = 0;
+        builder = s;
+        out = out;
+        total = 0;
+        directory = 0;
+      }) (finish_def S s B K out)
       finish-none h few =
           finish-taken out 0 0 h (rw (index-none S s B K few)) (rw (index-none S s B K few)) (rw (directory-none s B K few))
 

@@ -4,7 +4,7 @@ use mathlib.Core.Path.{◌≡◌, ap, ◌∙◌}
 use mathlib.Core.List.{List, [], ◌++◌}
 use native.Mathlib.Nat.{add-zero, zero-add}
 use native.Mathlib.Omega.{arith}
-use lib.ListN.{length, take, drop, length-drop}
+use lib.ListN.{length, take, drop}
 use lib.Seq.{sets}
 use borrow.Author.Tests.{lt-ltb, le-ltb}
 use borrow.Rule.Slice.PartMut.{put_mid}
@@ -13,15 +13,16 @@ use Rattle.serialize.proofs.Stores.{sets-append, sets-in-part}
 use Rattle.slope.proofs.Widths.{best_slope-lt}
 use Rattle.group.specs.Blocks.{blocks_at}
 use Rattle.directory.specs.Directory.{directory_bytes}
+-- what is left of the output after a place, for those above who cite this file
+pub use Rattle.directory.proofs.Written.{length_rest}
 use Rattle.directory.proofs.Lengths.{length-keys_at-directory, length-keys_at-bytes-le}
 use Rattle.store.specs.Store.{store_bytes}
 use Rattle.store.specs.Facts.{GroupLenOk}
 use Rattle.store.proofs.Groups.{group-count-le}
-use Rattle.store.proofs.Lookup.{rest_part}
 use Rattle.store.proofs.Stored.{length-store-area, store-addrs-le}
 use Rattle.builder.specs.View.{stride}
 use Rattle.builder.specs.Area.{key_field, area_view}
-use Rattle.builder.specs.Index.{Settings, SettingsOk, settings_of, standard, index_bytes}
+use Rattle.builder.specs.Index.{Settings, SettingsOk, settings_of, index_bytes}
 use Rattle.builder.specs.Finish.{area_keys, area_directory, area_index}
 use Rattle.builder.specs.declared.SSTableIndexBuilder.{SSTableIndexBuilder}
 use Rattle.builder.proofs.Row8.{ListOk, keys-area, store-area}
@@ -30,9 +31,6 @@ use Rattle.builder.proofs.IndexBytes.{length-index_bytes}
 -- the settings in use
 pub settings-ok : (L : ℕ) → GroupLenOk L → SettingsOk (settings_of L)
 settings-ok L group = record { slopes = best_slope-lt; group = group }
-
-pub standard-ok : SettingsOk standard
-standard-ok = settings-ok 128 (record { some = omega arith; few = omega arith })
 
 module _ (b : SSTableIndexBuilder) (B K : List ℕ) where
   abbrev pub directory_of : List ℕ
@@ -79,10 +77,6 @@ module _ (S : Settings) (b : SSTableIndexBuilder) (B K : List ℕ) where
         store-addrs-le S.choose set.slopes (store-area b.n B K ok) set.group,
         group-count-le set.group.some b.n,
       )
-
--- what is left of the output after a place
-pub length_rest : (out : List ℕ) (to : ℕ) → length (take (length out - to) (drop to out)) ≡ length out - to
-length_rest out to = ap length (rest_part out to) ∙ length-drop to out
 
 -- the parts of an index: the second written into what is left of the output after the first, the third after both
 pub index-written : (d s out a p w : List ℕ) (x y : ℕ) → x ≡ length d → y ≡ length s

@@ -9,7 +9,7 @@ use lib.ListN.{length}
 use lib.Seq.{sets}
 use borrow.Author.Tests.{eqb-false, ltb-false, lt-ltb, le-ltb, not-false}
 use Rattle.layout.specs.Layout.{max_blocks, max_key_len}
-use Rattle.serialize.proofs.Tests.{neither}
+use Rattle.std.proofs.lemmas.Bool.{or_parts}
 use Rattle.keys.proofs.Order.{by-test}
 use Rattle.keys.specs.Order.{less, ◌≺◌}
 use Rattle.group.specs.declared.BlockAddr.{BlockAddr}
@@ -76,10 +76,6 @@ module _ (v : View) (key : List ℕ) (b : BlockAddr) where
   unfolding add_no
   add-first k e h = row-one v k _ e h
 
-  pub add-area : area_bad v ≡ true → 1 ≡ add_no v key b
-  unfolding add_no
-  add-area e = simp e
-
   module _ (area : area_bad v ≡ false) (k : ℕ) (e : k ≡ block_no v key key b) where
     pub add-block : 0 < k → k ≡ add_no v key b
     unfolding add_no
@@ -97,10 +93,6 @@ module _ (v : View) (next : List ℕ) where
   pub shorten-first : (k : ℕ) → k ≡ cond (area_bad v) 1 0 → 0 < k → k ≡ shorten_no v next
   unfolding shorten_no
   shorten-first k e h = row-one v k _ e h
-
-  pub shorten-area : area_bad v ≡ true → 1 ≡ shorten_no v next
-  unfolding shorten_no
-  shorten-area e = simp e
 
   module _ (area : area_bad v ≡ false) (k : ℕ) (e : k ≡ key_no next) where
     pub shorten-key : 0 < k → k ≡ shorten_no v next
@@ -195,8 +187,8 @@ pub record RoomOk (v : View) (key : List ℕ) : Type 0 where
 pub room-ok : (v : View) (key : List ℕ) → room_bad v key ≡ false → RoomOk v key
 unfolding room_bad
 room-ok v key e =
-    let p = neither (eqb v.n max_blocks) (ltb v.room (stride * v.n + stride) || ltb v.key_room (v.next_key + length key)) e in
-    let q = neither (ltb v.room (stride * v.n + stride)) (ltb v.key_room (v.next_key + length key)) p.1 in
+    let p = or_parts (eqb v.n max_blocks) (ltb v.room (stride * v.n + stride) || ltb v.key_room (v.next_key + length key)) e in
+    let q = or_parts (ltb v.room (stride * v.n + stride)) (ltb v.key_room (v.next_key + length key)) p.1 in
     record {
       few = eqb-false v.n max_blocks p.0;
       five = ltb-false v.room (stride * v.n + stride) q.0;

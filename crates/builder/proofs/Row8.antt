@@ -9,7 +9,7 @@ use lib.Dec.{eqb}
 use lib.ListN.{length, length-take, length-drop}
 use borrow.Author.Tests.{eqb-true, eqb-false, eq-eqb, ne_eqb, not-false}
 use Rattle.layout.specs.Layout.{max_key_len}
-use Rattle.serialize.proofs.Tests.{neither}
+use Rattle.std.proofs.lemmas.Bool.{or_parts, or_left, or_right}
 use Rattle.keys.proofs.Order.{by-test}
 use Rattle.group.specs.Legal.{Follows}
 use Rattle.directory.specs.Facts.{KeysArea}
@@ -20,16 +20,9 @@ use Rattle.builder.specs.Area.{key_field, area_block, area_place, area_key, area
 use Rattle.builder.specs.Finish.{place_bad, rule_bad, places_bad, rules_bad, list_no}
 use Rattle.builder.specs.declared.SSTableIndexBuilder.{SSTableIndexBuilder}
 use Rattle.builder.proofs.Numbers.{row-one, BlockOk, block-ok}
-use Rattle.builder.proofs.Views.{record-ok, none-ok, area-ok, next-some, last_some, last-place}
+use Rattle.builder.proofs.Views.{record-ok, none-ok, area-ok, next-some, last_some}
 
 -- ---- a test of every block
-
-or_left : (a b : Bool) → a ≡ true → (a || b) ≡ true
-or_left a b e = simp e
-
-or_right : (a b : Bool) → b ≡ true → (a || b) ≡ true
-or_right true b e = refl
-or_right false b e = e
 
 module _ (bad test : ℕ → Bool) (turn : (m : ℕ) → bad (suc m) ≡ (bad m || test m)) where
   some-hit : (m n : ℕ) → m < n → test m ≡ true → bad n ≡ true
@@ -60,12 +53,6 @@ module _ (B K : List ℕ) where
 
   pub next_one : (m : ℕ) → (area_view (m + 1) B K).next_key ≡ (area_place B m).offset + (area_place B m).len
   next_one m = rw (add-one m) (next-suc m)
-
-  -- the key of block m stands in the key area, where the blocks up to it keep row 1
-  pub place-one : (m : ℕ) → AreaOk (area_view (m + 1) B K) → RecordOk (length K) (area_place B m)
-  place-one m ok =
-      let one : m + 1 - 1 ≡ m = omega arith in
-      rw one at (last-place (m + 1) B K ok (λ z. omega arith))
 
   pub last-suc : (m : ℕ) → (area_view (suc m) B K).last ≡ area_block B m
   last-suc m =
@@ -98,7 +85,7 @@ module _ (B K : List ℕ) where
       → ((area_place B i).offset ≡ (area_view i B K).next_key) × RecordOk (length K) (area_place B i)
   unfolding places_bad
   places-at n f i h =
-      let p = neither _ _ (none-at (λ (k : ℕ). places_bad k B K) (λ (k : ℕ). place_bad k B K) (λ k. refl) n f i h) in
+      let p = or_parts _ _ (none-at (λ (k : ℕ). places_bad k B K) (λ (k : ℕ). place_bad k B K) (λ k. refl) n f i h) in
       (eqb-true (area_place B i).offset (area_view i B K).next_key (not-false _ p.0), record-ok (length K) (area_place B i) p.1)
 
   -- ---- rows 2 to 6
@@ -154,17 +141,13 @@ list-ok b B K e =
     (λ t. by-test (places_bad b.n B K || rules_bad b.n B K)
     (λ u. absurd (let z : ◌≡◌ {A = ℕ} 8 0 = simp (t, u) at e in omega arith))
     (λ u.
-    let p = neither (places_bad b.n B K) (rules_bad b.n B K) u in
+    let p = or_parts (places_bad b.n B K) (rules_bad b.n B K) u in
     record { area = area-ok (view_of b B K) t; places = p.0; rules = p.1 }))
 
 module _ (b : SSTableIndexBuilder) (B K : List ℕ) where
   pub list-first : (k : ℕ) → k ≡ cond (area_bad (view_of b B K)) 1 0 → 0 < k → k ≡ list_no b B K
   unfolding list_no
   list-first k e h = row-one (view_of b B K) k _ e h
-
-  pub list-area : area_bad (view_of b B K) ≡ true → 1 ≡ list_no b B K
-  unfolding list_no
-  list-area e = simp e
 
   pub list-places : area_bad (view_of b B K) ≡ false → places_bad b.n B K ≡ true → 8 ≡ list_no b B K
   unfolding list_no

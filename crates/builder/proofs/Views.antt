@@ -1,14 +1,14 @@
 -- Row 1 as a test and as facts, and what the areas show of the last block.
 use Prim.Native.Nat.{ℕ, ◌+◌, ◌-◌, ◌*◌, ◌≤◌, ◌<◌}
 use mathlib.Core.Path.{◌≡◌}
-use mathlib.Core.List.{List}
+use mathlib.Core.List.{List, []}
 use mathlib.Core.Bool.{true, false, ◌||◌}
 use native.Mathlib.Omega.{arith}
 use lib.Dec.{eqb, ltb}
 use lib.ListN.{length}
 use borrow.Author.Tests.{eqb-true, eqb-false, eq-eqb, ne_eqb, lt-ltb, le-ltb, ltb-true, ltb-false}
 use Rattle.layout.specs.Layout.{max_blocks}
-use Rattle.serialize.proofs.Tests.{neither}
+use Rattle.std.proofs.lemmas.Bool.{or_parts}
 use Rattle.keys.proofs.Order.{by-test}
 use Rattle.builder.specs.View.{stride, KeyPlace, missing_place, View}
 use Rattle.builder.specs.Rows.{record_bad, RecordOk, area_bad, AreaOk, room_bad}
@@ -32,15 +32,6 @@ module _ (room : ℕ) (place : KeyPlace) where
   unfolding record_bad
   record-good k = le-ltb room (place.offset + place.len) k.within
 
-  -- the tests, as the code tries them
-  pub record-beyond : room < place.offset → true ≡ record_bad room place
-  unfolding record_bad
-  record-beyond h = simp (lt-ltb room (place.offset + place.len) (omega arith))
-
-  pub record-last : place.offset ≤ room → ltb (room - place.offset) place.len ≡ record_bad room place
-  unfolding record_bad
-  record-last h = ltb-sub room place.offset place.len h
-
 pub none-ok : (room : ℕ) → RecordOk room missing_place
 none-ok room = record { within = omega arith }
 
@@ -49,8 +40,8 @@ none-ok room = record { within = omega arith }
 pub area-ok : (v : View) → area_bad v ≡ false → AreaOk v
 unfolding area_bad
 area-ok v e =
-    let p = neither (ltb max_blocks v.n) (ltb v.room (stride * v.n) || record_bad v.key_room v.place) e in
-    let q = neither (ltb v.room (stride * v.n)) (record_bad v.key_room v.place) p.1 in
+    let p = or_parts (ltb max_blocks v.n) (ltb v.room (stride * v.n) || record_bad v.key_room v.place) e in
+    let q = or_parts (ltb v.room (stride * v.n)) (record_bad v.key_room v.place) p.1 in
     record {
       few = ltb-false max_blocks v.n p.0;
       inside = ltb-false v.room (stride * v.n) q.0;
@@ -96,9 +87,9 @@ module _ (n : ℕ) (B K : List ℕ) where
   unfolding area_view
   next-none h = simp (eq-eqb n 0 h)
 
-  pub last_none : n ≡ 0 → (area_view n B K).last ≡ record { start = 0; end = 0; first_ordinal = 0 }
+  pub key-none : n ≡ 0 → (area_view n B K).last_key ≡ []
   unfolding area_view
-  last_none h = simp (eq-eqb n 0 h)
+  key-none h = simp (eq-eqb n 0 h)
 
   -- a last block
   pub next-some : (n ≡ 0 → ⊥) → (area_view n B K).next_key ≡ (area_place B (n - 1)).offset + (area_place B (n - 1)).len

@@ -8,8 +8,9 @@ ghost use Rattle.builder.specs.Calls.{builder_of, handed_back, answer_no, answer
 
 use layout::refusals::Refusal;
 
-// How many blocks the areas have.
-#[derive(Clone, Copy)]
+// How many blocks the areas have. The areas stay the caller's and go beside it, as C hands them: the library has no heap. The default
+// is fresh.
+#[derive(Clone, Copy, Default)]
 pub struct SSTableIndexBuilder {
     pub n: usize,
 }
@@ -34,24 +35,22 @@ impl SSTableIndexBuilder {
     pub fn new(n: usize) -> SSTableIndexBuilder
         ensures { result ≡ builder_of n }
     {
-        SSTableIndexBuilder { n: n }
+        SSTableIndexBuilder { n }
     }
 
     // An answer whose refusal hands this builder back.
     pub fn hand_back<T: Drop>(self, answer: Result<T, Refusal>) -> Result<T, Refused>
         ensures { result ≡ handed_back self answer }
     {
-        match answer {
-            Ok(taken) => Ok(taken),
-            Err(refusal) => Err(Refused {
-                refusal,
-                builder: self,
-            }),
-        }
+        answer.map_err(|refusal| Refused {
+            refusal,
+            builder: self,
+        })
     }
 }
 
-// An answer's number, 0 where the call is taken, and the builder that it hands back in either case.
+// An answer's number, 0 where the call is taken, and the builder that it hands back in either case. A match: both sides give a pair, and
+// map_or_else would take two closures for the same two lines.
 pub fn number_and_builder(
     answer: Result<SSTableIndexBuilder, Refused>,
 ) -> (u32, SSTableIndexBuilder)

@@ -1,5 +1,6 @@
-// A block's record in the area: start, end and first ordinal as group::area has them, then the key's offset and length.
-ghost use Rattle.std.specs.Prelude.{◌≡◌, ◌+◌, ◌*◌, ◌≤◌, length};
+// A block's record in the area: start, end and first ordinal as group::area has them, then the key's offset and length. It stays five
+// numbers of an area that C lends, and the key a part of another: the library has no heap.
+ghost use Rattle.std.specs.Prelude.{◌≡◌, ◌+◌, ◌*◌, ◌≤◌, length, take, drop};
 ghost use Rattle.builder.specs.View.{stride};
 ghost use Rattle.builder.specs.Area.{area_place};
 
@@ -14,6 +15,18 @@ pub const KEY_LEN: usize = 4;
 pub struct KeyPlace {
     pub offset: u64,
     pub len: u64,
+}
+
+impl KeyPlace {
+    // The key that stands there.
+    #[inline(always)]
+    pub fn key<'a>(self, keys: &'a [u8]) -> &'a [u8]
+        requires { self.offset + self.len ≤ length keys.now }
+        ensures { result.now ≡ take self.len (drop self.offset keys.now) }
+    {
+        let from = self.offset as usize;
+        &keys[from..from + self.len as usize]
+    }
 }
 
 // Where the key of block i stands.

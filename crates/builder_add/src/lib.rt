@@ -1,4 +1,5 @@
-// Adding a block and shortening the last key. The builder goes in by value, and comes back inside the answer.
+// Adding a block and shortening the last key. The builder goes in by value, and comes back inside the answer. Builder, blocks and keys
+// stay three parameters here and in other crates: C hands them so, and both areas are written.
 #![tactic(auto)]
 
 mod add;

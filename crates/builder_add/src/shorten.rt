@@ -11,6 +11,7 @@ use builder_rows::{Areas, check_key};
 use layout::refusals::Refusal;
 
 // Shortens the last key in place, and its length in the last record, for every next key with which it has `common` bytes in common.
+// The key is lent mutably, so not by `KeyPlace::key`.
 #[tactic(auto, unfolding(builder::specs::Area::area_view))]
 fn shorten_last(builder: SSTableIndexBuilder, blocks: &mut [u64], keys: &mut [u8], common: usize)
     requires { AreaOk (view_of builder blocks.old keys.old)

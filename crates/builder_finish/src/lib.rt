@@ -13,8 +13,7 @@ use builder_list::CheckedList;
 use layout::STORE_BLOCK_LEN;
 use layout::refusals::Refusal;
 
-// As many blocks make 8 groups at most: their plans take a small area, so that a short list doesn't clear the large one. Two sizes
-// written out: a function with a const parameter would take more lines than the second size does.
+// As many blocks make 8 groups at most: their plans take a small area, so that a short list doesn't clear the large one.
 const FEW_BLOCKS: usize = 1_024;
 
 // Finishes the areas, if no row is hit.
@@ -29,11 +28,10 @@ fn finish_areas(
 {
     let list = CheckedList::check(builder, blocks, keys)?;
     if builder.n <= FEW_BLOCKS {
-        let mut kept = [0u64; 16];
-        return write::finish_with(&list, STORE_BLOCK_LEN, &mut kept, out);
+        write::finish_with::<16>(&list, STORE_BLOCK_LEN, out)
+    } else {
+        write::finish_with::<1_024>(&list, STORE_BLOCK_LEN, out)
     }
-    let mut kept = [0u64; 1_024];
-    write::finish_with(&list, STORE_BLOCK_LEN, &mut kept, out)
 }
 
 // Writes the index from the front of `out` on: the Rust's `serialize`.
@@ -60,9 +58,8 @@ pub fn finish_len(
 {
     let list = CheckedList::check(builder, blocks, keys)?;
     if builder.n <= FEW_BLOCKS {
-        let mut kept = [0u64; 16];
-        return Ok(write::plan_index(&list, STORE_BLOCK_LEN, &mut kept));
+        Ok(write::index_len::<16>(&list, STORE_BLOCK_LEN))
+    } else {
+        Ok(write::index_len::<1_024>(&list, STORE_BLOCK_LEN))
     }
-    let mut kept = [0u64; 1_024];
-    Ok(write::plan_index(&list, STORE_BLOCK_LEN, &mut kept))
 }

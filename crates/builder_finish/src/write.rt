@@ -77,19 +77,30 @@ pub fn write_index(list: &CheckedList, group_len: usize, kept: &[u64], out: &mut
     directory
 }
 
-// Finishes a list; `kept` has room for the plans.
-pub fn finish_with(
+// How many bytes the index takes, with an area of K numbers for the plans. Its length is fixed here and below, since the library has no
+// heap; who has few blocks chooses a small one, which takes less time to clear.
+pub fn index_len<const K: usize>(list: &CheckedList, group_len: usize) -> usize
+    requires { GroupLenOk group_len × (2 * group_count group_len list.now.areas.builder.n ≤ K) × (K ≤ 1024) }
+    ensures { result
+        ≡ length (area_index (settings_of group_len) list.now.areas.builder list.now.areas.blocks.now list.now.areas.keys.now) }
+{
+    let mut kept = [0u64; K];
+    plan_index(list, group_len, &mut kept)
+}
+
+// Finishes a list, with such an area.
+pub fn finish_with<const K: usize>(
     list: &CheckedList,
     group_len: usize,
-    kept: &mut [u64],
     out: &mut [u8],
 ) -> Result<Written, Refusal>
-    requires { GroupLenOk group_len × (2 * group_count group_len list.now.areas.builder.n ≤ length kept.old) }
+    requires { GroupLenOk group_len × (2 * group_count group_len list.now.areas.builder.n ≤ K) × (K ≤ 1024) }
     ensures { finish_of (handed_back list.now.areas.builder result) out.new
         ≡ finish_def (settings_of group_len) list.now.areas.builder list.now.areas.blocks.now list.now.areas.keys.now out.old }
 {
     let builder = list.areas.builder;
-    let total = plan_index(list, group_len, kept);
+    let mut kept = [0u64; K];
+    let total = plan_index(list, group_len, &mut kept);
     if out.len() < total {
         return Err(Refusal::OutShort);
     }
@@ -100,7 +111,7 @@ pub fn finish_with(
             directory_len: 0,
         });
     }
-    let directory_len = write_index(list, group_len, kept, out);
+    let directory_len = write_index(list, group_len, &kept, out);
     Ok(Written {
         builder,
         total,

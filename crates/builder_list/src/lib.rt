@@ -1,10 +1,12 @@
 // Rows 1 and 8: what a finish asks of the areas.
 #![tactic(auto)]
 
-ghost use Rattle.std.specs.Prelude.{◌≡◌, ◌+◌, false, IfOk};
+ghost use Rattle.std.specs.Prelude.{◌≡◌, ◌+◌, ◌*◌, ◌<◌, ◌≤◌, ◌||◌, not, eqb, true, false, length, IfOk, MatchOption};
 ghost use Rattle.layout.specs.Refusals.{no_of};
-ghost use Rattle.builder.specs.Rows.{AreaOk};
-ghost use Rattle.builder.specs.Area.{area_view};
+ghost use Rattle.layout.specs.Layout.{max_blocks};
+ghost use Rattle.builder.specs.View.{stride};
+ghost use Rattle.builder.specs.Rows.{AreaOk, record_bad};
+ghost use Rattle.builder.specs.Area.{area_view, area_place};
 ghost use Rattle.builder.specs.Finish.{rule_bad, places_bad, rules_bad, list_no};
 
 use builder::SSTableIndexBuilder;
@@ -25,18 +27,21 @@ pub struct CheckedList<'a> {
 fn places_bad(areas: &Areas) -> bool
     ensures { result ≡ places_bad areas.now.builder.n areas.now.blocks.now areas.now.keys.now }
 {
-    let mut next: u64 = 0;
-    for i in 0..areas.builder.n {
-        let place = place_at(areas.blocks, i);
-        if place.offset != next {
-            return true;
-        }
-        if record_bad(i, areas.blocks, areas.keys) {
-            return true;
-        }
-        next += place.len;
-    }
-    false
+    let (blocks, keys) = (areas.blocks, areas.keys);
+    (0..areas.builder.n)
+        .try_fold(
+            0,
+            |next: u64, i: usize|
+                requires { (i < max_blocks) × (stride * i + stride ≤ length blocks.now) }
+            {
+                let place = place_at(blocks, i);
+                if place.offset != next || record_bad(i, blocks, keys) {
+                    return None;
+                }
+                Some(next + place.len)
+            },
+        )
+        .is_none()
 }
 
 // Whether block i breaks rows 2 to 6 after the i blocks before it.
@@ -46,9 +51,7 @@ fn rule_bad(i: usize, blocks: &[u64], keys: &[u8]) -> bool
     ensures { result ≡ rule_bad i blocks.now keys.now }
 {
     let block = block_at(blocks, STRIDE * i);
-    let place = place_at(blocks, i);
-    let from = place.offset as usize;
-    let key = &keys[from..from + place.len as usize];
+    let key = place_at(blocks, i).key(keys);
     let before = Areas {
         builder: SSTableIndexBuilder::new(i),
         blocks,
@@ -62,22 +65,14 @@ fn rules_bad(areas: &Areas) -> bool
     requires { places_bad areas.now.builder.n areas.now.blocks.now areas.now.keys.now ≡ false }
     ensures { result ≡ rules_bad areas.now.builder.n areas.now.blocks.now areas.now.keys.now }
 {
-    for m in 0..areas.builder.n {
-        if rule_bad(m, areas.blocks, areas.keys) {
-            return true;
-        }
-    }
-    false
+    (0..areas.builder.n).any(|m| rule_bad(m, areas.blocks, areas.keys))
 }
 
 // Row 8.
 fn check_list(areas: &Areas) -> Result<(), Refusal>
     ensures { no_of result ≡ list_no areas.now.builder areas.now.blocks.now areas.now.keys.now }
 {
-    if places_bad(areas) {
-        return Err(Refusal::ListBad);
-    }
-    if rules_bad(areas) {
+    if places_bad(areas) || rules_bad(areas) {
         return Err(Refusal::ListBad);
     }
     Ok(())

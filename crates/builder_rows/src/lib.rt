@@ -1,7 +1,7 @@
 // Rows 1 to 7 of the table.
 #![tactic(auto)]
 
-ghost use Rattle.std.specs.Prelude.{◌≡◌, ◌+◌, ◌*◌, ◌≤◌, ◌<◌, cond, length, IfOk, MatchOption};
+ghost use Rattle.std.specs.Prelude.{◌≡◌, ◌+◌, ◌-◌, ◌*◌, ◌≤◌, ◌<◌, cond, length, IfOk, MatchOption};
 ghost use Rattle.layout.specs.Layout.{max_blocks};
 ghost use Rattle.layout.specs.Refusals.{no_of};
 ghost use Rattle.keys.specs.Order.{common_prefix_len};
@@ -10,13 +10,14 @@ ghost use Rattle.builder.specs.Rows.{record_bad, area_bad, AreaOk, key_no, key_b
 ghost use Rattle.builder.specs.Area.{area_place, view_of};
 
 use builder::SSTableIndexBuilder;
-use builder::record::{STRIDE, place_at};
+use builder::record::{KeyPlace, STRIDE, place_at};
 use group::BlockAddr;
 use group::area::block_at;
 use layout::refusals::Refusal;
-use layout::{MAX_BLOCKS, MAX_KEY_LEN};
+use layout::{MAX_BLOCKS, MAX_KEY_LEN, ends_beyond};
 
-// A builder with the areas lent to it, which don't hit row 1.
+// A builder with the areas lent to it, which don't hit row 1. Functions that are to make one, here and in other crates, take the three
+// apart, as C hands them.
 #[derive(Clone, Copy)]
 pub struct Areas<'a> {
     pub builder: SSTableIndexBuilder,
@@ -26,16 +27,13 @@ pub struct Areas<'a> {
 }
 
 // Whether the key of record i ends beyond the key area.
+#[tactic(auto, unfolding(builder::specs::Rows::record_bad))]
 pub fn record_bad(i: usize, blocks: &[u64], keys: &[u8]) -> bool
     requires { (i < max_blocks) × (stride * i + stride ≤ length blocks.now) }
     ensures { result ≡ record_bad (length keys.now) (area_place blocks.now i) }
 {
     let place = place_at(blocks, i);
-    let room = keys.len() as u64;
-    if place.offset > room {
-        return true;
-    }
-    place.len > room - place.offset
+    ends_beyond(place.offset, place.len, keys.len() as u64)
 }
 
 // Row 1: whether the builder's count and its last record don't fit the areas.
@@ -43,16 +41,7 @@ pub fn area_bad(builder: SSTableIndexBuilder, blocks: &[u64], keys: &[u8]) -> bo
     ensures { result ≡ area_bad (view_of builder blocks.now keys.now) }
 {
     let n = builder.n;
-    if n > MAX_BLOCKS {
-        return true;
-    }
-    if STRIDE * n > blocks.len() {
-        return true;
-    }
-    if n == 0 {
-        return false;
-    }
-    record_bad(n - 1, blocks, keys)
+    n > MAX_BLOCKS || STRIDE * n > blocks.len() || (n > 0 && record_bad(n - 1, blocks, keys))
 }
 
 // The rows on a key alone.
@@ -87,38 +76,41 @@ impl<'a> Areas<'a> {
         })
     }
 
+    // Where the last block's key stands, if there is a block.
+    #[tactic(auto, unfolding(builder::specs::Area::area_view))]
+    fn last_place(&self) -> Option<KeyPlace>
+        ensures { MatchOption result ((shown self.now).n ≡ 0)
+            (λ place. (0 < (shown self.now).n) × (place ≡ (shown self.now).place)
+            × (place.offset + place.len ≤ length self.now.keys.now)) }
+    {
+        let last = self.builder.n.checked_sub(1)?;
+        Some(place_at(self.blocks, last))
+    }
+
     // Where the next key goes.
     #[tactic(auto, unfolding(builder::specs::Area::area_view))]
     pub fn next_key(&self) -> usize
         ensures { result ≡ (shown self.now).next_key }
     {
-        let n = self.builder.n;
-        if n == 0 {
-            return 0;
-        }
-        let place = place_at(self.blocks, n - 1);
-        place.offset as usize + place.len as usize
+        self.last_place()
+            .map_or(0, |place| place.offset as usize + place.len as usize)
     }
 
-    // The last separator; empty where there is no block.
+    // The last separator, if there is a block.
     #[tactic(auto, unfolding(builder::specs::Area::area_view))]
-    fn last_key(&self) -> &'a [u8]
-        ensures { result.now ≡ (shown self.now).last_key }
+    fn last_key(&self) -> Option<&'a [u8]>
+        ensures { MatchOption result ((shown self.now).n ≡ 0)
+            (λ key. (0 < (shown self.now).n) × (key.now ≡ (shown self.now).last_key)) }
     {
-        let n = self.builder.n;
-        if n == 0 {
-            return &self.keys[..0];
-        }
-        let place = place_at(self.blocks, n - 1);
-        let offset = place.offset as usize;
-        &self.keys[offset..offset + place.len as usize]
+        Some(self.last_place()?.key(self.keys))
     }
 
     // How many bytes the last separator and a key have in common.
     pub fn common_len(&self, key: &[u8]) -> usize
         ensures { result ≡ common_prefix_len (shown self.now).last_key key.now }
     {
-        keys::common_prefix_len(self.last_key(), key)
+        self.last_key()
+            .map_or(0, |last| keys::common_prefix_len(last, key))
     }
 
     // Row 6, where the last separator and the key have `common` bytes in common.
@@ -126,17 +118,17 @@ impl<'a> Areas<'a> {
         requires { common ≡ common_prefix_len (shown self.now).last_key key.now }
         ensures { result ≡ key_bad (shown self.now) key.now }
     {
-        if self.builder.n == 0 {
-            return false;
-        }
-        !keys::lt_behind(self.last_key(), key, common)
+        self.last_key()
+            .is_some_and(|last| !keys::lt_behind(last, key, common))
     }
 
     // Row 6: whether a key isn't above the last separator. By runs: a finish asks it of every block, and long keys may share much.
     fn key_bad(&self, key: &[u8]) -> bool
         ensures { result ≡ key_bad (shown self.now) key.now }
     {
-        let common = keys::common_prefix_len_by_runs(self.last_key(), key, 0);
+        let common = self
+            .last_key()
+            .map_or(0, |last| keys::common_prefix_len_by_runs(last, key, 0));
         self.key_bad_behind(key, common)
     }
 
@@ -145,14 +137,12 @@ impl<'a> Areas<'a> {
     fn last_block(&self) -> Option<BlockAddr>
         ensures { MatchOption result ((shown self.now).n ≡ 0) (λ last. (0 < (shown self.now).n) × (last ≡ (shown self.now).last)) }
     {
-        let n = self.builder.n;
-        if n == 0 {
-            return None;
-        }
-        Some(block_at(self.blocks, STRIDE * (n - 1)))
+        let last = self.builder.n.checked_sub(1)?;
+        Some(block_at(self.blocks, STRIDE * last))
     }
 
-    // Rows 2 to 6 for a block after the builder's blocks, with its key as given and its separator.
+    // Rows 2 to 6 for a block after the builder's blocks, with its key as given and its separator: two keys, as the rows have them, row 2
+    // of the one given and row 6 of the separator.
     pub fn check_block(&self, given: &[u8], key: &[u8], block: BlockAddr) -> Result<(), Refusal>
         ensures { no_of result ≡ block_no (shown self.now) given.now key.now block }
     {
@@ -180,13 +170,9 @@ impl<'a> Areas<'a> {
         ensures { result ≡ room_bad (shown self.now) key.now }
     {
         let n = self.builder.n;
-        if n == MAX_BLOCKS {
-            return true;
-        }
-        if self.blocks.len() < STRIDE * n + STRIDE {
-            return true;
-        }
-        self.keys.len() - self.next_key() < key.len()
+        n == MAX_BLOCKS
+            || self.blocks.len() < STRIDE * n + STRIDE
+            || self.keys.len() - self.next_key() < key.len()
     }
 
     // Rows 2 to 7 for an add.

@@ -17,7 +17,8 @@ module _ (area : List ℕ) (stride field : ℕ) (keys : List ℕ) where
   length-keys_at i (suc count) = ap suc (length-keys_at (suc i) count)
 
   -- key j of those from key i on is key i + j
-  pub keys_at-at : (i count j : ℕ) → j < count → get_or (keys_at area stride field keys i count) j [] ≡ key_at area stride field keys (i + j)
+  pub keys_at-at : (i count j : ℕ) → j < count
+      → get_or (keys_at area stride field keys i count) j [] ≡ key_at area stride field keys (i + j)
   unfolding keys_at
   keys_at-at i zero j h = absurd (not-suc-le-zero h)
   keys_at-at i (suc count) zero h = rw (add-zero i) refl

@@ -28,7 +28,8 @@ pub length-directory_bytes : (keys : List (List ℕ)) → length (directory_byte
 unfolding directory_bytes
 length-directory_bytes keys = simp (length-append, length-digits_of, length_pairs) (omega arith)
 
-pub length-key_bytes-le : (keys : List (List ℕ)) → ((i : ℕ) → i < length keys → length (get_or keys i []) ≤ 1024) → length (key_bytes keys) ≤ 1024 * length keys
+pub length-key_bytes-le : (keys : List (List ℕ)) → ((i : ℕ) → i < length keys → length (get_or keys i []) ≤ 1024)
+    → length (key_bytes keys) ≤ 1024 * length keys
 unfolding key_bytes
 length-key_bytes-le [] h = omega arith
 length-key_bytes-le (key ∷ keys) h =
@@ -50,12 +51,22 @@ pub length-key_bytes-suc : (keys : List (List ℕ)) (i : ℕ) → i < length key
     → length (key_bytes (take (suc i) keys)) ≡ length (key_bytes (take i keys)) + length (get_or keys i [])
 unfolding key_bytes
 length-key_bytes-suc keys i h =
-    rw (take-suc keys i [] h, key_bytes-append (take i keys) (get_or keys i [] ∷ []), append-nil (get_or keys i [])) (length-append (key_bytes (take i keys)) (get_or keys i []))
+    rw (
+      take-suc keys i [] h,
+      key_bytes-append (take i keys) (get_or keys i [] ∷ []),
+      append-nil (get_or keys i []),
+    ) (length-append (key_bytes (take i keys)) (get_or keys i []))
 
 -- an offset is at most 65,536 keys of 1,024 bytes
 pub offset-le : (keys : List (List ℕ)) (i : ℕ) → Bounded keys → length (key_bytes (take i keys)) ≤ 67108864
 offset-le keys i b =
-    omega (arith, ap length (key_bytes-split keys i), length-append (key_bytes (take i keys)) (key_bytes (drop i keys)), length-key_bytes-le keys b.short, b.few)
+    omega (
+      arith,
+      ap length (key_bytes-split keys i),
+      length-append (key_bytes (take i keys)) (key_bytes (drop i keys)),
+      length-key_bytes-le keys b.short,
+      b.few,
+    )
 
 -- the keys of lent areas are such keys
 module _ (area : List ℕ) (stride field : ℕ) (keys : List ℕ) (n : ℕ) where
@@ -64,12 +75,18 @@ module _ (area : List ℕ) (stride field : ℕ) (keys : List ℕ) (n : ℕ) wher
     few = rw (length-keys_at area stride field keys 0 n) ok.few;
     short = λ i l.
         let h : i < n = rw (length-keys_at area stride field keys 0 n) at l in
-        rw (keys_at-at area stride field keys 0 n i h, zero-add i) (omega (arith, length-key_at area stride field keys n ok i h, ok.short i h));
+        rw (keys_at-at area stride field keys 0 n i h, zero-add i) (omega (
+          arith,
+          length-key_at area stride field keys n ok i h,
+          ok.short i h,
+        ));
   }
 
   pub length-keys_at-bytes-le : KeysArea area stride field keys n → length (key_bytes (keys_at area stride field keys 0 n)) ≤ 1024 * n
   length-keys_at-bytes-le ok =
-      rw (length-keys_at area stride field keys 0 n) at (length-key_bytes-le (keys_at area stride field keys 0 n) (bounded-keys_at ok).short)
+      rw (length-keys_at area stride field keys 0 n) at
+      (length-key_bytes-le (keys_at area stride field keys 0 n) (bounded-keys_at ok).short)
 
-  pub length-keys_at-directory : length (directory_bytes (keys_at area stride field keys 0 n)) ≡ 4 + 8 * n + length (key_bytes (keys_at area stride field keys 0 n))
+  pub length-keys_at-directory : length (directory_bytes (keys_at area stride field keys 0 n))
+      ≡ 4 + 8 * n + length (key_bytes (keys_at area stride field keys 0 n))
   length-keys_at-directory = rw (length-keys_at area stride field keys 0 n) at (length-directory_bytes (keys_at area stride field keys 0 n))

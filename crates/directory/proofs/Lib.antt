@@ -6,3 +6,4 @@ pub mod Reader
 pub mod Rules
 pub mod Search
 pub mod Written
+pub mod Turns

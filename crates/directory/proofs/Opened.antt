@@ -1,4 +1,5 @@
--- Laws of an opened directory: what was written reads back and is accepted, and every directory that row 12 lets pass is the directory of its keys.
+-- Laws of an opened directory: what was written reads back and is accepted, and every directory that row 12 lets pass is the
+-- directory of its keys.
 use mathlib.Core.Path.{◌≡◌, refl, sym, ap, ◌∙◌}
 use mathlib.Core.Bool.{false}
 use mathlib.Core.List.{List, [], ◌++◌, append-nil}
@@ -6,13 +7,14 @@ use Prim.Native.Nat.{ℕ, zero, suc, ◌+◌, ◌*◌, ◌≤◌, ◌<◌}
 use native.Mathlib.Nat.{add-zero, add-suc, suc-add, zero-add, le_refl, le_of_suc-le-suc, not-suc-le-zero}
 use native.Mathlib.Omega.{arith}
 use lib.ListN.{length, get_or, take, drop, length-drop, take-append-drop}
-use lib.Seq.{length-take-le, take-length, take-add, drop-drop, drop-length, ext_get_or}
+use lib.Seq.{length-take-le, take-length, take-add, drop-drop, drop-length}
 use Rattle.keys.specs.Order.{◌≺◌}
 use Rattle.keys.proofs.Order.{by-test}
 use Rattle.serialize.specs.Digits.{le_bytes, DigitsBelow}
 use Rattle.serialize.proofs.Numbers.{number-bytes}
 use Rattle.directory.specs.Directory.{pairs, key_bytes, directory_bytes}
-use Rattle.directory.specs.Read.{count_of, key_offset, key_length, key_of, keys_from, keys_in, key_begin, directory_bad, keys_bad, directory_no, Sorted}
+use Rattle.directory.specs.Read.{count_of, key_offset, key_length, key_of, keys_from, keys_in}
+use Rattle.directory.specs.Read.{key_begin, directory_bad, keys_bad, directory_no, Sorted}
 use Rattle.directory.proofs.Lengths.{Bounded, length-directory_bytes, length-key_bytes-suc}
 use Rattle.directory.proofs.ReadBack.{ReadsBack, reads-back}
 use Rattle.directory.proofs.Rules.{length-place, DirectoryOk, directory-kept, directory-keeps, is-inside, keys-inside, keys-keep, keys_kept}
@@ -31,19 +33,6 @@ module _ (ks : List (List ℕ)) (d : List ℕ) (r : ReadsBack ks d) where
   unfolding key_begin
   begin-back zero h = unfold key_bytes in refl
   begin-back (suc i) h = omega (arith, r.offset i h, length_back i h, length-key_bytes-suc ks i h)
-
-module _ (ks : List (List ℕ)) (rest : List ℕ) (b : Bounded ks) where
-  pub count-written : count_of (directory_bytes ks ++ rest) ≡ length ks
-  count-written = (reads-back ks rest b).count
-
-  pub offset-written : (i : ℕ) → i < length ks → key_offset (directory_bytes ks ++ rest) i ≡ length (key_bytes (take i ks))
-  offset-written = (reads-back ks rest b).offset
-
-  pub length-written : (i : ℕ) → i < length ks → key_length (directory_bytes ks ++ rest) i ≡ length (get_or ks i [])
-  length-written = length_back ks (directory_bytes ks ++ rest) (reads-back ks rest b)
-
-  pub key-written : (i : ℕ) → i < length ks → key_of (directory_bytes ks ++ rest) (length ks) i ≡ get_or ks i []
-  key-written = key_back ks (directory_bytes ks ++ rest) (reads-back ks rest b)
 
 -- ---- the directory alone
 
@@ -69,7 +58,8 @@ module _ (ks : List (List ℕ)) (b : Bounded ks) where
   -- row 12
   pub directory-written-ok : 2 ≤ length ks → directory_bad (directory_bytes ks) ≡ false
   directory-written-ok two =
-      let ends : key_begin (directory_bytes ks) (length ks) ≡ length (key_bytes ks) = begin-whole (length ks) (le_refl (length ks)) ∙ rw (take-length ks) in
+      let ends : key_begin (directory_bytes ks) (length ks) ≡ length (key_bytes ks) =
+      begin-whole (length ks) (le_refl (length ks)) ∙ rw (take-length ks) in
       directory-keeps (directory_bytes ks) (record {
         some = rw count-whole two;
         few = rw count-whole b.few;
@@ -82,10 +72,15 @@ module _ (ks : List (List ℕ)) (b : Bounded ks) where
       })
 
   -- rows 12 and 13
-  pub directory-opens : 2 ≤ length ks → ((i : ℕ) → suc i < length ks → get_or ks i [] ≺ get_or ks (suc i) []) → directory_no (directory_bytes ks) ≡ 0
+  pub directory-opens : 2 ≤ length ks → ((i : ℕ) → suc i < length ks → get_or ks i [] ≺ get_or ks (suc i) [])
+      → directory_no (directory_bytes ks) ≡ 0
   unfolding directory_no
   directory-opens two rises =
-      rw (directory-written-ok two, count-whole, keys-keep (directory_bytes ks) (length ks) (length ks) (λ i h. rw (key-whole i (omega arith), key-whole (suc i) h) (rises i h)))
+      rw (
+        directory-written-ok two,
+        count-whole,
+        keys-keep (directory_bytes ks) (length ks) (length ks) (λ i h. rw (key-whole i (omega arith), key-whole (suc i) h) (rises i h)),
+      )
 
 -- ---- the keys of a directory in a file
 
@@ -109,13 +104,6 @@ module _ (d : List ℕ) where
   pub get_or-keys_in : (i : ℕ) → i < count_of d → get_or (keys_in d) i [] ≡ key_of d (count_of d) i
   get_or-keys_in i h = get_or-keys_from d (count_of d) 0 (count_of d) i h ∙ rw (zero-add i)
 
--- what was written has the keys written
-pub keys_in-written : (ks : List (List ℕ)) → Bounded ks → keys_in (directory_bytes ks) ≡ ks
-keys_in-written ks b =
-    let same : length (keys_in (directory_bytes ks)) ≡ length ks = length-keys_in (directory_bytes ks) ∙ count-whole ks b in
-    ext_get_or [] (keys_in (directory_bytes ks)) ks same
-    (λ i h. get_or-keys_in (directory_bytes ks) i (omega (arith, length-keys_in (directory_bytes ks))) ∙ rw (count-whole ks b) (key-whole ks b i (omega arith)))
-
 -- ---- a directory that row 12 lets pass
 
 -- the bytes of pair i, then those behind it
@@ -126,7 +114,15 @@ pair-split d i count =
     let second : 8 + 8 * i ≡ 4 + 8 * i + 4 = omega arith in
     let next : 4 + 8 * suc i ≡ 4 + 8 * i + 4 + 4 = omega arith in
     let l = drop (4 + 8 * i) d in
-    rw (all, second, next, take-add 4 (4 + 8 * count) l, take-add 4 (8 * count) (drop 4 l), drop-drop 4 (4 + 8 * i) d, drop-drop 4 (4 + 8 * i + 4) d)
+    rw (
+      all,
+      second,
+      next,
+      take-add 4 (4 + 8 * count) l,
+      take-add 4 (8 * count) (drop 4 l),
+      drop-drop 4 (4 + 8 * i) d,
+      drop-drop 4 (4 + 8 * i + 4) d,
+    )
 
 module _ (d : List ℕ) (good : directory_bad d ≡ false) where
   ok : DirectoryOk d
@@ -137,16 +133,9 @@ module _ (d : List ℕ) (good : directory_bad d ≡ false) where
       length-take-le (key_length d i) (drop (4 + 8 * count_of d + key_offset d i) d)
       (omega (arith, length-drop (4 + 8 * count_of d + key_offset d i) d, (is-inside d (count_of d) i (keys-inside d ok i h)).bytes))
 
-  pub bounded-keys_in : Bounded (keys_in d)
-  bounded-keys_in = record {
-    few = rw (length-keys_in d) ok.few;
-    short = λ i l.
-        let h : i < count_of d = rw (length-keys_in d) at l in
-        rw (get_or-keys_in d i h, length-key i h) (ok.pairs.short i h);
-  }
-
   -- the keys from key i on stand at its offset, and with the last one the bytes end
-  keys-are : (i count : ℕ) → i + count ≡ count_of d → drop (4 + 8 * count_of d + key_begin d i) d ≡ key_bytes (keys_from d (count_of d) i count)
+  keys-are : (i count : ℕ) → i + count ≡ count_of d
+      → drop (4 + 8 * count_of d + key_begin d i) d ≡ key_bytes (keys_from d (count_of d) i count)
   unfolding keys_from key_bytes
   keys-are i zero e =
       let at-end : 4 + 8 * count_of d + key_begin d i ≡ length d = rw (sym (add-zero i) ∙ e) (sym ok.exact) in
@@ -158,14 +147,22 @@ module _ (d : List ℕ) (good : directory_bad d ≡ false) where
       (sym (take-append-drop (key_length d i) (drop at d)))
 
   -- the pairs from pair i on
-  pairs-are : DigitsBelow 8 d → (i count : ℕ) → i + count ≡ count_of d → take (8 * count) (drop (4 + 8 * i) d) ≡ pairs (key_begin d i) (keys_from d (count_of d) i count)
+  pairs-are : DigitsBelow 8 d → (i count : ℕ) → i + count ≡ count_of d
+      → take (8 * count) (drop (4 + 8 * i) d) ≡ pairs (key_begin d i) (keys_from d (count_of d) i count)
   unfolding keys_from pairs
   pairs-are below i zero e = refl
   pairs-are below i (suc count) e =
       let next : key_begin d (suc i) ≡ key_offset d i + key_length d i = unfold key_begin in refl in
       let offset = number-bytes d (4 + 8 * i) 4 (omega (arith, ok.fits)) below in
       let len = number-bytes d (8 + 8 * i) 4 (omega (arith, ok.fits)) below in
-      rw (length-key i (omega arith), ← (ok.pairs.offsets i (omega arith)), ← next, ← (pairs-are below (suc i) count (omega arith)), offset, len)
+      rw (
+        length-key i (omega arith),
+        ← (ok.pairs.offsets i (omega arith)),
+        ← next,
+        ← (pairs-are below (suc i) count (omega arith)),
+        offset,
+        len,
+      )
       (pair-split d i count)
 
 -- it is the directory of its keys
@@ -173,9 +170,11 @@ pub directory-is : (d : List ℕ) → DigitsBelow 8 d → directory_bad d ≡ fa
 unfolding directory_bytes
 directory-is d below good =
     let n = count_of d in
-    let count : le_bytes 4 (length (keys_in d)) ≡ take 4 d = rw (length-keys_in d) (number-bytes d 0 4 (omega (arith, (ok d good).fits)) below) in
+    let count : le_bytes 4 (length (keys_in d)) ≡ take 4 d =
+    rw (length-keys_in d) (number-bytes d 0 4 (omega (arith, (ok d good).fits)) below) in
     let numbers : pairs 0 (keys_in d) ≡ take (8 * n) (drop 4 d) = unfold key_begin in sym (pairs-are d good below 0 n (zero-add n)) in
-    let keys : key_bytes (keys_in d) ≡ drop (4 + 8 * n) d = unfold key_begin in sym (rw (add-zero (4 + 8 * n)) at (keys-are d good 0 n (zero-add n))) in
+    let keys : key_bytes (keys_in d) ≡ drop (4 + 8 * n) d =
+    unfold key_begin in sym (rw (add-zero (4 + 8 * n)) at (keys-are d good 0 n (zero-add n))) in
     rw (count, numbers, keys, ← (drop-drop (8 * n) 4 d), take-append-drop (8 * n) (drop 4 d), take-append-drop 4 d)
 
 -- ---- a directory that rows 12 and 13 let pass

@@ -36,11 +36,13 @@ module _ (d : List ℕ) (n : ℕ) (sorted : Sorted d n) where
   all-before m key l p i h = ≺-≼-trans (key_of d n i) (key_of d n m) key (keys-rise i m h l) p
 
   -- above key m, up to a key, no fewer bytes are in common with the key; below key m, down to the key, as well
-  pub shared-below : (m : ℕ) (key : List ℕ) → (i : ℕ) → m + 1 ≤ i → i < n → key_of d n i ≼ key → common_prefix_len (key_of d n m) key ≤ common_prefix_len (key_of d n i) key
+  pub shared-below : (m : ℕ) (key : List ℕ) → (i : ℕ) → m + 1 ≤ i → i < n → key_of d n i ≼ key
+      → common_prefix_len (key_of d n m) key ≤ common_prefix_len (key_of d n i) key
   shared-below m key i h l r =
       common_prefix_len-below (key_of d n m) (key_of d n i) key (less-asym (key_of d n m) (key_of d n i) (keys-rise m i (omega arith) l)) r
 
-  pub shared-above : (m : ℕ) (key : List ℕ) → m < n → (i : ℕ) → i < m → key ≼ key_of d n i → common_prefix_len (key_of d n m) key ≤ common_prefix_len (key_of d n i) key
+  pub shared-above : (m : ℕ) (key : List ℕ) → m < n → (i : ℕ) → i < m → key ≼ key_of d n i
+      → common_prefix_len (key_of d n m) key ≤ common_prefix_len (key_of d n i) key
   shared-above m key l i h r =
       common_prefix_len-above (key_of d n i) (key_of d n m) key r (less-asym (key_of d n i) (key_of d n m) (keys-rise i m h l))
 

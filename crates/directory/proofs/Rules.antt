@@ -4,21 +4,19 @@ use mathlib.Core.Bool.{Bool, true, false, not, ◌||◌, true≢false}
 use mathlib.Core.List.{List}
 use mathlib.Core.Logic.{⊎_elim}
 use Prim.Native.Nat.{ℕ, zero, suc, ◌+◌, ◌-◌, ◌*◌, ◌≤◌, ◌<◌}
-use native.Mathlib.Nat.{eq-or-lt_of_le, le_of_suc-le-suc, le_refl, le_trans, add-sub_cancel_left}
+use native.Mathlib.Nat.{eq-or-lt_of_le, le_of_suc-le-suc, le_refl, le_trans}
 use native.Mathlib.Numerals.{add-one}
 use native.Mathlib.Omega.{arith}
 use lib.Dec.{eqb, ltb}
 use borrow.Author.Tests.{lt-ltb, le-ltb, eq-eqb, ne_eqb, ltb-false, eqb-true, not-false}
-use lib.ListN.{length, take, drop, length-drop}
+use lib.ListN.{length, drop, length-drop}
 use lib.Seq.{length-take-le}
-use Rattle.serialize.proofs.Tests.{neither}
+use Rattle.std.proofs.lemmas.Bool.{or_parts, or_left}
 use Rattle.keys.specs.Order.{less, ◌≺◌}
 use Rattle.keys.proofs.Order.{by-test}
 use Rattle.serialize.specs.Digits.{number_at}
-use Rattle.directory.specs.Read.{count_of, key_offset, key_length, key_position, key_of, key_begin, pairs_bad, directory_bad, keys_bad, key_outside}
-
-or-true : (a b : Bool) → a ≡ true → a || b ≡ true
-or-true a b e = rw e refl
+use Rattle.directory.specs.Read.{count_of, key_offset, key_length, key_position, key_of}
+use Rattle.directory.specs.Read.{key_begin, pairs_bad, directory_bad, keys_bad, key_outside}
 
 -- a test that stays true once it is
 module _ (bad : ℕ → Bool) (step : (m : ℕ) → bad m ≡ true → bad (suc m) ≡ true) where
@@ -40,19 +38,6 @@ module _ (d : List ℕ) (n i : ℕ) where
   pub length-place : number_at d (4 + 8 * i + 4) 4 ≡ key_length d i
   length-place = let e : 4 + 8 * i + 4 ≡ 8 + 8 * i = omega arith in ap (λ (k : ℕ). number_at d k 4) e
 
-  pub outside-pair : length d < 4 + 8 * i + 8 → key_outside d n i ≡ true
-  unfolding key_outside
-  outside-pair h = or-true (ltb (length d) (12 + 8 * i)) _ (lt-ltb (length d) (12 + 8 * i) (omega arith))
-
-  pub outside-key : 4 + 8 * i + 8 ≤ length d → (offset len : ℕ) → offset ≡ key_offset d i → len ≡ number_at d (4 + 8 * i + 4) 4
-      → ltb (length d) (4 + 8 * n + offset + len) ≡ key_outside d n i
-  unfolding key_outside
-  outside-key h offset len o l = rw (o, l, length-place, le-ltb (length d) (12 + 8 * i) (omega arith))
-
-  -- the code's part is the definition's key
-  pub key-part : (from len : ℕ) → from ≡ key_position d n i → len ≡ key_length d i → take (from + len - from) (drop from d) ≡ key_of d n i
-  key-part from len o l = rw (add-sub_cancel_left from len, o, l)
-
   pub record Inside : Type 0 where
     pub pair : 12 + 8 * i ≤ length d
     pub bytes : key_position d n i + key_length d i ≤ length d
@@ -60,7 +45,7 @@ module _ (d : List ℕ) (n i : ℕ) where
   pub is-inside : key_outside d n i ≡ false → Inside
   unfolding key_outside
   is-inside e =
-      let both = neither (ltb (length d) (12 + 8 * i)) _ e in
+      let both = or_parts (ltb (length d) (12 + 8 * i)) _ e in
       record { pair = ltb-false (length d) (12 + 8 * i) both.0; bytes = ltb-false (length d) (key_position d n i + key_length d i) both.1 }
 
   pub length-key_of : Inside → length (key_of d n i) ≡ key_length d i
@@ -76,7 +61,7 @@ module _ (d : List ℕ) (n i : ℕ) where
 module _ (d : List ℕ) where
   pairs-step : (m : ℕ) → pairs_bad d m ≡ true → pairs_bad d (suc m) ≡ true
   unfolding pairs_bad
-  pairs-step m e = or-true (pairs_bad d m) _ e
+  pairs-step m e = or_left (pairs_bad d m) _ e
 
   pub pairs-stay-bad : (m n : ℕ) → m ≤ n → pairs_bad d m ≡ true → pairs_bad d n ≡ true
   pairs-stay-bad = stays-bad (pairs_bad d) pairs-step
@@ -117,8 +102,10 @@ module _ (d : List ℕ) where
   pair-rule : (m : ℕ) → pairs_bad d (suc m) ≡ false → (key_offset d m ≡ key_begin d m) × (key_length d m ≤ 1024)
   unfolding pairs_bad
   pair-rule m e =
-      let own = neither (not (eqb (key_offset d m) (key_begin d m))) (ltb 1024 (key_length d m)) (neither (pairs_bad d m) _ e).1 in
-      (eqb-true (key_offset d m) (key_begin d m) (not-false (eqb (key_offset d m) (key_begin d m)) own.0), ltb-false 1024 (key_length d m) own.1)
+      let own = or_parts (not (eqb (key_offset d m) (key_begin d m))) (ltb 1024 (key_length d m)) (or_parts (pairs_bad d m) _ e).1 in (
+        eqb-true (key_offset d m) (key_begin d m) (not-false (eqb (key_offset d m) (key_begin d m)) own.0),
+        ltb-false 1024 (key_length d m) own.1,
+      )
 
   pub pairs-ok : (n : ℕ) → pairs_bad d n ≡ false → PairsOk n
   pairs-ok n e = record {
@@ -130,7 +117,8 @@ module _ (d : List ℕ) where
   pairs-good zero ok = unfold pairs_bad in refl
   pairs-good (suc n) ok =
       let before = pairs-good n (record { offsets = λ i h. ok.offsets i (omega arith); short = λ i h. ok.short i (omega arith) }) in
-      rw (add-one n) at (pair-good n (key_offset d n) (number_at d (4 + 8 * n + 4) 4) (key_begin d n) before refl refl refl (ok.offsets n (omega arith))
+      rw (add-one n) at (pair-good n (key_offset d n) (number_at d (4 + 8 * n + 4) 4) (key_begin d n) before refl refl refl
+      (ok.offsets n (omega arith))
       (omega (arith, length-place d 0 n, ok.short n (omega arith))))
 
   -- keys begin one behind the other
@@ -157,11 +145,11 @@ module _ (d : List ℕ) where
   pub directory-kept : directory_bad d ≡ false → DirectoryOk d
   unfolding directory_bad
   directory-kept e =
-      let a = neither (ltb (length d) 4) _ e in
-      let b = neither (ltb (count_of d) 2) _ a.1 in
-      let c = neither (ltb 65536 (count_of d)) _ b.1 in
-      let f = neither (ltb (length d) (4 + 8 * count_of d)) _ c.1 in
-      let g = neither (pairs_bad d (count_of d)) _ f.1 in
+      let a = or_parts (ltb (length d) 4) _ e in
+      let b = or_parts (ltb (count_of d) 2) _ a.1 in
+      let c = or_parts (ltb 65536 (count_of d)) _ b.1 in
+      let f = or_parts (ltb (length d) (4 + 8 * count_of d)) _ c.1 in
+      let g = or_parts (pairs_bad d (count_of d)) _ f.1 in
       let whole = 4 + 8 * count_of d + key_begin d (count_of d) in
       record {
         some = ltb-false (count_of d) 2 b.0;
@@ -183,10 +171,6 @@ module _ (d : List ℕ) where
       last-test (omega (arith, ok.fits)) ok.some ok.few ok.fits (pairs-good d (count_of d) ok.pairs)
       ∙ rw (eq-eqb (length d) (4 + 8 * count_of d + key_begin d (count_of d)) ok.exact) refl
 
-  -- a directory that breaks one of the rules is refused
-  pub directory-refused : (DirectoryOk d → ⊥) → true ≡ directory_bad d
-  directory-refused h = by-test (directory_bad d) (λ e. sym e) (λ e. absurd (h (directory-kept e)))
-
   -- the last pair's sum is where the keys end
   last_sum : (n : ℕ) → 1 ≤ n → number_at d (4 + 8 * n - 8) 4 + number_at d (4 + 8 * n - 8 + 4) 4 ≡ key_begin d n
   unfolding key_begin
@@ -204,7 +188,8 @@ module _ (d : List ℕ) where
   pub keys-inside : DirectoryOk d → (i : ℕ) → i < count_of d → key_outside d (count_of d) i ≡ false
   unfolding key_begin
   keys-inside ok i h =
-      let ends : key_begin d (suc i) ≤ key_begin d (count_of d) = begins-rise d (count_of d) ok.pairs (suc i) (count_of d) h (le_refl (count_of d)) in
+      let ends : key_begin d (suc i) ≤ key_begin d (count_of d) =
+      begins-rise d (count_of d) ok.pairs (suc i) (count_of d) h (le_refl (count_of d)) in
       inside_is d (count_of d) i (record { pair = omega (arith, ok.fits); bytes = omega (arith, ok.exact) })
 
 -- ---- row 13: keys that rise
@@ -213,7 +198,7 @@ module _ (d : List ℕ) (n : ℕ) where
   keys_step : (m : ℕ) → keys_bad d n m ≡ true → keys_bad d n (suc m) ≡ true
   unfolding keys_bad
   keys_step zero e = e
-  keys_step (suc m) e = or-true (keys_bad d n (suc m)) _ e
+  keys_step (suc m) e = or_left (keys_bad d n (suc m)) _ e
 
   pub keys-stay-bad : (i m : ℕ) → i ≤ m → keys_bad d n i ≡ true → keys_bad d n m ≡ true
   keys-stay-bad = stays-bad (keys_bad d n) keys_step
@@ -226,7 +211,7 @@ module _ (d : List ℕ) (n : ℕ) where
 
   key-rule : (i : ℕ) → keys_bad d n (suc (suc i)) ≡ false → key_of d n i ≺ key_of d n (suc i)
   unfolding keys_bad
-  key-rule i e = not-false (less (key_of d n i) (key_of d n (suc i))) (neither (keys_bad d n (suc i)) _ e).1
+  key-rule i e = not-false (less (key_of d n i) (key_of d n (suc i))) (or_parts (keys_bad d n (suc i)) _ e).1
 
   pub keys_kept : (m i : ℕ) → suc i < m → keys_bad d n m ≡ false → key_of d n i ≺ key_of d n (suc i)
   keys_kept m i h e = key-rule i (earlier-good (keys_bad d n) keys_step (suc (suc i)) m h e)
@@ -236,8 +221,3 @@ module _ (d : List ℕ) (n : ℕ) where
   keys-keep zero h = refl
   keys-keep (suc zero) h = refl
   keys-keep (suc (suc m)) h = rw (keys-keep (suc m) (λ i l. h i (omega arith)), h m (omega arith))
-
-  -- the test as the code makes it, of parts of the bytes
-  pub key-tested : (i : ℕ) (a b : List ℕ) (below bad : Bool) → 1 ≤ i → keys_bad d n i ≡ false → a ≡ key_of d n (i - 1) → b ≡ key_of d n i
-      → below ≡ less a b → not below ≡ bad → keys_bad d n (i + 1) ≡ bad
-  key-tested i a b below bad h e p q t u = key-test i h e ∙ (rw (p, q) at (ap not (sym t))) ∙ u

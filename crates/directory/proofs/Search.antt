@@ -12,7 +12,8 @@ use Rattle.directory.specs.Read.{key_of, Sorted}
 use Rattle.directory.proofs.Reader.{all-below, shared-below, shared-above}
 
 -- a key between the two shares the lesser of the two lengths
-pub lesser-shared : (x key : List ℕ) (low high : ℕ) → (x ≼ key → low ≤ common_prefix_len x key) → (key ≼ x → high ≤ common_prefix_len x key) → min low high ≤ common_prefix_len x key
+pub lesser-shared : (x key : List ℕ) (low high : ℕ) → (x ≼ key → low ≤ common_prefix_len x key)
+    → (key ≼ x → high ≤ common_prefix_len x key) → min low high ≤ common_prefix_len x key
 lesser-shared x key low high f g =
     by-test (less key x)
     (λ e. let h = g (less-asym key x e) in omega arith)
@@ -20,10 +21,12 @@ lesser-shared x key low high f g =
 
 -- what is counted and tested of a part x of the bytes holds of the key k that it is
 module _ {x k : List ℕ} (key : List ℕ) (e : x ≡ k) where
-  pub counted : (skip shared : ℕ) → skip ≤ common_prefix_len k key → (skip ≤ common_prefix_len x key → shared ≡ common_prefix_len x key) → shared ≡ common_prefix_len k key
+  pub counted : (skip shared : ℕ) → skip ≤ common_prefix_len k key → (skip ≤ common_prefix_len x key → shared ≡ common_prefix_len x key)
+      → shared ≡ common_prefix_len k key
   counted skip shared h p = rw e at p h
 
-  pub tested : {t b : Bool} (shared : ℕ) → shared ≡ common_prefix_len k key → (shared ≡ common_prefix_len x key → t ≡ less x key) → t ≡ b → less k key ≡ b
+  pub tested : {t b : Bool} (shared : ℕ) → shared ≡ common_prefix_len k key → (shared ≡ common_prefix_len x key → t ≡ less x key) → t ≡ b
+      → less k key ≡ b
   tested shared h p q = sym (rw e at p h) ∙ q
 
   pub whole : (shared : ℕ) → shared ≡ common_prefix_len k key → length x ≤ shared → k ≼ key
@@ -39,27 +42,18 @@ pub record Around (d : List ℕ) (n : ℕ) (key : List ℕ) (left right low high
   pub low-shared : Sorted d n → (i : ℕ) → left ≤ i → i < n → key_of d n i ≼ key → low ≤ common_prefix_len (key_of d n i) key
   pub high-shared : Sorted d n → (i : ℕ) → i < right → key ≼ key_of d n i → high ≤ common_prefix_len (key_of d n i) key
 
--- at the start
-pub around-all : (d : List ℕ) (n : ℕ) (key : List ℕ) → Around d n key 0 n 0 0
-around-all d n key = record {
-  order = omega arith;
-  inside = omega arith;
-  below = λ sorted i h. absurd (let z : ⊥ = omega arith in z);
-  above = λ sorted h. absurd (let z : ⊥ = omega arith in z);
-  low-shared = λ sorted i h g r. omega arith;
-  high-shared = λ sorted i h r. omega arith;
-}
-
 module _ (d : List ℕ) (n : ℕ) (key : List ℕ) (left right low high : ℕ) (now : Around d n key left right low high)
     (mid : ℕ) (after : left ≤ mid) (before : mid < right) where
   -- a key between the bounds shares the lesser of the two lengths
   pub between-shared : Sorted d n → min low high ≤ common_prefix_len (key_of d n mid) key
   between-shared sorted =
-      lesser-shared (key_of d n mid) key low high (now.low-shared sorted mid after (omega (arith, now.inside))) (now.high-shared sorted mid before)
+      lesser-shared (key_of d n mid) key low high (now.low-shared sorted mid after (omega (arith, now.inside)))
+      (now.high-shared sorted mid before)
 
   -- what is counted of a part of the bytes that is this key, from that length on
   pub between-counted : (part : List ℕ) (skip shared : ℕ) → part ≡ key_of d n mid → skip ≡ min low high
-      → (skip ≤ common_prefix_len part key → shared ≡ common_prefix_len part key) → Sorted d n → shared ≡ common_prefix_len (key_of d n mid) key
+      → (skip ≤ common_prefix_len part key → shared ≡ common_prefix_len part key) → Sorted d n
+      → shared ≡ common_prefix_len (key_of d n mid) key
   between-counted part skip shared e g p sorted = counted key e skip shared (omega (arith, between-shared sorted)) p
 
   module _ (shared : ℕ) (is : Sorted d n → shared ≡ common_prefix_len (key_of d n mid) key) where

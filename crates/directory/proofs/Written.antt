@@ -11,7 +11,7 @@ use Rattle.serialize.specs.Digits.{le_bytes}
 use Rattle.serialize.proofs.Digits.{length-digits_of}
 use Rattle.serialize.proofs.Stores.{sets-append, sets-in-part, copied}
 use Rattle.directory.specs.Directory.{pairs, key_bytes, directory_bytes}
-use Rattle.directory.specs.Keys.{offset_at, length_at, key_at, keys_at}
+use Rattle.directory.specs.Keys.{length_at, key_at, keys_at}
 use Rattle.directory.specs.Facts.{KeysArea}
 use Rattle.directory.proofs.Keys.{keys_at-cons, keys_at-none, length-key_at}
 use Rattle.directory.proofs.Lengths.{length_pairs}
@@ -27,14 +27,6 @@ length_rest out to = length-take-le (length out - to) (drop to out) (omega (arit
 -- key i's length and its bytes, as the code reads them
 pub length-read : (area : List ℕ) (stride field i : ℕ) → get_or area (stride * i + field + 1) 0 ≡ length_at area stride field i
 length-read area stride field i = rw (add_assoc (stride * i) field 1)
-
-pub key-read : (area : List ℕ) (stride field : ℕ) (keys : List ℕ) (i : ℕ)
-    → take (offset_at area stride field i + get_or area (stride * i + field + 1) 0 - offset_at area stride field i) (drop (offset_at area stride field i) keys)
-    ≡ key_at area stride field keys i
-key-read area stride field keys i =
-    let e : offset_at area stride field i + get_or area (stride * i + field + 1) 0 - offset_at area stride field i ≡ length_at area stride field i
-    = omega (arith, length-read area stride field i) in
-    rw e
 
 module _ (area : List ℕ) (stride field : ℕ) (keys : List ℕ) (n : ℕ) where
   -- the keys that are left at key i
@@ -55,7 +47,15 @@ module _ (area : List ℕ) (stride field : ℕ) (keys : List ℕ) (n : ℕ) wher
     unfolding pairs
     pairs-turn out a b offset p q =
         let e : 8 * (i + 1) ≡ 8 * i + 4 + 4 = omega arith in
-        rw (keys_at-cons area stride field keys n i h, length-key_at area stride field keys n ok i h, e, q, p, sets-run out (le_bytes 4 offset) _ (8 * i) 4 (length-digits_of 8 4 offset), sets-run _ (le_bytes 4 (length_at area stride field i)) _ (8 * i + 4) 4 (length-digits_of 8 4 (length_at area stride field i)))
+        rw (
+          keys_at-cons area stride field keys n i h,
+          length-key_at area stride field keys n ok i h,
+          e,
+          q,
+          p,
+          sets-run out (le_bytes 4 offset) _ (8 * i) 4 (length-digits_of 8 4 offset),
+          sets-run _ (le_bytes 4 (length_at area stride field i)) _ (8 * i + 4) 4 (length-digits_of 8 4 (length_at area stride field i)),
+        )
 
     -- key i, copied into what is left of the output
     pub keys-turn : (out key y : List ℕ) (to : ℕ) → key ≡ key_at area stride field keys i → to + length (key_bytes (left i)) ≤ length out
@@ -64,8 +64,10 @@ module _ (area : List ℕ) (stride field : ℕ) (keys : List ℕ) (n : ℕ) wher
     unfolding key_bytes
     keys-turn out key y to e room p =
         let part : List ℕ = take (length out - to) (drop to out) in
-        let fits : length key ≤ length part = omega (arith, ap length e, length-key_at area stride field keys n ok i h, length-left, length_rest out to) in
-        let whole : put_mid to (length out - to) out y ≡ sets out to key = rw (p, copied part key fits) (sets-in-part out key to 0 ∙ rw (add-zero to)) in
+        let fits : length key ≤ length part =
+        omega (arith, ap length e, length-key_at area stride field keys n ok i h, length-left, length_rest out to) in
+        let whole : put_mid to (length out - to) out y ≡ sets out to key =
+        rw (p, copied part key fits) (sets-in-part out key to 0 ∙ rw (add-zero to)) in
         rw (whole, keys_at-cons area stride field keys n i h, ← e) (sets-run out key (key_bytes (left (i + 1))) to (length key) refl)
 
   pub length_none : (i : ℕ) → n ≤ i → length (key_bytes (left i)) ≡ 0
@@ -90,4 +92,13 @@ pub directory-written : (ks : List (List ℕ)) (n : ℕ) (d a p k : List ℕ) �
 unfolding directory_bytes
 directory-written ks n d a p k e first second third =
     let two : put_mid 4 (length a - 4) a p ≡ sets a 4 (pairs 0 ks) = rw second (sets-in-part a (pairs 0 ks) 4 0) in
-    rw (third, sets-in-part (put_mid 4 (length a - 4) a p) (key_bytes ks) (4 + 8 * n) 0, two, first, add-zero (4 + 8 * n), e, sets-run d (le_bytes 4 n) _ 0 4 (length-digits_of 8 4 n), sets-run _ (pairs 0 ks) _ 4 (8 * n) (length_pairs 0 ks ∙ rw e))
+    rw (
+      third,
+      sets-in-part (put_mid 4 (length a - 4) a p) (key_bytes ks) (4 + 8 * n) 0,
+      two,
+      first,
+      add-zero (4 + 8 * n),
+      e,
+      sets-run d (le_bytes 4 n) _ 0 4 (length-digits_of 8 4 n),
+      sets-run _ (pairs 0 ks) _ 4 (8 * n) (length_pairs 0 ks ∙ rw e),
+    )

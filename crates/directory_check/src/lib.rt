@@ -17,16 +17,21 @@ fn pairs_bad(directory: &[u8], n: usize) -> bool
     requires { (n ≤ max_blocks) × (4 + pair_len * n ≤ length directory.now) }
     ensures { result ≡ pairs_bad directory.now n }
 {
-    let mut begin: usize = 0;
-    for i in 0..n {
-        let at = 4 + PAIR_LEN * i;
-        let len = number(directory, at + 4);
-        if number(directory, at) != begin || len > MAX_KEY_LEN {
-            return true;
-        }
-        begin += len;
-    }
-    false
+    (0..n)
+        .try_fold(
+            0,
+            |begin: usize, i: usize|
+                requires { 4 + pair_len * i + pair_len ≤ length directory.now }
+            {
+                let at = 4 + PAIR_LEN * i;
+                let len = number(directory, at + 4);
+                if number(directory, at) != begin || len > MAX_KEY_LEN {
+                    return None;
+                }
+                Some(begin + len)
+            },
+        )
+        .is_none()
 }
 
 // Row 12.
@@ -39,7 +44,7 @@ fn directory_bad(directory: &[u8]) -> bool
         return true;
     }
     let n = number(directory, 0);
-    if n < 2 || n > MAX_BLOCKS {
+    if !(2..=MAX_BLOCKS).contains(&n) {
         return true;
     }
     let keys = 4 + PAIR_LEN * n;
@@ -50,18 +55,15 @@ fn directory_bad(directory: &[u8]) -> bool
     len != keys + (number(directory, last) + number(directory, last + 4))
 }
 
-// Row 13: whether a key isn't above the one before it.
+// Row 13: whether a key isn't above the one before it. Not inlined, here and in the checks of groups: inside opening, which is one large
+// function then, a loop's numbers would wait on the stack.
 #[tactic(auto, unfolding(directory::specs::Read::keys_bad))]
+#[inline(never)]
 fn keys_bad(directory: Directory) -> bool
     requires { directory_bad directory.bytes.now ≡ false × (directory.n ≡ count_of directory.bytes.now) }
     ensures { result ≡ keys_bad directory.entry.bytes.now directory.entry.n directory.entry.n }
 {
-    for i in 1..directory.n {
-        if !keys::lt(directory.key(i - 1), directory.key(i)) {
-            return true;
-        }
-    }
-    false
+    (1..directory.n).any(|i| !keys::lt(directory.key(i - 1), directory.key(i)))
 }
 
 // Rows 12 and 13.

@@ -10,7 +10,7 @@ ghost use Rattle.directory.specs.Read.{Sorted, FoundIn, FoundAs};
 use layout::PAIR_LEN;
 use layout::refusals::Refusal;
 
-// The number of four bytes.
+// The number of four bytes, as a length or a place.
 pub fn number(directory: &[u8], at: usize) -> usize
     requires { at + 4 ≤ length directory.now }
     ensures { (result ≡ number_at directory.now at 4) × (result < 2 ^ 32) }
@@ -18,7 +18,8 @@ pub fn number(directory: &[u8], at: usize) -> usize
     serialize::deserialize_u32(directory, at) as usize
 }
 
-// The bytes of a directory, or more bytes that begin with it, and how many keys it has.
+// The bytes of a directory, or more bytes that begin with it, and how many keys it has. The bytes stay the caller's: the library has
+// no heap, so that keys are parts of them and not values of their own.
 #[derive(Clone, Copy)]
 pub struct Directory<'a> {
     pub bytes: &'a [u8],

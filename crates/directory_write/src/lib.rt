@@ -9,7 +9,7 @@ ghost use Rattle.directory.specs.Facts.{KeysArea};
 use layout::PAIR_LEN;
 
 // The keys of n records of `stride` numbers in a lent area: at place `field` a record has its key's offset in the bytes of all keys, and
-// behind it the key's length.
+// behind it the key's length. Both areas are the caller's: the library has no heap for keys of its own.
 #[derive(Clone, Copy)]
 pub struct KeyRecords<'a> {
     pub area: &'a [u64],
@@ -38,11 +38,7 @@ impl<'a> KeyRecords<'a> {
     fn keys_len(&self) -> usize
         ensures { result ≡ length (key_bytes (record_keys self.now)) }
     {
-        let mut len: usize = 0;
-        for i in 0..self.n {
-            len += self.key(i).len();
-        }
-        len
+        (0..self.n).map(|i| self.key(i).len()).sum()
     }
 
     // How many bytes the directory takes.
@@ -52,7 +48,8 @@ impl<'a> KeyRecords<'a> {
         4 + PAIR_LEN * self.n + self.keys_len()
     }
 
-    // Writes the pairs from the front of `out` on.
+    // Writes the pairs from the front of `out` on. A loop here and below: each turn writes where those before it ended, so that a fold's
+    // closure would have to hold `out`.
     fn write_pairs(&self, out: &mut [u8])
         requires { 8 * self.now.n ≤ length out.old }
         ensures { out.new ≡ sets out.old 0 (pairs 0 (record_keys self.now)) }

@@ -95,7 +95,14 @@ front-get_or : (m : ℕ) (B B' : List ℕ) (j : ℕ) → j < m → take m B' ≡
 front-get_or m B B' j h e = grind (arith, get_or-take m B' j 0 h, get_or-take m B j 0 h, e)
 
 front-part : (m : ℕ) (K K' : List ℕ) (at len : ℕ) → at + len ≤ m → take m K' ≡ take m K → take len (drop at K') ≡ take len (drop at K)
-front-part m K K' at len h e = grind (arith, drop-take at len K', drop-take at len K, take-take (at + len) m K' h, take-take (at + len) m K h, e)
+front-part m K K' at len h e = grind (
+  arith,
+  drop-take at len K',
+  drop-take at len K,
+  take-take (at + len) m K' h,
+  take-take (at + len) m K h,
+  e,
+)
 
 pub holds_kept : (es : List Entry) (B K B' K' : List ℕ) (m k : ℕ) → stride * length es ≤ m → key_bytes_taken es ≤ k
     → take m B' ≡ take m B → take k K' ≡ take k K → Holds es B K → Holds es B' K'
@@ -133,7 +140,8 @@ added-held : (b : BlockAddr) (key : List ℕ) (i at : ℕ) (B K : List ℕ) → 
     → Held (record { block = b; key = key }) i at (sets B (stride * i) (record_numbers b (place_at at key))) (sets K at key)
 added-held b key i at B K h g =
     let w : List ℕ = record_numbers b (place_at at key) in
-    let n : (j : ℕ) → j < stride → get_or (sets B (stride * i) w) (stride * i + j) 0 ≡ get_or w j 0 = λ j l. get_or-sets B w (stride * i) j h l in
+    let n : (j : ℕ) → j < stride → get_or (sets B (stride * i) w) (stride * i + j) 0 ≡ get_or w j 0 = λ j l.
+    get_or-sets B w (stride * i) j h l in
     record {
       block = rw (rw (add-zero (stride * i)) at (n 0 (omega arith)), n 1 (omega arith), n 2 (omega arith));
       offset = n 3 (omega arith);

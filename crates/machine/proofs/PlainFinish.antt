@@ -63,9 +63,6 @@ module _ (S : Settings) (es : List Entry) (out : List ℕ) where
     pub plain_fits : length (plain_index S es) ≤ length out
     plain_fits = ⊎_elim (λ p. absurd (let z : ⊥ = omega (arith, p.1) in z)) (λ p. p.0) plain-number
 
-    pub plain-total : (plain_finish S es out).total ≡ length (plain_index S es)
-    plain-total = ap (λ (f : Finish). f.total) (plain-taken plain_fits)
-
     -- the index is the first total bytes of the output, and the bytes after it stay
     pub plain-front : take (plain_finish S es out).total (plain_finish S es out).out ≡ plain_index S es
     plain-front = rw (plain-taken plain_fits) (sets-part out (plain_index S es) 0 (omega (arith, plain_fits)))

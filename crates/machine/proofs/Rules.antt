@@ -74,7 +74,8 @@ unfolding plain_next
 next-ok rooms es c zero e ok = accepted rooms es c e ok
 next-ok rooms es c (suc k) e ok = ok
 
-pub entries-step : (rooms : Rooms) (es : List Entry) (c : Call) → EntriesOk es → EntriesOk (plain_next (call_no (plain_view rooms es) c) c es)
+pub entries-step : (rooms : Rooms) (es : List Entry) (c : Call) → EntriesOk es → EntriesOk (plain_next (call_no (plain_view rooms es) c) c
+    es)
 entries-step rooms es c ok = next-ok rooms es c (call_no (plain_view rooms es) c) refl ok
 
 pub entries-run : (rooms : Rooms) (cs : List Call) (es : List Entry) → EntriesOk es → EntriesOk (plain_end rooms cs es)

@@ -13,6 +13,9 @@ returns-in_err-list c =
     rw (p.1, p.2) (finish-refused standard c.args.builder c.args.blocks.now c.args.keys.now c.args.out.now _
     c.in_err-list.ensures.rows_1_and_8 (number_positive c.in_err-list.field-0.0))
 
-pub finish_with-requires-2 : goal.finish_with-requires-2
-finish_with-requires-2 c =
-    (record { some = omega arith; few = omega arith }, omega (arith, (store-area _ _ _ (list-ok _ _ _ c.in_ok-list.list.checked)).few))
+pub finish_with-requires-else-builder-le-FEW_BLOCKS : goal.finish_with-requires-else-builder-le-FEW_BLOCKS
+finish_with-requires-else-builder-le-FEW_BLOCKS c = (
+  record { some = omega arith; few = omega arith },
+  omega (arith, (store-area _ _ _ (list-ok _ _ _ c.in_ok-list.list.checked)).few),
+  omega arith,
+)

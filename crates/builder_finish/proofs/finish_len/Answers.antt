@@ -16,13 +16,20 @@ returns-in_err-list c =
 pub returns-then-builder-le-FEW_BLOCKS : goal.returns-then-builder-le-FEW_BLOCKS
 returns-then-builder-le-FEW_BLOCKS c =
     let e = c.in_ok-list.ensures.same in
-    len-taken standard _ _ _ _ (rw (e.0, e.1, e.2) at c.in_ok-list.list.checked) (rw (e.0, e.1, e.2) at c.plan_index.ensures.value)
+    len-taken standard _ _ _ _ (rw (e.0, e.1, e.2) at c.in_ok-list.list.checked) (rw (e.0, e.1, e.2) at c.index_len.ensures)
 
-pub plan_index-requires-2 : goal.plan_index-requires-2
-plan_index-requires-2 c =
-    (record { some = omega arith; few = omega arith }, omega (arith, (store-area _ _ _ (list-ok _ _ _ c.in_ok-list.list.checked)).few))
+pub index_len-requires-else-builder-le-FEW_BLOCKS : goal.index_len-requires-else-builder-le-FEW_BLOCKS
+index_len-requires-else-builder-le-FEW_BLOCKS c = (
+  record { some = omega arith; few = omega arith },
+  omega (arith, (store-area _ _ _ (list-ok _ _ _ c.in_ok-list.list.checked)).few),
+  omega arith,
+)
 
-pub returns : goal.returns
-returns c =
+pub returns-else-builder-le-FEW_BLOCKS : goal.returns-else-builder-le-FEW_BLOCKS
+returns-else-builder-le-FEW_BLOCKS c =
     let e = c.in_ok-list.ensures.same in
-    len-taken standard _ _ _ _ (rw (e.0, e.1, e.2) at c.in_ok-list.list.checked) (rw (e.0, e.1, e.2) at c.plan_index-2.ensures.value)
+    len-taken standard _ _ _ _ (rw (e.0, e.1, e.2) at c.in_ok-list.list.checked) (rw (
+      e.0,
+      e.1,
+      e.2,
+    ) at c.index_len-else-builder-le-FEW_BLOCKS.ensures)

@@ -1,28 +1,24 @@
 -- `rules_bad` meets its contract: every front of the blocks fits the areas.
-use Rattle.std.proofs.Common.{◌≡◌, refl, sym, arith, ◌∙◌, ◌+◌}
-use Rattle.builder.specs.Finish.{rules_bad}
-use Rattle.builder.proofs.Row8.{front-ok, rules-hit, rules-next}
+use Rattle.std.proofs.Common.{◌≡◌, ℕ, true, false, ◌+◌, refl, rules, tests, arith}
+use Rattle.std.proofs.lemmas.Iterator.{cases_from_any, serves_from_Range, YieldsList-from_range}
+use Rattle.builder.specs.Finish.{rule_bad}
+use Rattle.builder.proofs.Row8.{front-ok}
+use Rattle.builder_list.proofs.Rules.{rules-of}
 use Rattle.builder_list.proofs.rules_bad.Goals as goal
 
-pub loop-m-init : goal.loop-m-init
-unfolding rules_bad
-loop-m-init c = refl
-
-pub rule_bad-requires : goal.rule_bad-requires
-rule_bad-requires c =
+pub any-requires-clause-callable : goal.any-requires-clause-callable
+any-requires-clause-callable c =
     let a = c.args.areas.now in
     let front = front-ok a.blocks.now a.keys.now a.builder.n c.requires a.in_order in
-    (front c.loop-m.m (omega arith), front (c.loop-m.m + 1) (omega arith))
-
-pub returns-then-rule_bad : goal.returns-then-rule_bad
-returns-then-rule_bad c =
-    let a = c.args.areas.now in
-    rules-hit a.blocks.now a.keys.now c.loop-m.m a.builder.n (omega arith) (sym c.rule_bad.ensures ∙ c.if-rule_bad.true)
-
-pub loop-m-preserved : goal.loop-m-preserved
-loop-m-preserved c =
-    let a = c.args.areas.now in
-    rules-next a.blocks.now a.keys.now c.loop-m.m c.loop-m.invariant (sym c.rule_bad.ensures ∙ c.if-rule_bad.false)
+    serves_from_Range (λ x q k. search (rules, tests)) (λ x low high.
+    let here = front x (omega arith) in
+    let next = front (x + 1) (omega arith) in
+    search (rules, here, next))
 
 pub returns : goal.returns
-returns c = let e : c.loop-m.m ≡ c.args.areas.now.builder.n = omega arith in rw e at (sym c.loop-m.invariant)
+returns c =
+    let a = c.args.areas.now in
+    rules-of a.blocks.now a.keys.now a.builder.n c.any.result
+    (cases_from_any _ _ _ (λ (m : ℕ). rule_bad m a.blocks.now a.keys.now ≡ true) (λ (m : ℕ). rule_bad m a.blocks.now a.keys.now ≡ false)
+    c.any.ensures.ran (YieldsList-from_range 0 a.builder.n a.builder.n refl (omega arith))
+    (λ x q k. search (rules, tests)) (λ x q k. search (rules, tests)))

@@ -1,33 +1,29 @@
--- A pair that breaks a rule makes all pairs bad; one that keeps them leaves those up to it good.
-use Rattle.std.proofs.Common.{◌≡◌, ◌+◌, true, arith, sym}
-use Rattle.directory.specs.Read.{pairs_bad}
+-- A pair that breaks a rule makes all pairs bad; one that keeps them leaves those up to it good, and the next key begins where it ends.
+use Rattle.std.proofs.Common.{◌≡◌, ◌≢◌, ◌⊎◌, ⊎_elim, ℕ, ◌+◌, ◌*◌, ◌≤◌, ◌<◌, true, false, refl, sym, ◌∙◌, rules, tests, arith}
+use Rattle.serialize.specs.Digits.{number_at}
+use Rattle.directory.specs.Read.{key_begin, pairs_bad}
 use Rattle.directory.proofs.Rules.{pairs-stay-bad, offset-bad, length-bad, pair-good, next-begin}
+use Rattle.directory.proofs.Turns.{tried, none-told}
 use Rattle.directory_check.proofs.pairs_bad.Goals as goal
-use Rattle.directory_check.proofs.pairs_bad.Goals.{then-number-begin-via-then-number-begin, then-number-begin-via-else-number-begin+then-len-gt-MAX_KEY_LEN}
-
-pub returns-then-number-begin : goal.returns-then-number-begin
-returns-then-number-begin c =
-    let d = c.args.directory.now in
-    let i = c.loop-i.i in
-    let hit : pairs_bad d (i + 1) ≡ true = elim c.then-number-begin.branch [
-      | then-number-begin-via-then-number-begin w ↦
-          offset-bad d i c.number.result c.number-len.result c.loop-i.begin c.loop-i.invariant.good c.number.ensures.0 c.number-len.ensures.0 c.loop-i.invariant.begins w.if-number-begin.true
-      | then-number-begin-via-else-number-begin+then-len-gt-MAX_KEY_LEN w ↦
-          length-bad d i c.number.result c.number-len.result c.loop-i.begin c.loop-i.invariant.good c.number.ensures.0 c.number-len.ensures.0 c.loop-i.invariant.begins w.if-len-gt-MAX_KEY_LEN.true
-    ] in
-    sym (pairs-stay-bad d (i + 1) c.args.n (omega arith) hit)
-
-pub loop-i-preserved : goal.loop-i-preserved
-loop-i-preserved c =
-    let d = c.args.directory.now in
-    let i = c.loop-i.i in
-    record {
-      begins = next-begin d i c.number.result c.number-len.result c.loop-i.begin c.loop-i.invariant.good c.number.ensures.0 c.number-len.ensures.0 c.loop-i.invariant.begins c.if-number-begin.false;
-      most = omega (arith, c.loop-i.invariant.most);
-      good = pair-good d i c.number.result c.number-len.result c.loop-i.begin c.loop-i.invariant.good c.number.ensures.0 c.number-len.ensures.0 c.loop-i.invariant.begins c.if-number-begin.false (omega arith);
-    }
 
 pub returns : goal.returns
+unfolding pairs_bad key_begin
 returns c =
-    let e : c.loop-i.i ≡ c.args.n = omega arith in
-    sym (rw e at c.loop-i.invariant.good)
+    let d = c.args.directory.now in
+    let n = c.args.n in
+    let told = tried _ _ _ (λ (i begin : ℕ). (pairs_bad d i ≡ false) × (begin ≡ key_begin d i))
+    (λ i begin after q good called.
+    let turn : (q ≡ _) × (number_at d (4 + 8 * i) 4 ≡ begin) × (number_at d (4 + 8 * i + 4) 4 ≤ 1024)
+    × (after ≡ begin + number_at d (4 + 8 * i + 4) 4) = search (rules, tests) in (
+      turn.0,
+      (
+        pair-good d i _ _ begin good.0 refl refl good.1 turn.1 turn.2,
+        turn.3 ∙ next-begin d i _ _ begin good.0 refl refl good.1 turn.1,
+      ),
+    ))
+    n 0 c.try_fold.result _ c.try_fold.ensures.ran (refl, refl) (true ≡ pairs_bad d n)
+    (λ i begin q below good called.
+    let hit : (number_at d (4 + 8 * i) 4 ≢ begin) ⊎ (1024 < number_at d (4 + 8 * i + 4) 4) = search (rules, tests) in
+    sym (pairs-stay-bad d (i + 1) n (omega arith) (⊎_elim (λ e. offset-bad d i _ _ begin good.0 refl refl good.1 e)
+    (λ e. length-bad d i _ _ begin good.0 refl refl good.1 e) hit))) in
+    none-told _ (pairs_bad d n) c.is_none.result c.try_fold.result c.is_none.ensures told

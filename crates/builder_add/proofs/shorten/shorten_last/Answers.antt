@@ -1,5 +1,5 @@
 -- `shorten_last` meets its contract: the last separator lies within the key area.
-use Rattle.std.proofs.Common.{ℕ, ◌-◌, ◌≤◌, ◌≡◌, refl, ap, ◌∙◌, List, length, set, drop, arith, length-take, length-drop, ◌+◌, take}
+use Rattle.std.proofs.Common.{ℕ, ◌≤◌, ◌≡◌, refl, ap, ◌∙◌, List, length, set, drop, arith, length-take, ◌+◌, take}
 use borrow.Author.Tests.{eq-eqb, ne_eqb}
 use native.Mathlib.Nat.{add-sub_cancel_left}
 use lib.Seq.{sets}
@@ -8,17 +8,9 @@ use Rattle.serialize.proofs.Stores.{sets_within}
 use Rattle.keys.specs.Order.{common_prefix_len}
 use Rattle.keys.specs.Shorten.{shorten}
 use Rattle.keys.proofs.Shorten.{shorten-length}
-use Rattle.builder.specs.Area.{area_place, area_key, area_view}
 use Rattle.builder.specs.Calls.{short_blocks, short_keys}
 use Rattle.builder.proofs.Views.{last-place, key-some}
 use Rattle.builder_add.proofs.shorten.shorten_last.Goals as goal
-
--- the common prefix isn't longer than the last key
-within-key : (n : ℕ) (B K : List ℕ) (common : ℕ) → (n ≡ 0 → ⊥) → common ≤ length (area_view n B K).last_key
-    → common ≤ (area_place B (n - 1)).len
-within-key n B K common some h =
-    let g : common ≤ length (area_key B K (n - 1)) = rw (key-some n B K some) at h in
-    omega (arith, length-take (area_place B (n - 1)).len (drop (area_place B (n - 1)).offset K))
 
 pub returns-then-n-eq0 : goal.returns-then-n-eq0
 unfolding short_blocks short_keys
@@ -32,13 +24,6 @@ shortened K key next o l h e =
     rw e
     (sets_within K (shorten (take l (drop o K)) next) o l h
     (omega (arith, shorten-length (take l (drop o K)) next, length-take l (drop o K))))
-
-pub shorter_str_behind-shortened-requires : goal.shorter_str_behind-shortened-requires
-shorter_str_behind-shortened-requires c =
-    let a = c.args in
-    let within = (last-place a.builder.n a.blocks.now a.keys.now c.requires.0 c.if-n-eq0.false).within in
-    let common = within-key a.builder.n a.blocks.now a.keys.now a.common c.if-n-eq0.false c.requires.1 in
-    rw (c.place_at-place.ensures, add-sub_cancel_left) (simp (length-take, length-drop) (omega arith))
 
 pub returns : goal.returns
 unfolding short_blocks short_keys

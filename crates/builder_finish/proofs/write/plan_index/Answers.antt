@@ -22,9 +22,6 @@ returns-then-n-lt2 c =
       stands_at = λ some. absurd (let z : ⊥ = omega (arith, some, c.if-n-lt2.true) in z);
     }
 
-pub plan-requires : goal.plan-requires
-plan-requires c = let e = c.area_store.ensures in rw (e.2, e.3) c.requires.1
-
 pub overflow_add-result : goal.overflow_add-result
 overflow_add-result c =
     let a = c.args.list.now.areas in

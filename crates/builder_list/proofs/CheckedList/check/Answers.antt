@@ -9,9 +9,3 @@ pub returns-in_err-areas-clause-rows_1_and_8 : goal.returns-in_err-areas-clause-
 returns-in_err-areas-clause-rows_1_and_8 c =
     let e = c.in_err-areas.field-0.0 in
     passed-number c.from_residual.result e c.from_residual.ensures.1 ∙ list-first _ _ _ _ c.in_err-areas.ensures.row_1 (number_positive e)
-
-pub returns-in_err-check_list-clause-rows_1_and_8 : goal.returns-in_err-check_list-clause-rows_1_and_8
-returns-in_err-check_list-clause-rows_1_and_8 c =
-    let e = c.in_ok-areas.ensures.same in
-    let left = c.from_residual-in_err-check_list in
-    passed-number left.result c.in_err-check_list.field-0.0 left.ensures.1 ∙ rw (e.0, e.1, e.2) at c.in_err-check_list.ensures

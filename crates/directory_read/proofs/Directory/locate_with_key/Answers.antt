@@ -23,30 +23,38 @@ returns-then-shared-at-clause-found_as c sorted =
     let shared = c.common_prefix_len_by_runs-shared.result in
     let key = key_of a.self.bytes.now a.self.n mid in
     let is : shared ≡ common_prefix_len key a.key.now
-    = between-counted _ _ _ _ _ _ _ c.loop-left.invariant mid (omega arith) (omega arith) _ _ _ c.key-at.ensures c.min-skip.ensures c.common_prefix_len_by_runs-shared.ensures sorted in
+    = between-counted _ _ _ _ _ _ _ c.loop-left.invariant mid (omega arith)
+    (omega arith) _ _ _ c.key-at.ensures c.min-skip.ensures c.common_prefix_len_by_runs-shared.ensures sorted in
     record {
       inside = omega (arith, c.loop-left.invariant.inside);
       not-below = not-below-whole key a.key.now shared is c.if-shared-key.true;
-      earlier = all-before a.self.bytes.now a.self.n sorted mid a.key.now (omega (arith, c.loop-left.invariant.inside)) (whole a.key.now c.key-at.ensures shared is c.if-shared-at.true);
+      earlier = all-before a.self.bytes.now a.self.n sorted mid a.key.now (omega (arith, c.loop-left.invariant.inside))
+          (whole a.key.now c.key-at.ensures shared is c.if-shared-at.true);
     }
 
 pub loop-left-preserved-then-shared-key : goal.loop-left-preserved-then-shared-key
 loop-left-preserved-then-shared-key c =
     let mid = middle c.loop-left.left c.loop-left.right in
-    let is = between-counted _ _ _ _ _ _ _ c.loop-left.invariant mid (omega arith) (omega arith) _ _ _ c.key-at.ensures c.min-skip.ensures c.common_prefix_len_by_runs-shared.ensures in
-    right-moved _ _ _ _ _ _ _ c.loop-left.invariant mid (omega arith) (omega arith) _ is (λ sorted. not-below-whole _ _ _ (is sorted) c.if-shared-key.true)
+    let is = between-counted _ _ _ _ _ _ _ c.loop-left.invariant mid (omega arith)
+    (omega arith) _ _ _ c.key-at.ensures c.min-skip.ensures c.common_prefix_len_by_runs-shared.ensures in
+    right-moved _ _ _ _ _ _ _ c.loop-left.invariant mid (omega arith) (omega arith) _ is
+    (λ sorted. not-below-whole _ _ _ (is sorted) c.if-shared-key.true)
 
 pub loop-left-preserved-then-lt_behind : goal.loop-left-preserved-then-lt_behind
 loop-left-preserved-then-lt_behind c =
     let mid = middle c.loop-left.left c.loop-left.right in
-    let is = between-counted _ _ _ _ _ _ _ c.loop-left.invariant mid (omega arith) (omega arith) _ _ _ c.key-at.ensures c.min-skip.ensures c.common_prefix_len_by_runs-shared.ensures in
-    left-moved _ _ _ _ _ _ _ c.loop-left.invariant mid (omega arith) (omega arith) _ is (λ sorted. tested _ c.key-at.ensures _ (is sorted) c.lt_behind.ensures c.if-lt_behind.true)
+    let is = between-counted _ _ _ _ _ _ _ c.loop-left.invariant mid (omega arith)
+    (omega arith) _ _ _ c.key-at.ensures c.min-skip.ensures c.common_prefix_len_by_runs-shared.ensures in
+    left-moved _ _ _ _ _ _ _ c.loop-left.invariant mid (omega arith) (omega arith) _ is
+    (λ sorted. tested _ c.key-at.ensures _ (is sorted) c.lt_behind.ensures c.if-lt_behind.true)
 
 pub loop-left-preserved : goal.loop-left-preserved
 loop-left-preserved c =
     let mid = middle c.loop-left.left c.loop-left.right in
-    let is = between-counted _ _ _ _ _ _ _ c.loop-left.invariant mid (omega arith) (omega arith) _ _ _ c.key-at.ensures c.min-skip.ensures c.common_prefix_len_by_runs-shared.ensures in
-    right-moved _ _ _ _ _ _ _ c.loop-left.invariant mid (omega arith) (omega arith) _ is (λ sorted. tested _ c.key-at.ensures _ (is sorted) c.lt_behind.ensures c.if-lt_behind.false)
+    let is = between-counted _ _ _ _ _ _ _ c.loop-left.invariant mid (omega arith)
+    (omega arith) _ _ _ c.key-at.ensures c.min-skip.ensures c.common_prefix_len_by_runs-shared.ensures in
+    right-moved _ _ _ _ _ _ _ c.loop-left.invariant mid (omega arith) (omega arith) _ is
+    (λ sorted. tested _ c.key-at.ensures _ (is sorted) c.lt_behind.ensures c.if-lt_behind.false)
 
 -- the bounds have met
 pub returns-clause-found_as : goal.returns-clause-found_as

@@ -45,5 +45,6 @@ returns c =
     let r = c.args.self.now in (
       omega (arith, c.write_keys.ensures.0, length-keys_at-directory r.area.now r.stride r.field r.keys.now r.n),
       directory-written (record_keys r) r.n c.args.out.now c.serialize_u32.new.out c.write_pairs.new.out c.write_keys.new.out
-          (length-keys_at r.area.now r.stride r.field r.keys.now 0 r.n) c.serialize_u32.ensures c.write_pairs.ensures c.write_keys.ensures.1,
+          (length-keys_at r.area.now r.stride r.field r.keys.now 0 r.n)
+          c.serialize_u32.ensures c.write_pairs.ensures c.write_keys.ensures.1,
     )

@@ -14,11 +14,13 @@ loop-i-preserved c =
     record {
       most = omega (arith, e, r.stand.short i (omega arith), c.loop-i.invariant.most);
       whole = c.loop-i.invariant.whole ∙ rw e
-          (pairs-turn r.area.now r.stride r.field r.keys.now r.n r.stand i (omega arith) c.loop-i.out c.serialize_u32.new.out c.serialize_u32-in-loop-i.new.out c.loop-i.offset
+          (pairs-turn r.area.now r.stride r.field r.keys.now r.n r.stand i
+          (omega arith) c.loop-i.out c.serialize_u32.new.out c.serialize_u32-in-loop-i.new.out c.loop-i.offset
           c.serialize_u32.ensures (rw e at c.serialize_u32-in-loop-i.ensures));
     }
 
 pub returns : goal.returns
 returns c =
     let r = c.args.self.now in
-    sym (c.loop-i.invariant.whole ∙ pairs-none r.area.now r.stride r.field r.keys.now r.n c.loop-i.i (omega arith) c.loop-i.out (8 * c.loop-i.i) c.loop-i.offset)
+    sym (c.loop-i.invariant.whole
+    ∙ pairs-none r.area.now r.stride r.field r.keys.now r.n c.loop-i.i (omega arith) c.loop-i.out (8 * c.loop-i.i) c.loop-i.offset)
