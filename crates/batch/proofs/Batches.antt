@@ -9,7 +9,7 @@ use lib.Dec.{ltb}
 use lib.ListN.{length, get_or, take, drop}
 use lib.Seq.{sets, take-length, length-take-le, get_or-take}
 use borrow.Author.Tests.{ltb-false}
-use Rattle.serialize.proofs.Tests.{neither}
+use Rattle.std.proofs.lemmas.Bool.{or_parts}
 use Rattle.serialize.proofs.Stores.{copied}
 use Rattle.directory.specs.Read.{key_of, Sorted}
 use Rattle.store.specs.Facts.{GroupLenOk}
@@ -53,7 +53,7 @@ module _ (pairs bytes : List ℕ) (room : ℕ) where
   pub batch-ok : batch_bad pairs bytes room ≡ false → BatchOk
   unfolding batch_bad
   batch-ok e =
-      let both = neither (key_list_bad 64 pairs (length bytes)) _ e in
+      let both = or_parts (key_list_bad 64 pairs (length bytes)) _ e in
       record { list = key-list-ok 64 pairs (length bytes) both.0; room-enough = ltb-false room (key_list_count pairs) both.1 }
 
 -- ---- what is written

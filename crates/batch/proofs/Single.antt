@@ -21,7 +21,8 @@ use Rattle.batch.proofs.Batches.{batch-ok}
 
 module _ (separator : ℕ → List ℕ) (n : ℕ) (key : List ℕ) where
   -- the single lookup's answer as an entry
-  lookup_entry : (k id : ℕ) → ByKeyExact separator n key k id → (k ≡ 0 → EntryExact separator n key id) × (k ≡ 19 → EntryExact separator n key no_id)
+  lookup_entry : (k id : ℕ) → ByKeyExact separator n key k id → (k ≡ 0 → EntryExact separator n key id)
+      × (k ≡ 19 → EntryExact separator n key no_id)
   lookup_entry k id (inl a) = (λ e. inl a.1, λ e. absurd (let z : ⊥ = omega (arith, a.0, e) in z))
   lookup_entry k id (inr a) = (λ e. absurd (let z : ⊥ = omega (arith, a.0, e) in z), λ e. inr (refl, a.2))
 
@@ -60,7 +61,8 @@ batch-single f opened pairs bytes ids written o b i k id h s =
     (opens-facts-by (group_of opened) f opened (record { some = omega arith; few = omega arith }) o).fits.few in (
       λ e. at ∙ same.0 e,
       λ e. at ∙ same.1 e,
-      λ e. none-single (separator_in f) opened.n (key_list_key pairs bytes i) few k id (get_or t.list i 0) (s.exact o) (t.each i h) (sym at ∙ e),
+      λ e. none-single (separator_in f) opened.n (key_list_key pairs bytes i) few k id (get_or t.list i 0) (s.exact o) (t.each i h)
+          (sym at ∙ e),
     )
   where
     accepted : (t : Bool) → ◌≡◌ {A = ℕ} 0 (cond t 26 0) → t ≡ false
@@ -79,7 +81,8 @@ module _ (f : List ℕ) (opened : SSTableIndexV3) (pairs bytes ids : List ℕ) (
       s.stands
       ∙ ap (λ (l : List ℕ). sets ids 0 l)
       (ext_get_or 0 s.list t.list (s.long ∙ sym t.long)
-      (λ i h. entry-unique (separator_in f) opened.n (key_list_key pairs bytes i) _ _ (s.each i (omega (arith, s.long))) (t.each i (omega (arith, s.long)))))
+      (λ i h. entry-unique (separator_in f) opened.n (key_list_key pairs bytes i) _ _ (s.each i (omega (arith, s.long)))
+      (t.each i (omega (arith, s.long)))))
       ∙ sym t.stands
 
   -- two answers for the same bytes, record, list and ids have the same number and leave the same ids

@@ -1,4 +1,5 @@
-// The lookup of a batch with groups of a given length. All entries are there before the first of them is written.
+// The lookup of a batch with groups of a given length. All entries are there before the first of them is written. What is lent comes
+// apart, and the length is a number with its fact, as in index_lookup.
 ghost use Rattle.std.specs.Prelude.{◌≡◌, ◌≤◌, length, take};
 ghost use Rattle.std.proofs.lemmas.List.Edits.{sets};
 ghost use Rattle.layout.specs.Layout.{max_batch_keys};
@@ -14,7 +15,7 @@ use layout::refusals::Refusal;
 
 // Copies the first `count` entries to the front of the ids.
 fn write(found: &[u64; MAX_BATCH_KEYS], count: usize, ids: &mut [u64])
-    requires { (count ≤ max_batch_keys) × (length found.now ≡ max_batch_keys) × (count ≤ length ids.old) }
+    requires { (count ≤ max_batch_keys) × (count ≤ length ids.old) }
     ensures { ids.new ≡ sets ids.old 0 (take count found.now) }
 {
     ids[..count].copy_from_slice(&found[..count]);
@@ -37,6 +38,7 @@ pub fn locate_with_keys(
     if ids.len() < list.len() {
         return Err(Refusal::KeyListBad);
     }
+    // A fixed area, since the library has no heap.
     let mut found = [0u64; MAX_BATCH_KEYS];
     batch_search::find_entries(index.directory(), &list, &mut found)?;
     write(&found, list.len(), ids);

@@ -10,7 +10,8 @@ use index::SSTableIndexV3;
 use layout::STORE_BLOCK_LEN;
 use layout::refusals::Refusal;
 
-// Writes the id of the block of each key at the front of `ids`.
+// Writes the id of the block of each key at the front of `ids`. The C interface calls it, which hands over no group length, and record
+// and bytes, pairs and keys apart.
 pub fn locate_with_keys(
     opened: SSTableIndexV3,
     data: &[u8],

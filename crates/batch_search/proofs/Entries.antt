@@ -72,10 +72,8 @@ found-exact f n key (Err refusal) h = inr (refl, h.1)
 
 -- facts about each element before a place go on to the next place
 module _ (P : ℕ → ℕ → Type 0) (l : List ℕ) where
-  pub each_none : (j : ℕ) → j < 0 → P j (get_or l j 0)
-  each_none j h = absurd (let z : ⊥ = omega arith in z)
-
-  pub each_next : (i x : ℕ) → i < length l → ((j : ℕ) → j < i → P j (get_or l j 0)) → P i x → (j : ℕ) → j < i + 1 → P j (get_or (set l i x) j 0)
+  pub each_next : (i x : ℕ) → i < length l → ((j : ℕ) → j < i → P j (get_or l j 0)) → P i x → (j : ℕ) → j < i + 1 →
+      P j (get_or (set l i x) j 0)
   each_next i x h p q j g =
       let g' : j ≤ i = omega arith in
       ⊎_elim

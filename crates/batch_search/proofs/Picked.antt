@@ -1,5 +1,5 @@
--- One of two words by masks, and the order of two keys as a number: 0 for below, 1 for not below.
-use mathlib.Core.Path.{◌≡◌, refl, sym, ◌∙◌}
+-- One of two words by a mask, and the order of two keys as a number: 0 for below, 1 for not below.
+use mathlib.Core.Path.{◌≡◌, refl, sym, ap, ◌∙◌}
 use mathlib.Core.Bool.{Bool, true, false, cond}
 use mathlib.Core.List.{List}
 use Prim.Native.Nat.{ℕ, zero, suc, ◌+◌, ◌-◌, ◌*◌, ◌/◌, ◌^◌, ◌≤◌, ◌<◌}
@@ -7,7 +7,8 @@ use native.Mathlib.Nat.{mod-eq_of_lt}
 use native.Mathlib.Omega.{arith}
 use lib.Dec.{eqb, ltb}
 use lib.ListN.{length, get_or}
-use lib.Bits.{bit_and, and_mask, and_zero_r}
+use lib.Bits.{bit_and, bit_xor, and_mask, and_zero_r, xor_self, xor_zero_l, xor_zero_r, xor_assoc}
+use Rattle.std.proofs.lemmas.Nat.{xor_lt}
 use borrow.Author.Tests.{lt-ltb, le-ltb, ltb-true, ltb-false}
 use Rattle.keys.specs.Order.{less, common_prefix_len}
 use Rattle.keys.proofs.Order.{by-test, less-end-right, less-end-left, less-at}
@@ -18,15 +19,15 @@ use Rattle.keys.proofs.Order.{by-test, less-end-right, less-end-left, less-at}
 whole_word : (a : ℕ) → a < 2 ^ 64 → bit_and a (2 ^ 64 - 1) ≡ a
 whole_word a h = and_mask a 64 ∙ mod-eq_of_lt h
 
-pub picked : (which a b : ℕ) → which ≤ 1 → a < 2 ^ 64 → b < 2 ^ 64
-    → bit_and b (which * 18446744073709551615) + bit_and a (18446744073709551615 - which * 18446744073709551615) ≡ cond (eqb which 0) a b
-picked zero a b w h g = let x = whole_word a h in let y = and_zero_r b in omega (arith, x, y)
-picked (suc zero) a b w h g = let x = whole_word b g in let y = and_zero_r a in omega (arith, x, y)
-picked (suc (suc which)) a b w h g = absurd (let z : ⊥ = omega arith in z)
+-- what differs between two words, put over the first, gives the second
+turned : (a b : ℕ) → bit_xor a (bit_xor a b) ≡ b
+turned a b = sym (xor_assoc a a b) ∙ ap (λ (x : ℕ). bit_xor x b) (xor_self a) ∙ xor_zero_l b
 
-pub either-fits : (t : Bool) (a b : ℕ) → a < 2 ^ 64 → b < 2 ^ 64 → cond t a b < 2 ^ 64
-either-fits true a b h g = h
-either-fits false a b h g = g
+pub picked : (which a b : ℕ) → which ≤ 1 → a < 2 ^ 64 → b < 2 ^ 64
+    → bit_xor a (bit_and (bit_xor a b) (which * 18446744073709551615)) ≡ cond (eqb which 0) a b
+picked zero a b w h g = ap (bit_xor a) (and_zero_r (bit_xor a b)) ∙ xor_zero_r a
+picked (suc zero) a b w h g = ap (bit_xor a) (whole_word (bit_xor a b) (xor_lt 64 a b h g)) ∙ turned a b
+picked (suc (suc which)) a b w h g = absurd (let z : ⊥ = omega arith in z)
 
 -- ---- the order
 
@@ -53,7 +54,8 @@ ordered at key =
     (same-order (get_or at s 0) (get_or key s 0) ∙ sym (less-at at key (ltb-true s (length at) in-at) (ltb-true s (length key) in-key))))
     (λ past-at.
     rw (in-key, past-at)
-    (lt-ltb 0 (get_or key s 0 + 1) (omega arith) ∙ sym (less-end-left at key (ltb-false s (length at) past-at) (ltb-true s (length key) in-key)))))
+    (lt-ltb 0 (get_or key s 0 + 1) (omega arith) ∙ sym (less-end-left at key (ltb-false s (length at) past-at) (ltb-true s (length key)
+    in-key)))))
     (λ past-key.
     rw past-key (le-ltb (byte_from1 at s) 0 (omega arith) ∙ sym (less-end-right at key (ltb-false s (length key) past-key))))
   where

@@ -71,7 +71,8 @@ module _ (d : List ℕ) (n : ℕ) (key : List ℕ) (len left low high : ℕ) (ok
     from-middle p sorted j h g =
         ⊎_elim
         (λ (e : middle ≡ j). rw e at (p sorted))
-        (λ (l : middle < j). ≼_trans key (key_of d n middle) (key_of d n j) (p sorted) (less-asym (key_of d n middle) (key_of d n j) (keys-rise d n sorted middle j l g)))
+        (λ (l : middle < j). ≼_trans key (key_of d n middle) (key_of d n j) (p sorted) (less-asym (key_of d n middle) (key_of d n j)
+        (keys-rise d n sorted middle j l g)))
         (eq-or-lt_of_le h)
 
     turned-above : (Sorted d n → key ≼ key_of d n middle) → LaneOk d n key (len / 2) (left + 0) low shared
@@ -113,25 +114,19 @@ lanes-fresh d n pairs bytes =
       each = λ i h. rw (fresh-at 64 i, le-ltb i 0 (omega arith)) (lane-fresh d n (key_list_key pairs bytes i));
     }
 
+-- a search by default is one that hasn't begun
+pub default-fresh : (l : Lane) → (l.left ≡ 0) × ((l.low ≡ 0) × (l.high ≡ 0)) → l ≡ fresh
+default-fresh l d = from-parts l.left l.low l.high d.0 d.1.0 d.1.1
+  where
+    from-parts : (left low high : ℕ) → left ≡ 0 → low ≡ 0 → high ≡ 0 → record { left = left; low = low; high = high } ≡ fresh
+    from-parts left low high e f g = rw (e, f, g) refl
+
 -- when nothing is left to any
 pub lanes-ended : (d : List ℕ) (n : ℕ) (pairs bytes : List ℕ) (lanes : List Lane) → LanesOk d n pairs bytes 0 0 lanes
     → (i : ℕ) → i < key_list_count pairs → Keeps d n (key_list_key pairs bytes i) 0 (get_or lanes i fresh)
 lanes-ended d n pairs bytes lanes p i h = rw (le-ltb i 0 (omega arith)) at (p.each i h)
 
 module _ (d : List ℕ) (n : ℕ) (pairs bytes : List ℕ) (len : ℕ) where
-  -- the search whose turn is next
-  pub lane-next : (m : ℕ) (lanes : List Lane) → LanesOk d n pairs bytes m len lanes → m < key_list_count pairs
-      → Keeps d n (key_list_key pairs bytes m) len (get_or lanes m fresh)
-  lane-next m lanes p h = rw (le-ltb m m (omega arith)) at (p.each m h)
-
-  -- when all have taken their turn
-  pub lanes-done : (lanes : List Lane) → LanesOk d n pairs bytes (key_list_count pairs) len lanes → LanesOk d n pairs bytes 0 (len / 2) lanes
-  lanes-done lanes p =
-      record {
-        long = p.long;
-        each = λ i h. rw (le-ltb i 0 (omega arith)) (rw (lt-ltb i (key_list_count pairs) h) at (p.each i h));
-      }
-
   -- after the turn of search m
   pub lanes_next : (m : ℕ) (lane : Lane) (lanes : List Lane) → LanesOk d n pairs bytes m len lanes → m < 64
       → Keeps d n (key_list_key pairs bytes m) (len / 2) lane → LanesOk d n pairs bytes (m + 1) len (set lanes m lane)

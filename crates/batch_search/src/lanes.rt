@@ -15,7 +15,7 @@ use layout::MAX_BATCH_KEYS;
 use layout::refusals::Refusal;
 
 // A search: its left bound, and how many bytes the keys around its bounds share with its key.
-#[derive(Clone, Copy)]
+#[derive(Clone, Copy, Default)]
 struct Lane {
     left: usize,
     low: usize,
@@ -26,10 +26,7 @@ struct Lane {
 fn byte_from_1(key: &[u8], place: usize) -> usize
     ensures { (result ≡ cond (ltb place (length key.now)) (get_or key.now place 0 + 1) 0) × (result ≤ 256) }
 {
-    if place < key.len() {
-        return key[place] as usize + 1;
-    }
-    0
+    key.get(place).map_or(0, |byte| usize::from(*byte) + 1)
 }
 
 // 1 where `at` isn't below `key`, and 0 where it is, if they share `shared` bytes. By numbers alone: a test of what the bytes say would
@@ -41,13 +38,14 @@ fn not_below(at: &[u8], key: &[u8], shared: usize) -> usize
     (byte_from_1(at, shared) + 512 - byte_from_1(key, shared)) / 512
 }
 
-// The first of two numbers for 0, the second for 1, without a branch.
+// The first of two numbers for 0, the second for 1, without a branch: by one mask, since of a mask and its complement a compiler
+// makes a choice, and of three choices a turn a branch.
 fn pick(which: usize, first: usize, second: usize) -> usize
     requires { which ≤ 1 }
     ensures { result ≡ cond (eqb which 0) first second }
 {
-    let all = which * 0xFFFF_FFFF_FFFF_FFFF;
-    (second & all) + (first & (0xFFFF_FFFF_FFFF_FFFF - all))
+    let all = which * usize::MAX;
+    first ^ ((first ^ second) & all)
 }
 
 // How many bytes a key of the directory and a search's own have in common, if the first `from` are. The first word mostly decides,
@@ -56,10 +54,9 @@ fn shared_len(at: &[u8], key: &[u8], from: usize) -> usize
     ensures { from ≤ common_prefix_len at.now key.now
         → result ≡ common_prefix_len at.now key.now }
 {
-    match keys::common_prefix_near(at, key, from) {
-        Ok(len) => len,
-        Err(least) => keys::common_prefix_len_by_runs(at, key, least),
-    }
+    keys::common_prefix_near(at, key, from).unwrap_or_else(|least| keys::common_prefix_len_by_runs(
+        at, key, least,
+    ))
 }
 
 impl Lane {
@@ -93,7 +90,9 @@ impl Lane {
     }
 }
 
-// A turn of each search; refused where one meets a key outside the directory.
+// A turn of each search; refused where one meets a key outside the directory. Directory and list come apart here and below, as the
+// public function takes them: a struct of both would be made to be taken apart at once. Not inlined, so that its loop has the registers.
+#[inline(never)]
 fn round(
     directory: Directory,
     list: &KeyList,
@@ -118,14 +117,14 @@ fn round(
     Ok(())
 }
 
-// The entries where every search is at its end.
+// The entries where every search is at its end. By place: over the two lists zipped, the check didn't find which entry is whose.
 fn entries(
     lanes: &[Lane; MAX_BATCH_KEYS],
     count: usize,
     n: usize,
     found: &mut [u64; MAX_BATCH_KEYS],
 )
-    requires { (count ≤ max_batch_keys) × (length lanes.now ≡ max_batch_keys) × (length found.old ≡ max_batch_keys) }
+    requires { count ≤ max_batch_keys }
     ensures { (length found.new ≡ max_batch_keys) × ((i : ℕ) → i < count
         → get_or found.new i 0 ≡ cond (eqb (get_or lanes.now i fresh).left n) no_id (get_or lanes.now i fresh).left) }
 {
@@ -134,22 +133,17 @@ fn entries(
     }
 }
 
-// All searches, a turn each in every round.
+// All searches, a turn each in every round. There are as many lanes as a list has keys at most: the library has no heap.
 pub fn side_by_side(
     directory: Directory,
     list: &KeyList,
     found: &mut [u64; MAX_BATCH_KEYS],
 ) -> Result<(), Refusal>
-    requires { (length found.old ≡ max_batch_keys) }
     ensures entries { EntriesFound directory.entry.bytes.now directory.entry.n list.now.pairs.now list.now.keys.now
         found.new (ended result) }
     ensures number { no_of result ≡ cond (ended result) 0 20 }
 {
-    let mut lanes = [Lane {
-        left: 0,
-        low: 0,
-        high: 0,
-    }; MAX_BATCH_KEYS];
+    let mut lanes = [Lane::default(); MAX_BATCH_KEYS];
     let mut len = directory.n;
     // Halved from round to round: nothing is counted that a `for` could go over.
     while len > 0 {

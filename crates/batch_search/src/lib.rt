@@ -13,8 +13,8 @@ use key_list::KeyList;
 use layout::MAX_BATCH_KEYS;
 use layout::refusals::Refusal;
 
-// The entry of a key that is above the last separator.
-pub const NO_ID: u64 = 0xFFFF_FFFF_FFFF_FFFF;
+// The entry of a key that is above the last separator: a number, since C has the entries in an array of numbers.
+pub const NO_ID: u64 = u64::MAX;
 
 // From as many keys and as many blocks on searches side by side are faster than one after the other.
 const SOME_KEYS: usize = 8;
@@ -27,7 +27,6 @@ fn one_by_one(
     list: &KeyList,
     found: &mut [u64; MAX_BATCH_KEYS],
 ) -> Result<(), Refusal>
-    requires { (length found.old ≡ max_batch_keys) }
     ensures entries { EntriesFound directory.entry.bytes.now directory.entry.n list.now.pairs.now list.now.keys.now
         found.new (ended result) }
     ensures number { no_of result ≡ cond (ended result) 0 20 }
@@ -49,7 +48,6 @@ pub fn find_entries(
     list: &KeyList,
     found: &mut [u64; MAX_BATCH_KEYS],
 ) -> Result<(), Refusal>
-    requires { (length found.old ≡ max_batch_keys) }
     ensures entries { EntriesFound directory.entry.bytes.now directory.entry.n list.now.pairs.now list.now.keys.now
         found.new (ended result) }
     ensures number { no_of result ≡ cond (ended result) 0 20 }

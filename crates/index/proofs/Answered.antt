@@ -2,63 +2,36 @@
 use mathlib.Core.Path.{◌≡◌, sym, ◌∙◌}
 use mathlib.Core.Bool.{true, true≢false}
 use mathlib.Core.List.{List}
-use mathlib.Core.Logic.{inl, inr}
 use Prim.Native.Nat.{ℕ, ◌<◌}
-use native.Mathlib.Omega.{arith}
-use Rattle.std.specs.Prelude.{Result, Err}
-use lib.ListN.{length, drop, length-take, length-drop}
+use Rattle.std.specs.Prelude.{Result}
+use lib.ListN.{length}
 use Rattle.group.specs.declared.BlockAddr.{BlockAddr}
 use Rattle.group.specs.Legal.{Legal}
 use Rattle.group.specs.Rows.{are_numbers_bad}
 use Rattle.group.proofs.Legal.{numbers-good}
-use Rattle.store.specs.Read.{store_block, block_or, StoreOk, OrdFoundIn, OrdFoundAs}
-use Rattle.store.specs.Facts.{GroupLenOk, GroupRecordsOk}
+use Rattle.store.specs.Read.{store_block, block_or, StoreOk, OrdFoundAs}
+use Rattle.store.specs.Facts.{GroupLenOk}
 use Rattle.store.specs.declared.Located.{Located}
 use Rattle.store.proofs.Lookup.{read-block}
-use Rattle.directory.specs.Read.{key_of, Sorted, FoundIn, FoundAs}
+use Rattle.directory.specs.Read.{key_of, Sorted, FoundAs}
 use Rattle.layout.specs.declared.refusals.Refusal.{Refusal}
-use Rattle.layout.specs.Refusals.{number_of}
 use Rattle.index.specs.declared.SSTableIndexV3.{SSTableIndexV3}
 use Rattle.index.specs.Parts.{group_records_part, addrs_part, directory_part, count_in, block_in, separator_in}
 use Rattle.index.specs.Opening.{OpensBy}
-use Rattle.index.specs.Lookups.{opened_bad_by, OpenedFits, directory_at, Refuses}
+use Rattle.index.specs.Lookups.{opened_bad_by, directory_at}
 use Rattle.index.proofs.Fits.{bad-unfit}
 use Rattle.index.proofs.OpenFacts.{metas_at, addrs_at, OpenFacts, opens-facts-by}
 
 -- a record that row 20 refuses comes from no opening of the bytes
-pub bad-unopened : (L : ℕ) (f : List ℕ) (opened : SSTableIndexV3) → GroupLenOk L → opened_bad_by L opened (length f) ≡ true → OpensBy L f opened → ⊥
+pub bad-unopened : (L : ℕ) (f : List ℕ) (opened : SSTableIndexV3) → GroupLenOk L → opened_bad_by L opened (length f) ≡ true
+    → OpensBy L f opened → ⊥
 bad-unopened L f opened len e o = bad-unfit L opened (length f) e (opens-facts-by L f opened len o).fits
-
--- group records enough
-pub enough-records : (L : ℕ) (f : List ℕ) (opened : SSTableIndexV3) (recs : List ℕ) → OpenedFits L opened (length f) → recs ≡ metas_at opened f
-    → GroupRecordsOk L recs opened.n
-enough-records L f opened recs fits e = record {
-  some = fits.some;
-  few = fits.few;
-  long = rw e (omega (arith, fits, length-take opened.metas_len (drop opened.metas f), length-drop opened.metas f));
-}
 
 -- ---- a block that was read
 
 -- a legal one keeps row 3
 pub kept : (block : ℕ → BlockAddr) (n i : ℕ) (b : BlockAddr) → Legal block n → i < n → b ≡ block i → are_numbers_bad b ≡ true → ⊥
 kept block n i b legal h e bad = true≢false (sym bad ∙ numbers-good b (rw e (legal.numbers i h)))
-
--- ---- a search that found no block
-
--- it is refused with its own row, or 20
-pub key-refused : (n : ℕ) (r : Refusal) → FoundIn n (Err r) → Refuses 19 (number_of r)
-unfolding FoundIn
-key-refused n r h = h
-
-pub ord-refused : (n : ℕ) (r : Refusal) → OrdFoundIn n (Err r) → Refuses 18 (number_of r)
-unfolding OrdFoundIn
-ord-refused n r h = h
-
--- a refusal's number is above 0
-pub refuses-above : (row k : ℕ) → 0 < row → Refuses row k → 0 < k
-refuses-above row k h (inl e) = omega arith
-refuses-above row k h (inr e) = omega arith
 
 -- ---- bytes and record of one opening
 

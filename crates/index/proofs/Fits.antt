@@ -4,7 +4,7 @@ use mathlib.Core.Bool.{true, false, true≢false}
 use Prim.Native.Nat.{ℕ, ◌+◌, ◌*◌, ◌≤◌}
 use lib.Dec.{ltb}
 use borrow.Author.Tests.{ltb-false, le-ltb}
-use Rattle.serialize.proofs.Tests.{neither}
+use Rattle.std.proofs.lemmas.Bool.{or_parts}
 use Rattle.keys.proofs.Order.{by-test}
 use Rattle.store.specs.Store.{group_count}
 use Rattle.index.specs.declared.SSTableIndexV3.{SSTableIndexV3}
@@ -14,11 +14,11 @@ module _ (L : ℕ) (opened : SSTableIndexV3) (len : ℕ) where
   pub opened-fits : opened_bad_by L opened len ≡ false → OpenedFits L opened len
   unfolding opened_bad_by
   opened-fits e =
-      let a = neither (ltb opened.n 1) _ e in
-      let b = neither (ltb 65536 opened.n) _ a.1 in
-      let c = neither (ltb len (opened.directory + opened.directory_len)) _ b.1 in
-      let d = neither (ltb len (opened.metas + opened.metas_len)) _ c.1 in
-      let g = neither (ltb len (opened.addrs + opened.addrs_len)) _ d.1 in
+      let a = or_parts (ltb opened.n 1) _ e in
+      let b = or_parts (ltb 65536 opened.n) _ a.1 in
+      let c = or_parts (ltb len (opened.directory + opened.directory_len)) _ b.1 in
+      let d = or_parts (ltb len (opened.metas + opened.metas_len)) _ c.1 in
+      let g = or_parts (ltb len (opened.addrs + opened.addrs_len)) _ d.1 in
       record {
         some = ltb-false opened.n 1 a.0;
         few = ltb-false 65536 opened.n b.0;

@@ -3,6 +3,7 @@ pub mod Fits
 pub mod LookupLaws
 pub mod Lookups
 pub mod OpenFacts
+pub mod Opened
 pub mod OpeningJoined
 pub mod OpeningRows
 pub mod Places

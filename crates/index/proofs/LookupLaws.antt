@@ -35,7 +35,8 @@ module _ (L : ℕ) (f : List ℕ) (opened : SSTableIndexV3) (facts : OpenFacts L
     pub place-known : id < opened.n
         → place_by L opened f id ≡ Some (key_position (directory_part f) (count_in f) id, key_length (directory_part f) id)
     place-known h =
-        let named = place_read L opened f id facts.fits h (directory_part f) (sym facts.directory) (rw facts.count (inside h)) _ _ refl refl in
+        let named = place_read L opened f id facts.fits h (directory_part f) (sym facts.directory)
+        (rw facts.count (inside h)) _ _ refl refl in
         sym named ∙ rw (begins, facts.count, zero-add (key_position (directory_part f) (count_in f) id))
 
     -- the part that stands there is the block's separator

@@ -1,10 +1,9 @@
--- What each lookup promises follows from what the store and the directory answer: of a record that its own test refuses, and of one that fits.
-use mathlib.Core.Path.{◌≡◌, refl, sym, ap, ◌∙◌}
+-- What each lookup promises follows from what the store and the directory answer: of a record that row 20 refuses, and of one that fits.
+use mathlib.Core.Path.{◌≡◌, refl}
 use mathlib.Core.Bool.{true}
 use mathlib.Core.List.{List}
 use mathlib.Core.Logic.{inl, inr}
 use Prim.Native.Nat.{ℕ, ◌≤◌, ◌<◌}
-use native.Mathlib.Omega.{arith}
 use Rattle.std.specs.Prelude.{Result, Ok, Err, MatchResult}
 use lib.ListN.{length}
 use Rattle.layout.specs.declared.refusals.Refusal.{Refusal}
@@ -29,23 +28,28 @@ module _ (L : ℕ) (f : List ℕ) (opened : SSTableIndexV3) where
 
   module _ (len : GroupLenOk L) (bad : opened_bad_by L opened (length f) ≡ true) (k : ℕ) (unfit : k ≡ 20) where
     pub block-unfit : (id : ℕ) → GetBlockBy L f opened id k no_block
-    block-unfit id = record { allowed = inr (inr unfit, refl); unfit = λ e. unfit; exact = λ o. absurd (bad-unopened L f opened len bad o) }
+    block-unfit id =
+        record { allowed = inr (inr unfit, refl); unfit = λ e. unfit; exact = λ o. absurd (bad-unopened L f opened len bad o) }
 
     pub ord-unfit : (ord : ℕ) → LocateWithOrdBy L f opened ord k 0 no_block
-    ord-unfit ord = record { allowed = inr (inr unfit, refl, refl); unfit = λ e. unfit; exact = λ o. absurd (bad-unopened L f opened len bad o) }
+    ord-unfit ord =
+        record { allowed = inr (inr unfit, refl, refl); unfit = λ e. unfit; exact = λ o. absurd (bad-unopened L f opened len bad o) }
 
     pub key-unfit : (key : List ℕ) → LocateWithKeyBy L f opened key k 0
-    key-unfit key = record { allowed = inr (inr unfit, refl); unfit = λ e. unfit; exact = λ o. absurd (bad-unopened L f opened len bad o) }
+    key-unfit key =
+        record { allowed = inr (inr unfit, refl); unfit = λ e. unfit; exact = λ o. absurd (bad-unopened L f opened len bad o) }
 
     pub addr-unfit : (key : List ℕ) → GetBlockWithKeyBy L f opened key k 0 no_block
-    addr-unfit key = record { allowed = inr (inr unfit, refl, refl); unfit = λ e. unfit; exact = λ o. absurd (bad-unopened L f opened len bad o) }
+    addr-unfit key =
+        record { allowed = inr (inr unfit, refl, refl); unfit = λ e. unfit; exact = λ o. absurd (bad-unopened L f opened len bad o) }
 
   -- ---- a record that fits
 
   -- what a block that is there is read as
   abbrev pub BlockRead : ℕ → Result BlockAddr Refusal → Type 0
   BlockRead id r =
-      MatchResult r (λ addr. NumbersOk addr × (OpensBy L f opened → addr ≡ block_in L f id)) (λ refusal. (number_of refusal ≡ 20) × (OpensBy L f opened → ⊥))
+      MatchResult r (λ addr. NumbersOk addr × (OpensBy L f opened → addr ≡ block_in L f id))
+      (λ refusal. (number_of refusal ≡ 20) × (OpensBy L f opened → ⊥))
 
   module _ (fits : OpenedFits L opened (length f)) where
     fit : (k : ℕ) → opened_bad_by L opened (length f) ≡ true → k ≡ 20
@@ -61,7 +65,8 @@ module _ (L : ℕ) (f : List ℕ) (opened : SSTableIndexV3) where
     block-answer id h (Err refusal) p = record { allowed = inr (inr p.0, refl); unfit = λ e. p.0; exact = λ o. absurd (p.1 o) }
 
     -- by ordinal
-    pub ord-answer : (ord : ℕ) (r : Result Located Refusal) → OrdFoundIn opened.n r → (OpensBy L f opened → OrdFoundAs (block_in L f) opened.n ord r)
+    pub ord-answer : (ord : ℕ) (r : Result Located Refusal) → OrdFoundIn opened.n r
+        → (OpensBy L f opened → OrdFoundAs (block_in L f) opened.n ord r)
         → LocateWithOrdBy L f opened ord (located_no r) (located_id r) (located_addr r)
     unfolding OrdFoundIn OrdFoundAs
     ord-answer ord (Ok at) p q =
@@ -79,7 +84,8 @@ module _ (L : ℕ) (f : List ℕ) (opened : SSTableIndexV3) where
           record { allowed = inr (p, refl); unfit = fit (number_of refusal); exact = λ o. inr ((q o).0, refl, (q o).1) }
 
       -- by key with the block's address: no block, or one that is read
-      pub addr-refused : (refusal : Refusal) → FoundIn opened.n (Err refusal) → (OpensBy L f opened → FoundAs (separator_in f) opened.n key (Err refusal))
+      pub addr-refused : (refusal : Refusal) → FoundIn opened.n (Err refusal)
+          → (OpensBy L f opened → FoundAs (separator_in f) opened.n key (Err refusal))
           → GetBlockWithKeyBy L f opened key (number_of refusal) 0 no_block
       unfolding FoundIn FoundAs
       addr-refused refusal p q =
@@ -88,7 +94,8 @@ module _ (L : ℕ) (f : List ℕ) (opened : SSTableIndexV3) where
       pub addr-unread : (k : ℕ) → k ≡ 20 → (OpensBy L f opened → ⊥) → GetBlockWithKeyBy L f opened key k 0 no_block
       addr-unread k e p = record { allowed = inr (inr e, refl, refl); unfit = λ u. e; exact = λ o. absurd (p o) }
 
-      pub addr-answer : (id : ℕ) (addr : BlockAddr) → id < opened.n → (OpensBy L f opened → First (separator_in f) opened.n key id) → NumbersOk addr
+      pub addr-answer : (id : ℕ) (addr : BlockAddr) → id < opened.n → (OpensBy L f opened → First (separator_in f) opened.n key id)
+          → NumbersOk addr
           → (OpensBy L f opened → addr ≡ block_in L f id) → GetBlockWithKeyBy L f opened key 0 id addr
       addr-answer id addr h p numbers q =
           record { allowed = inl (refl, h, numbers); unfit = fit 0; exact = λ o. inl (refl, p o, q o) }

@@ -1,4 +1,4 @@
--- A file that opens, cut into the directory of its separators, the records' length, the records, the address bytes and the directory's length.
+-- A file that opens, cut into its separators' directory, the records' length, the records, the address bytes and the directory's length.
 use Prim.Native.Nat.{ℕ, ◌+◌, ◌-◌, ◌*◌}
 use mathlib.Core.Path.{◌≡◌, sym, ◌∙◌}
 use mathlib.Core.List.{List, ◌++◌}
@@ -21,7 +21,8 @@ split : (p n : ℕ) (f : List ℕ) → drop p f ≡ take n (drop p f) ++ drop (p
 split p n f = rw (← (drop-drop n p f)) (sym (take-append-drop n (drop p f)))
 
 -- five parts of d, 8, m, a and 8 bytes
-cut : (f D H F : List ℕ) (d m a : ℕ) → d + 8 + m + a + 8 ≡ length f → D ≡ take d f → H ≡ take 8 (drop d f) → F ≡ take 8 (drop (length f - 8) f)
+cut : (f D H F : List ℕ) (d m a : ℕ) → d + 8 + m + a + 8 ≡ length f → D ≡ take d f → H ≡ take 8 (drop d f)
+    → F ≡ take 8 (drop (length f - 8) f)
     → f ≡ D ++ (H ++ (take m (drop (d + 8) f) ++ (take a (drop (d + 8 + m) f) ++ F)))
 cut f D H F d m a all first second last =
     let at = d + 8 + m + a in
@@ -44,10 +45,12 @@ module _ (L : ℕ) (f : List ℕ) (bytes : DigitsBelow 8 f) (opened : open_no L 
       let ok = open-ok L f opened in
       let foot = footer-ok f ok.footer in
       let d = len_of_directory f in
-      let below : DigitsBelow 8 (take d f) = rw (← (number-bytes f 0 d (omega (arith, foot.inside)) bytes)) (digits_of-below 8 d (number_at f 0 d)) in
+      let below : DigitsBelow 8 (take d f) = rw (← (number-bytes f 0 d (omega (arith, foot.inside)) bytes))
+      (digits_of-below 8 d (number_at f 0 d)) in
       directory-is (directory_part f) below (opened-good (directory_part f) ok.directory)
 
-  pub file-is : f ≡ directory_bytes (keys_in (directory_part f)) ++ (le_bytes 8 (group_records_len f) ++ (group_records_part f ++ (addrs_part f ++ le_bytes 8 (len_of_directory f))))
+  pub file-is : f ≡ directory_bytes (keys_in (directory_part f))
+      ++ (le_bytes 8 (group_records_len f) ++ (group_records_part f ++ (addrs_part f ++ le_bytes 8 (len_of_directory f))))
   file-is =
       let ok = open-ok L f opened in
       let foot = footer-ok f ok.footer in

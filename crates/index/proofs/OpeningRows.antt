@@ -11,7 +11,7 @@ use lib.Dec.{eqb, ltb}
 use lib.ListN.{length, take, drop, length-drop}
 use lib.Seq.{length-take-le, take-take}
 use Rattle.serialize.specs.Digits.{le_val}
-use Rattle.serialize.proofs.Tests.{neither}
+use Rattle.std.proofs.lemmas.Bool.{or_parts}
 use Rattle.group.proofs.RowOrder.{or_row-first, or_row-zero}
 use Rattle.store.specs.Store.{group_count}
 use Rattle.store.specs.Facts.{GroupRecordsOk}
@@ -50,7 +50,8 @@ module _ (f : List ℕ) where
 
     pub footer-beyond : (len_of_directory f ≡ 0 → ⊥) → length f < len_of_directory f + 16 → 10 ≡ footer_no f
     unfolding footer_no
-    footer-beyond some h = simp (le-ltb (length f) 8 long, ne_eqb (len_of_directory f) 0 some, lt-ltb (length f) (len_of_directory f + 16) h)
+    footer-beyond some h = simp
+        (le-ltb (length f) 8 long, ne_eqb (len_of_directory f) 0 some, lt-ltb (length f) (len_of_directory f + 16) h)
 
   pub footer-good : FooterOk f → footer_no f ≡ 0
   unfolding footer_no
@@ -98,12 +99,14 @@ module _ (L : ℕ) (f : List ℕ) where
   unfolding group_records_bad
   records-inexact h = simp (ne_eqb (group_records_len f) (36 * group_count L (count_in f)) h)
 
-  pub records-exact : group_records_len f ≡ 36 * group_count L (count_in f) → ltb (store_len f) (8 + group_records_len f) ≡ group_records_bad L f
+  pub records-exact : group_records_len f ≡ 36 * group_count L (count_in f)
+      → ltb (store_len f) (8 + group_records_len f) ≡ group_records_bad L f
   unfolding group_records_bad
   records-exact e = simp (eq-eqb (group_records_len f) (36 * group_count L (count_in f)) e)
 
   -- the code's test, by the directory's length d, n, the groups' count and the length read
-  module _ (d n groups read : ℕ) (ed : d ≡ len_of_directory f) (en : n ≡ count_in f) (eg : groups ≡ group_count L n) (er : read ≡ le_val (take 8 (drop d f))) where
+  module _ (d n groups read : ℕ) (ed : d ≡ len_of_directory f) (en : n ≡ count_in f) (eg : groups ≡ group_count L n)
+      (er : read ≡ le_val (take 8 (drop d f))) where
     needed : 36 * groups ≡ 36 * group_count L (count_in f)
     needed = rw (eg, en)
 
@@ -122,15 +125,17 @@ module _ (L : ℕ) (f : List ℕ) where
   pub records-ok : group_records_bad L f ≡ false → RecordsExact L f
   unfolding group_records_bad
   records-ok e =
-      let both = neither (not (eqb (group_records_len f) (36 * group_count L (count_in f)))) _ e in
+      let both = or_parts (not (eqb (group_records_len f) (36 * group_count L (count_in f)))) _ e in
       record {
-        exact = eqb-true (group_records_len f) (36 * group_count L (count_in f)) (not-false (eqb (group_records_len f) (36 * group_count L (count_in f))) both.0);
+        exact = eqb-true (group_records_len f) (36 * group_count L (count_in f))
+            (not-false (eqb (group_records_len f) (36 * group_count L (count_in f))) both.0);
         inside = ltb-false (store_len f) (8 + group_records_len f) both.1;
       }
 
 -- ---- the parts, by the directory's length d, the records' length m and n
 
-module _ (L : ℕ) (f : List ℕ) (d m : ℕ) (footer : FooterOk f) (ed : d ≡ len_of_directory f) (records : RecordsExact L f) (em : m ≡ le_val (take 8 (drop d f))) where
+module _ (L : ℕ) (f : List ℕ) (d m : ℕ) (footer : FooterOk f) (ed : d ≡ len_of_directory f) (records : RecordsExact L f)
+    (em : m ≡ le_val (take 8 (drop d f))) where
   metas-read : m ≡ group_records_len f
   metas-read = rw (← ed) em
 

@@ -30,7 +30,8 @@ miss-third false true c p e = refl
 miss-third false false c p e = rw e
 
 -- a part passes all three
-passes : (a b c : Bool) (p : Option (ℕ × ℕ)) (offset len : ℕ) → cond (a || b || c) None p ≡ Some (offset, len) → (a ≡ false) × (c ≡ false) × (p ≡ Some (offset, len))
+passes : (a b c : Bool) (p : Option (ℕ × ℕ)) (offset len : ℕ) → cond (a || b || c) None p ≡ Some (offset, len) → (a ≡ false) × (c ≡ false)
+    × (p ≡ Some (offset, len))
 passes true b c p offset len e = absurd (cc)
 passes false true c p offset len e = absurd (cc)
 passes false false true p offset len e = absurd (cc)
@@ -50,7 +51,8 @@ module _ (L : ℕ) (opened : SSTableIndexV3) (f : List ℕ) (id : ℕ) where
   place-outside e = miss-third (opened_bad_by L opened (length f)) (leb opened.n id) (key_outside (directory_at opened f) opened.n id) _ e
 
   -- with d the directory's bytes, and the key's position and length as the code reads them
-  pub place_read : OpenedFits L opened (length f) → id < opened.n → (d : List ℕ) → d ≡ directory_at opened f → key_outside d opened.n id ≡ false
+  pub place_read : OpenedFits L opened (length f) → id < opened.n → (d : List ℕ) → d ≡ directory_at opened f
+      → key_outside d opened.n id ≡ false
       → (position len : ℕ) → position ≡ key_position d opened.n id → len ≡ key_length d id
       → Some (opened.directory + position, len) ≡ place_by L opened f id
   unfolding place_by
@@ -60,7 +62,8 @@ module _ (L : ℕ) (opened : SSTableIndexV3) (f : List ℕ) (id : ℕ) where
   pub place_inside : (offset len : ℕ) → place_by L opened f id ≡ Some (offset, len) → offset + len ≤ length f
   unfolding place_by
   place_inside offset len e =
-      let p = passes (opened_bad_by L opened (length f)) (leb opened.n id) (key_outside (directory_at opened f) opened.n id) _ offset len e in
+      let p = passes (opened_bad_by L opened (length f)) (leb opened.n id)
+      (key_outside (directory_at opened f) opened.n id) _ offset len e in
       let at : opened.directory + key_position (directory_at opened f) opened.n id ≡ offset = ap place_offset p.2 in
       let size : key_length (directory_at opened f) id ≡ len = ap place_len p.2 in
       omega (

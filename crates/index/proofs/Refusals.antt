@@ -9,9 +9,9 @@ use borrow.Author.Rules.{rules}
 use lib.ListN.{length, get_or}
 use Rattle.layout.specs.declared.refusals.Refusal.{Refusal}
 use Rattle.layout.specs.declared.refusals.Refusal.TheVariants.{AreaBad, KeyLong, NumbersBad, JoinBad, OrdinalBad, KeyBad, RoomBad, ListBad}
-use Rattle.layout.specs.declared.refusals.Refusal.TheVariants.{OutShort, FileShort, NoDirectory, DirectoryBad, KeysUnsorted, RecordsBad, GroupBad}
-use Rattle.layout.specs.declared.refusals.Refusal.TheVariants.{BlockBad, UnknownId, OrdinalBelow, KeyAbove, Unfit, TableBad, FlagBad, StateBad}
-use Rattle.layout.specs.declared.refusals.Refusal.TheVariants.{RoomShort, NoExample, KeyListBad, NotCanonical}
+use Rattle.layout.specs.declared.refusals.Refusal.TheVariants.{OutShort, FileShort, NoDirectory, DirectoryBad, KeysUnsorted, RecordsBad}
+use Rattle.layout.specs.declared.refusals.Refusal.TheVariants.{GroupBad, BlockBad, UnknownId, OrdinalBelow, KeyAbove, Unfit, TableBad}
+use Rattle.layout.specs.declared.refusals.Refusal.TheVariants.{FlagBad, StateBad, RoomShort, NoExample, KeyListBad, NotCanonical}
 use Rattle.layout.specs.Refusals.{number_of}
 use Rattle.layout.proofs.Numbers.{number_positive}
 use Rattle.group.specs.declared.BlockAddr.{BlockAddr}

@@ -1,6 +1,8 @@
--- The lookups (rows 17 to 20). What an answer may be in every case is held to `..Allowed`, what it is for bytes and record of one opening to `..Exact`.
+-- The lookups (rows 17 to 20). What an answer may be in every case is held to `..Allowed`, what it is for bytes and record of one
+-- opening to `..Exact`.
 -- A name that ends in By takes the group's length L; the same name without is for the groups that a record has.
-use Rattle.std.specs.Prelude.{ℕ, ◌+◌, ◌*◌, ◌≤◌, ◌<◌, ◌≡◌, List, ◌⊎◌, Bool, true, ◌||◌, cond, ltb, leb, length, take, drop, Option, Some, None}
+use Rattle.std.specs.Prelude.{ℕ, ◌+◌, ◌*◌, ◌≤◌, ◌<◌, ◌≡◌, List, ◌⊎◌, Bool, true, ◌||◌, cond, ltb, leb, length, take, drop}
+use Rattle.std.specs.Prelude.{Option, Some, None}
 use Rattle.layout.specs.Layout.{max_blocks, meta_len}
 use Rattle.keys.specs.Order.{◌≺◌}
 use Rattle.group.specs.declared.BlockAddr.{BlockAddr}

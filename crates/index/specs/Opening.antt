@@ -4,9 +4,9 @@ use Rattle.std.specs.Prelude.{◌∷◌, [], get_or, Result, Ok, Err}
 use Rattle.layout.specs.Layout.{meta_len, store_block_len}
 use Rattle.layout.specs.declared.refusals.Refusal.{Refusal}
 use Rattle.layout.specs.declared.refusals.Refusal.TheVariants.{AreaBad, KeyLong, NumbersBad, JoinBad, OrdinalBad, KeyBad, RoomBad, ListBad}
-use Rattle.layout.specs.declared.refusals.Refusal.TheVariants.{OutShort, FileShort, NoDirectory, DirectoryBad, KeysUnsorted, RecordsBad, GroupBad}
-use Rattle.layout.specs.declared.refusals.Refusal.TheVariants.{BlockBad, UnknownId, OrdinalBelow, KeyAbove, Unfit, TableBad, FlagBad, StateBad}
-use Rattle.layout.specs.declared.refusals.Refusal.TheVariants.{RoomShort, NoExample, KeyListBad, NotCanonical}
+use Rattle.layout.specs.declared.refusals.Refusal.TheVariants.{OutShort, FileShort, NoDirectory, DirectoryBad, KeysUnsorted, RecordsBad}
+use Rattle.layout.specs.declared.refusals.Refusal.TheVariants.{GroupBad, BlockBad, UnknownId, OrdinalBelow, KeyAbove, Unfit, TableBad}
+use Rattle.layout.specs.declared.refusals.Refusal.TheVariants.{FlagBad, StateBad, RoomShort, NoExample, KeyListBad, NotCanonical}
 use Rattle.group.specs.Rows.{or_row}
 use Rattle.store.specs.Store.{group_count}
 use Rattle.store.specs.Check.{store_no}
@@ -45,8 +45,8 @@ opened_of f = record {
 abbrev pub rows : List Refusal
 rows =
     AreaBad ∷ KeyLong ∷ NumbersBad ∷ JoinBad ∷ OrdinalBad ∷ KeyBad ∷ RoomBad ∷ ListBad ∷ OutShort ∷ FileShort ∷ NoDirectory ∷ DirectoryBad
-    ∷ KeysUnsorted ∷ RecordsBad ∷ GroupBad ∷ BlockBad ∷ UnknownId ∷ OrdinalBelow ∷ KeyAbove ∷ Unfit ∷ TableBad ∷ FlagBad ∷ StateBad ∷ RoomShort
-    ∷ NoExample ∷ KeyListBad ∷ NotCanonical ∷ []
+    ∷ KeysUnsorted ∷ RecordsBad ∷ GroupBad ∷ BlockBad ∷ UnknownId ∷ OrdinalBelow ∷ KeyAbove ∷ Unfit ∷ TableBad ∷ FlagBad ∷ StateBad
+    ∷ RoomShort ∷ NoExample ∷ KeyListBad ∷ NotCanonical ∷ []
 
 unfoldable pub refusal_of : ℕ → Refusal
 refusal_of k = get_or rows (k - 1) Unfit

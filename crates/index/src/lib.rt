@@ -1,8 +1,11 @@
 // The index over lent bytes: `SSTableIndexV3` of src/index/v3.rs, and what its calls answer.
 #![tactic(auto)]
 
+ghost use Rattle.std.specs.Prelude.{◌≡◌};
+ghost use Rattle.index.specs.Words.{opened_words, opened_at};
+
 // An opened index: how many blocks, and where its parts stand in the bytes. Seven numbers, since the C interface hands them out and back.
-#[derive(Clone, Copy, Debug, PartialEq, Eq)]
+#[derive(Clone, Copy, Debug, Default, PartialEq, Eq)]
 pub struct SSTableIndexV3 {
     pub n: usize,
     pub directory: usize,
@@ -11,4 +14,49 @@ pub struct SSTableIndexV3 {
     pub metas_len: usize,
     pub addrs: usize,
     pub addrs_len: usize,
+}
+
+// The numbers of a record, in its order.
+impl From<SSTableIndexV3> for [u64; 7] {
+    ghost from_gives = { λ opened words. words ≡ opened_words opened };
+
+    #[inline]
+    fn from(opened: SSTableIndexV3) -> [u64; 7] {
+        [
+            opened.n as u64,
+            opened.directory as u64,
+            opened.directory_len as u64,
+            opened.metas as u64,
+            opened.metas_len as u64,
+            opened.addrs as u64,
+            opened.addrs_len as u64,
+        ]
+    }
+}
+
+// The record that seven numbers say.
+impl From<[u64; 7]> for SSTableIndexV3 {
+    ghost from_gives = { λ words opened. opened ≡ opened_at words };
+
+    #[inline]
+    fn from(words: [u64; 7]) -> SSTableIndexV3 {
+        let [
+            n,
+            directory,
+            directory_len,
+            metas,
+            metas_len,
+            addrs,
+            addrs_len,
+        ] = words;
+        SSTableIndexV3 {
+            n: n as usize,
+            directory: directory as usize,
+            directory_len: directory_len as usize,
+            metas: metas as usize,
+            metas_len: metas_len as usize,
+            addrs: addrs as usize,
+            addrs_len: addrs_len as usize,
+        }
+    }
 }

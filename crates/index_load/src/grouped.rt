@@ -1,4 +1,5 @@
-// Opening with groups of a given length: rows 10 to 16.
+// Opening with groups of a given length: rows 10 to 16. The length stays a number with its fact: a type for it would ask each caller to
+// make it first. The bytes are lent by the caller, since the library has no heap.
 ghost use Rattle.std.specs.Prelude.{◌≡◌, ◌+◌, ◌≤◌, length, IfOk};
 ghost use Rattle.layout.specs.Layout.{max_blocks};
 ghost use Rattle.layout.specs.Refusals.{no_of};
@@ -28,10 +29,7 @@ fn check_footer(data: &[u8]) -> Result<usize, Refusal>
     if directory == 0 {
         return Err(Refusal::NoDirectory);
     }
-    if directory > len as u64 {
-        return Err(Refusal::FileShort);
-    }
-    if len < directory as usize + 16 {
+    if layout::ends_beyond(directory, 16, len as u64) {
         return Err(Refusal::FileShort);
     }
     Ok(directory as usize)
@@ -47,10 +45,8 @@ fn records_bad(data: &[u8], directory_len: usize, n: usize, group_len: usize) ->
     ensures { result ≡ group_records_bad group_len «data».now }
 {
     let metas_len = META_LEN * Grouping { n, group_len }.group_count();
-    if serialize::deserialize_u64(data, directory_len) != metas_len as u64 {
-        return true;
-    }
-    data.len() - FOOTER_LEN - directory_len < 8 + metas_len
+    serialize::deserialize_u64(data, directory_len) != metas_len as u64
+        || data.len() - FOOTER_LEN - directory_len < 8 + metas_len
 }
 
 // Rows 14 to 16 and the record, after a directory that keeps the rows before them.

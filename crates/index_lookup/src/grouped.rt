@@ -1,5 +1,6 @@
-// The lookups with groups of a given length, in an opened index whose record and bytes may not belong together.
-ghost use Rattle.std.specs.Prelude.{◌≡◌, true, false, ◌+◌, ◌≤◌, ◌<◌, ltb, length, take, drop, MatchResult};
+// The lookups with groups of a given length, in an opened index whose record and bytes may not belong together. Record and bytes come
+// apart, since C hands them so; the length is a number with its fact, since a type for it would ask each caller to make it first.
+ghost use Rattle.std.specs.Prelude.{◌≡◌, true, false, ◌+◌, ◌≤◌, ◌<◌, length, take, drop, MatchResult};
 ghost use Rattle.layout.specs.Refusals.{number_of};
 ghost use Rattle.group.specs.Legal.{NumbersOk};
 ghost use Rattle.store.specs.Facts.{GroupLenOk};
@@ -18,16 +19,6 @@ use store::Located;
 use store::grouping::Grouping;
 use store_read::BlockAddrStore;
 
-// Whether a part lies outside `len` bytes.
-fn part_outside(offset: usize, part_len: usize, len: usize) -> bool
-    ensures { result ≡ ltb len (offset + part_len) }
-{
-    if offset > len {
-        return true;
-    }
-    part_len > len - offset
-}
-
 // The `len` bytes from `offset` on.
 fn part(data: &[u8], offset: usize, len: usize) -> &[u8]
     requires { offset + len ≤ length «data».now }
@@ -42,16 +33,15 @@ pub fn opened_bad(opened: SSTableIndexV3, len: usize, group_len: usize) -> bool
     requires { GroupLenOk group_len }
     ensures { result ≡ opened_bad_by group_len opened len }
 {
+    // Two comparisons: contains goes by partial_cmp, whose cases the proof would have to walk.
     if opened.n < 1 || opened.n > MAX_BLOCKS {
         return true;
     }
-    if part_outside(opened.directory, opened.directory_len, len) {
-        return true;
-    }
-    if part_outside(opened.metas, opened.metas_len, len) {
-        return true;
-    }
-    if part_outside(opened.addrs, opened.addrs_len, len) {
+    let len = len as u64;
+    if layout::ends_beyond(opened.directory as u64, opened.directory_len as u64, len)
+        || layout::ends_beyond(opened.metas as u64, opened.metas_len as u64, len)
+        || layout::ends_beyond(opened.addrs as u64, opened.addrs_len as u64, len)
+    {
         return true;
     }
     let grouping = Grouping {
@@ -61,7 +51,7 @@ pub fn opened_bad(opened: SSTableIndexV3, len: usize, group_len: usize) -> bool
     opened.metas_len < META_LEN * grouping.group_count()
 }
 
-// An opened record with bytes that it can be one of, and the length of its groups.
+// An opened record with bytes that it can be one of, and the length of its groups. The bytes are lent: the library has no heap.
 #[derive(Clone, Copy)]
 pub struct OpenedIndex<'a> {
     pub opened: SSTableIndexV3,
@@ -167,6 +157,7 @@ impl<'a> OpenedIndex<'a> {
         ensures { GetBlockWithKeyBy self.now.group_len self.now.«data».now self.now.opened key.now
             (located_no result) (located_id result) (located_addr result) }
     {
+        // Taken apart by let .. else, and not by ?: docs/SPECIFICATION.md 19.6 asks for it.
         let found = self.directory().locate_with_key(key);
         let Ok(block_id) = found else {
             return Err(found.unwrap_err());
@@ -191,6 +182,9 @@ impl<'a> OpenedIndex<'a> {
         Some((position, directory.key(id).len()))
     }
 }
+
+// From here on the lookups over a record and bytes that may not belong together: docs/PROMISES.md names them, and that a record gets 20
+// which can't be one of the bytes stands in no method's clause.
 
 // The address of block `block_id`.
 pub fn get_block(
@@ -254,8 +248,7 @@ pub fn separator_place(
     requires { GroupLenOk group_len }
     ensures { result ≡ place_by group_len opened «data».now block_id }
 {
-    match OpenedIndex::check(opened, data, group_len) {
-        Ok(index) => index.separator_place(block_id),
-        Err(_) => None,
-    }
+    OpenedIndex::check(opened, data, group_len)
+        .ok()?
+        .separator_place(block_id)
 }

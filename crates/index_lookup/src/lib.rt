@@ -1,4 +1,5 @@
-// The lookups in an opened index, with groups of the standard length: the calls that the C interface makes.
+// The lookups in an opened index, with groups of the standard length: the calls that the C interface makes, which hands over no group
+// length, and record and bytes apart. `separator` is for programs, and `opened_bad` tells what the others refuse.
 #![tactic(auto)]
 
 pub mod grouped;
@@ -60,13 +61,11 @@ pub fn separator_place(opened: SSTableIndexV3, data: &[u8], block_id: u64) -> Op
     grouped::separator_place(opened, data, STORE_BLOCK_LEN, block_id)
 }
 
-// The separator of block `block_id`, as a part of the bytes; an empty part where there is none.
+// The separator of block `block_id`, as a part of the bytes; an empty part where there is none: docs/SPECIFICATION.md 9.5 says so.
 pub fn separator(opened: SSTableIndexV3, data: &[u8], block_id: u64) -> &[u8]
     ensures { result.now ≡ part_at «data».now (place_def opened «data».now block_id) }
 {
-    let Some((offset, len)) = separator_place(opened, data, block_id) else {
-        return &data[..0];
-    };
+    let (offset, len) = separator_place(opened, data, block_id).unwrap_or((0, 0));
     let end = offset + len;
     &data[offset..end]
 }

@@ -1,15 +1,16 @@
 // A lent list of keys: pairs of offset and length over one area of bytes.
 #![tactic(auto)]
 
-ghost use Rattle.std.specs.Prelude.{◌≡◌, ◌+◌, ◌/◌, ◌<◌, cond, ltb, IfOk, length};
+ghost use Rattle.std.specs.Prelude.{◌≡◌, ◌+◌, ◌*◌, ◌/◌, ◌≤◌, ◌<◌, cond, IfOk, length};
 ghost use Rattle.layout.specs.Layout.{max_batch_keys};
 ghost use Rattle.layout.specs.Refusals.{no_of};
-ghost use Rattle.key_list.specs.KeyList.{key_list_count, key_list_key, key_pairs_bad, key_list_bad, KeyListOk};
+ghost use Rattle.key_list.specs.KeyList.{key_list_count, key_list_offset, key_list_len, key_list_key};
+ghost use Rattle.key_list.specs.KeyList.{key_pairs_bad, key_list_bad, KeyListOk};
 
 use layout::MAX_BATCH_KEYS;
 use layout::refusals::Refusal;
 
-// A list of at most MAX_BATCH_KEYS keys, each of which lies in the bytes.
+// A list of at most MAX_BATCH_KEYS keys, each of which lies in the bytes. Both are lent, as C hands them: the library has no heap.
 #[derive(Clone, Copy, Debug)]
 pub struct KeyList<'a> {
     pub pairs: &'a [u64],
@@ -17,27 +18,14 @@ pub struct KeyList<'a> {
     pub ghost ok: { KeyListOk max_batch_keys pairs.now (length keys.now) },
 }
 
-// Whether a key of `len` bytes from `offset` on ends beyond `room` bytes. The sum may be more than a word holds.
-fn ends_beyond(offset: u64, len: u64, room: u64) -> bool
-    ensures { result ≡ ltb room (offset + len) }
-{
-    match offset.checked_add(len) {
-        Some(end) => end > room,
-        None => true,
-    }
-}
-
-// Whether one of the pairs is bad: its offset is below the one before it, or its key ends beyond `room` bytes.
+// Whether one of the pairs is bad: its offset is below the one before it, or its key ends beyond `room` bytes. A loop,
+// since each pair is compared with the one before it.
 fn pairs_bad(pairs: &[u64], room: u64) -> bool
     ensures { result ≡ key_pairs_bad pairs.now room (key_list_count pairs.now) }
 {
     let mut before: u64 = 0;
-    for i in 0..pairs.len() / 2 {
-        let offset = pairs[2 * i];
-        if offset < before {
-            return true;
-        }
-        if ends_beyond(offset, pairs[2 * i + 1], room) {
+    for &[offset, len] in pairs.as_chunks::<2>().0 {
+        if offset < before || layout::ends_beyond(offset, len, room) {
             return true;
         }
         before = offset;
@@ -49,13 +37,17 @@ fn pairs_bad(pairs: &[u64], room: u64) -> bool
 pub fn key_list_bad(pairs: &[u64], room: usize, limit: usize) -> bool
     ensures { result ≡ key_list_bad limit pairs.now room }
 {
-    if pairs.len() % 2 == 1 {
-        return true;
-    }
-    if pairs.len() / 2 > limit {
-        return true;
-    }
-    pairs_bad(pairs, room as u64)
+    pairs.len() % 2 == 1 || pairs.len() / 2 > limit || pairs_bad(pairs, room as u64)
+}
+
+// Key i of pairs of any number, where its own pair lies in the bytes.
+pub fn nth_key<'a>(pairs: &[u64], keys: &'a [u8], i: usize) -> &'a [u8]
+    requires { (2 * i + 1 < length pairs.now) × (key_list_offset pairs.now i + key_list_len pairs.now i ≤ length keys.now) }
+    ensures { result.now ≡ key_list_key pairs.now keys.now i }
+{
+    let from = pairs[2 * i] as usize;
+    let len = pairs[2 * i + 1] as usize;
+    &keys[from..from + len]
 }
 
 impl<'a> KeyList<'a> {
@@ -82,8 +74,6 @@ impl<'a> KeyList<'a> {
         requires { i < key_list_count self.now.pairs.now }
         ensures { result.now ≡ key_list_key self.now.pairs.now self.now.keys.now i }
     {
-        let from = self.pairs[2 * i] as usize;
-        let len = self.pairs[2 * i + 1] as usize;
-        &self.keys[from..from + len]
+        nth_key(self.pairs, self.keys, i)
     }
 }

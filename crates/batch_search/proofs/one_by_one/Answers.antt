@@ -31,6 +31,11 @@ loop-i-preserved c =
     let small : c.loop-i.i < length c.loop-i.found = omega (arith, c.loop-i.invariant.long, c.args.list.now.ok.few) in
     record {
       long = length-set c.loop-i.found c.loop-i.i c.match-locate_with_key.found ∙ c.loop-i.invariant.long;
-      each = each_next (EntryOk a.directory.bytes.now a.directory.n a.list.now.pairs.now a.list.now.keys.now) c.loop-i.found c.loop-i.i c.match-locate_with_key.found small c.loop-i.invariant.each
-          (rw entry (found_in a.directory.n search c.locate_with_key.ensures.found_in, λ sorted. found-exact _ _ _ search (found.found_as sorted)));
+      each = each_next (EntryOk a.directory.bytes.now a.directory.n a.list.now.pairs.now a.list.now.keys.now) c.loop-i.found c.loop-i.i
+          c.match-locate_with_key.found small c.loop-i.invariant.each
+          (rw entry (
+            found_in a.directory.n search c.locate_with_key.ensures.found_in,
+            λ sorted.
+                found-exact _ _ _ search (found.found_as sorted),
+          ));
     }

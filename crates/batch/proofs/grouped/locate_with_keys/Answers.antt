@@ -25,7 +25,8 @@ returns-then-ids-len c =
     let fits = rw (e.2, e.0, e.1) at c.in_ok-index.index.fits in
     let l = c.in_ok-list.ensures.list in
     let count = rw l.0 at c.len.ensures in
-    list-answer _ _ _ _ _ _ c.requires fits (ids_short _ _ _ (list-passed _ c.in_ok-list.ensures.number) ∙ lt-ltb _ _ (omega (arith, count)))
+    list-answer _ _ _ _ _ _ c.requires fits (ids_short _ _ _ (list-passed _ c.in_ok-list.ensures.number)
+    ∙ lt-ltb _ _ (omega (arith, count)))
 
 pub returns-in_err-find_entries : goal.returns-in_err-find_entries
 returns-in_err-find_entries c =

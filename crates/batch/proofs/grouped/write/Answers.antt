@@ -4,4 +4,5 @@ use Rattle.batch.proofs.Batches.{copied-entries}
 use Rattle.batch.proofs.grouped.write.Goals as goal
 
 pub returns : goal.returns
-returns c = rw c.copy_from_slice.ensures.after (copied-entries c.args.ids.now c.args.found.now c.args.count (omega (arith, c.requires.1)) c.requires.2)
+returns c = rw c.copy_from_slice.ensures.after (copied-entries c.args.ids.now c.args.found.now c.args.count
+    (omega (arith, c.requires.1)) (omega arith))

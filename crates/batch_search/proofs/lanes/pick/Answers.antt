@@ -1,4 +1,4 @@
--- All bits of a word are the word, and none are 0.
+-- No bits of what differs leave the first word, all of them give the second.
 use Rattle.batch_search.proofs.Picked.{picked}
 use Rattle.batch_search.proofs.lanes.pick.Goals as goal
 

@@ -9,7 +9,8 @@ pub returns-in_err-directory_len : goal.returns-in_err-directory_len
 returns-in_err-directory_len c =
     let p = err_from_is_err_and c.from_residual.result c.from_residual.ensures.1 in
     let no = c.in_err-directory_len.ensures.number in
-    rw (p.1, p.2) (open-refused _ _ _ (no ∙ open-footer c.args.group_len c.args.«data».now (λ z. let some = number_positive c.in_err-directory_len.field-0.0 in omega arith)))
+    rw (p.1, p.2) (open-refused _ _ _ (no ∙ open-footer c.args.group_len c.args.«data».now
+    (λ z. let some = number_positive c.in_err-directory_len.field-0.0 in omega arith)))
 
 pub slice_bounds-directory_no-end : goal.slice_bounds-directory_no-end
 slice_bounds-directory_no-end c =

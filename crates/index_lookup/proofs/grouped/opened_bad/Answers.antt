@@ -3,7 +3,11 @@ use Rattle.std.proofs.Common.{◌≡◌, ◌≤◌, ◌*◌, ℕ, Bool, true, fa
 use borrow.Author.Tests.{ltb-false, le-ltb}
 use Rattle.index.proofs.Fits.{last-test, unfit-bad}
 use Rattle.index_lookup.proofs.grouped.opened_bad.Goals as goal
-use Rattle.index_lookup.proofs.grouped.opened_bad.Goals.{then-opened-lt1-via-then-opened-lt1, then-opened-lt1-via-else-opened-lt1+then-opened-gt-MAX_BLOCKS}
+use Rattle.index_lookup.proofs.grouped.opened_bad.Goals.{then-opened-lt1-via-then-opened-lt1}
+use Rattle.index_lookup.proofs.grouped.opened_bad.Goals.{then-opened-lt1-via-else-opened-lt1+then-opened-gt-MAX_BLOCKS}
+use Rattle.index_lookup.proofs.grouped.opened_bad.Goals.{then-ends_beyond-via-then-ends_beyond}
+use Rattle.index_lookup.proofs.grouped.opened_bad.Goals.{then-ends_beyond-via-else-ends_beyond+then-ends_beyond-2}
+use Rattle.index_lookup.proofs.grouped.opened_bad.Goals.{then-ends_beyond-via-else-ends_beyond+else-ends_beyond-2+then-ends_beyond-3}
 
 -- a part that is outside doesn't fit, and one that isn't does
 outside : (len end : ℕ) (t : Bool) → t ≡ ltb len end → t ≡ true → end ≤ len → ⊥
@@ -19,20 +23,21 @@ returns-then-opened-lt1 c =
       | then-opened-lt1-via-else-opened-lt1+then-opened-gt-MAX_BLOCKS w ↦ omega (arith, fits.few, w.if-opened-gt-MAX_BLOCKS.true)
     ]))
 
-pub returns-then-part_outside : goal.returns-then-part_outside
-returns-then-part_outside c = sym (unfit-bad _ _ _ (λ fits. outside _ _ _ c.part_outside.ensures c.if-part_outside.true fits.directory))
-
-pub returns-then-part_outside-2 : goal.returns-then-part_outside-2
-returns-then-part_outside-2 c = sym (unfit-bad _ _ _ (λ fits. outside _ _ _ c.part_outside-2.ensures c.if-part_outside-2.true fits.metas))
-
-pub returns-then-part_outside-3 : goal.returns-then-part_outside-3
-returns-then-part_outside-3 c = sym (unfit-bad _ _ _ (λ fits. outside _ _ _ c.part_outside-3.ensures c.if-part_outside-3.true fits.addrs))
+pub returns-then-ends_beyond : goal.returns-then-ends_beyond
+returns-then-ends_beyond c =
+    sym (unfit-bad _ _ _ (λ fits. elim c.then-ends_beyond.branch [
+      | then-ends_beyond-via-then-ends_beyond w ↦ outside _ _ _ c.ends_beyond.ensures w.if-ends_beyond.true fits.directory
+      | then-ends_beyond-via-else-ends_beyond+then-ends_beyond-2 w ↦
+          outside _ _ _ w.ends_beyond-else-ends_beyond.ensures w.if-ends_beyond-2.true fits.metas
+      | then-ends_beyond-via-else-ends_beyond+else-ends_beyond-2+then-ends_beyond-3 w ↦
+          outside _ _ _ w.ends_beyond-else-ends_beyond-2.ensures w.if-ends_beyond-3.true fits.addrs
+    ]))
 
 pub returns : goal.returns
 returns c =
     let a = c.args in
     ap (λ (x : ℕ). ltb a.opened.metas_len (36 * x)) c.group_count.ensures
     ∙ sym (last-test a.group_len a.opened a.len (omega arith) (omega arith)
-    (within _ _ _ c.part_outside.ensures c.if-part_outside.false)
-    (within _ _ _ c.part_outside-2.ensures c.if-part_outside-2.false)
-    (within _ _ _ c.part_outside-3.ensures c.if-part_outside-3.false))
+    (within _ _ _ c.ends_beyond.ensures c.if-ends_beyond.false)
+    (within _ _ _ c.ends_beyond-else-ends_beyond.ensures c.if-ends_beyond-2.false)
+    (within _ _ _ c.ends_beyond-else-ends_beyond-2.ensures c.if-ends_beyond-3.false))

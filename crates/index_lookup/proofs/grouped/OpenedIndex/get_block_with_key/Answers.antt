@@ -14,7 +14,8 @@ use Rattle.index.proofs.Lookups.{addr-refused, addr-unread, addr-answer}
 use Rattle.index_lookup.proofs.grouped.OpenedIndex.get_block_with_key.Goals as goal
 
 -- what the directory finds, said of the file
-found-in-file : (L : ℕ) (f : List ℕ) (opened : SSTableIndexV3) → GroupLenOk L → (d : List ℕ) (n : ℕ) → (n ≡ opened.n) × (d ≡ directory_at opened f)
+found-in-file : (L : ℕ) (f : List ℕ) (opened : SSTableIndexV3) → GroupLenOk L → (d : List ℕ) (n : ℕ) → (n ≡ opened.n)
+    × (d ≡ directory_at opened f)
     → (key : List ℕ) (r : Result ℕ Refusal) → (Sorted d n → FoundAs (key_of d n) n key r) → OpensBy L f opened
     → FoundAs (separator_in f) opened.n key r
 found-in-file L f opened len d n is key r h o = found_as L f opened (opens-facts-by L f opened len o) d is.1 key r (rw is.0 at h)

@@ -14,7 +14,8 @@ pub returns-then-key_outside : goal.returns-then-key_outside
 returns-then-key_outside c =
     let s = c.args.self.now in
     let is = c.directory-directory.ensures in
-    sym (place-outside s.group_len s.opened s.«data».now c.args.block_id (sym (rw (is.0, is.1) at c.key_outside.ensures) ∙ c.if-key_outside.true))
+    sym (place-outside s.group_len s.opened s.«data».now c.args.block_id
+    (sym (rw (is.0, is.1) at c.key_outside.ensures) ∙ c.if-key_outside.true))
 
 pub overflow_add-position : goal.overflow_add-position
 overflow_add-position c =
