@@ -12,7 +12,8 @@ use lib.ListN.{length, get_or, set}
 use lib.Seq.{get_or-set_same, get_or-set_other}
 use Rattle.automaton.specs.Bits.{bit}
 use Rattle.automaton.proofs.Exact.{same_or}
-use Rattle.automaton.proofs.Word.{bit-lt, bit-zero, bit-top, bit-set, bit-set-other, bit-pow, bit-pow-other, bit-or, or_set, shl-bit, shl_one}
+use Rattle.automaton.proofs.Word.{bit-lt, bit-zero, bit-top, bit-set, bit-set-other, bit-pow}
+use Rattle.automaton.proofs.Word.{bit-pow-other, bit-or, or_set, shl-bit, shl_one}
 
 -- ---- w has n bits, and bit k is f k
 pub record Filled (f : ℕ → ℕ) (n w : ℕ) : Type 0 where
@@ -61,7 +62,8 @@ holds-none f = record { has = λ k h. absurd (omega arith); only = λ s e. let z
 pub holds_more : {f : ℕ → ℕ} {n w : ℕ} → Holds f n w → f n < 64 → Holds f (n + 1) (bit_or w ((1 * 2 ^ f n) % 2 ^ 64))
 holds_more {f} {n} {w} i h = rw (shl_one (f n) h) (record {
   has = λ k l. ⊎_elim
-      (λ q. subst (λ (x : ℕ). bit (bit_or w (2 ^ f n)) (f x) ≡ 1) (sym q) (bit-or w (2 ^ f n) (f n) ∙ omega (arith, bit-pow (f n), bit-lt w (f n))))
+      (λ q. subst (λ (x : ℕ). bit (bit_or w (2 ^ f n)) (f x) ≡ 1) (sym q) (bit-or w (2 ^ f n) (f n)
+      ∙ omega (arith, bit-pow (f n), bit-lt w (f n))))
       (λ d. bit-or w (2 ^ f n) (f k) ∙ omega (arith, i.has k (omega arith), bit-lt (2 ^ f n) (f k)))
       (same_or k n);
   only = λ s e. ⊎_elim
@@ -74,7 +76,8 @@ holds_more {f} {n} {w} i h = rw (shl_one (f n) h) (record {
 })
 
 -- ---- elements stored one after the other
-pub stored : (P : ℕ → ℕ → Type 0) (l : List ℕ) (i v : ℕ) → i < length l → ((k : ℕ) → k < i → P k (get_or l k 0)) → P i v → (k : ℕ) → k < i + 1 → P k (get_or (set l i v) k 0)
+pub stored : (P : ℕ → ℕ → Type 0) (l : List ℕ) (i v : ℕ) → i < length l → ((k : ℕ) → k < i → P k (get_or l k 0)) → P i v → (k : ℕ)
+    → k < i + 1 → P k (get_or (set l i v) k 0)
 stored P l i v h f p k g =
     ⊎_elim
     (λ q. subst (λ (x : ℕ). P x (get_or (set l i v) x 0)) (sym q) (subst (P i) (sym (get_or-set_same l i v 0 h)) p))

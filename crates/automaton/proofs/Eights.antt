@@ -1,5 +1,5 @@
 -- Eight bytes as one word: equal words have equal bytes, so that what is known of the bytes of one is known of the other's.
-use mathlib.Core.Path.{◌≡◌, refl, sym, ap, ◌∙◌, subst}
+use mathlib.Core.Path.{◌≡◌, sym, ap, ◌∙◌, subst}
 use mathlib.Core.List.{List}
 use mathlib.Core.Logic.{⊎_elim}
 use Prim.Native.Nat.{ℕ, ◌+◌, ◌-◌, ◌*◌, ◌/◌, ◌%◌, ◌^◌, ◌≤◌, ◌<◌}
@@ -45,7 +45,8 @@ pub holds-place : (t : List ℕ) (at m n : ℕ) {w : ℕ} → ((b : ℕ) → b <
     → ((s : ℕ) → bit w s ≡ 1 → (b : ℕ) × (b < 8) × (get_or t (at + m + n + b) 0 ≡ s)) → Holds (λ k. get_or t (at + (m + n) + k) 0) 8 w
 holds-place t at m n f g = let e : at + m + n ≡ at + (m + n) = omega arith in record { has = rw e at f; only = rw e at g }
 
-byte-is : (t : List ℕ) → DigitsBelow 8 t → (at eight m j : ℕ) → eight ≡ eight_at t (at + m) → j < 8 → byte_of eight j ≡ get_or t (at + (m + j)) 0
+byte-is : (t : List ℕ) → DigitsBelow 8 t → (at eight m j : ℕ) → eight ≡ eight_at t (at + m) → j < 8
+    → byte_of eight j ≡ get_or t (at + (m + j)) 0
 byte-is t small at eight m j is l = ap (λ (x : ℕ). byte_of x j) is ∙ byte_at t small (at + m) j l ∙ place t at m j
 
 -- the bits of w are bytes of the 256 from `at` on, the first n of them and those of `last` among them
@@ -88,12 +89,15 @@ module _ {t : List ℕ} (small : DigitsBelow 8 t) (at : ℕ) where
             let m = n + 8 * (k / 8) in
             let e : at + m ≡ at + n + 8 * (k / 8) = omega arith in
             let q : m + k % 8 ≡ n + k = omega arith in
-            subst (λ (x : ℕ). bit w (get_or t (at + x) 0) ≡ 1) q (same_in m (ap (eight_at t) e ∙ same (k / 8) (omega arith)) (k % 8) (omega arith))
+            subst (λ (x : ℕ). bit w (get_or t (at + x) 0)
+            ≡ 1) q (same_in m (ap (eight_at t) e ∙ same (k / 8) (omega arith)) (k % 8) (omega arith))
 
     -- the bits of others are added
-    pub held-add : (eight v last' w' : ℕ) → n + 8 ≤ 256 → eight ≡ eight_at t (at + n) → Holds (λ k. get_or t (at + n + k) 0) 8 v → last' ≡ eight → w' ≡ bit_or w v → Held t at (n + 8) last' w'
+    pub held-add : (eight v last' w' : ℕ) → n + 8 ≤ 256 → eight ≡ eight_at t (at + n) → Holds (λ k. get_or t (at + n + k) 0) 8 v
+        → last' ≡ eight → w' ≡ bit_or w v → Held t at (n + 8) last' w'
     held-add eight v last' w' room is h e₁ e₂ = rw (e₁, e₂) (record {
-      has = more (λ k. bit (bit_or w v) (get_or t (at + k) 0) ≡ 1) n 8 (λ k l. bit-or w v (get_or t (at + k) 0) ∙ omega (arith, i.has k l, bit-lt v (get_or t (at + k) 0))) new;
+      has = more (λ k. bit (bit_or w v) (get_or t (at + k) 0) ≡ 1) n 8 (λ k l. bit-or w v (get_or t (at + k) 0)
+          ∙ omega (arith, i.has k l, bit-lt v (get_or t (at + k) 0))) new;
       only = λ s e. ⊎_elim
           (i.only s)
           (λ d.

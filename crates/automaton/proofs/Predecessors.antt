@@ -12,7 +12,8 @@ use Rattle.automaton.specs.Bits.{bit}
 use Rattle.automaton.specs.Table.{states, next}
 use Rattle.automaton.specs.Words.{CanMatch}
 use Rattle.automaton.proofs.Exact.{same_or}
-use Rattle.automaton.proofs.Word.{bit_below, bit-lt, bit-off, bit-zero, bit-clear, bit-clear-other, bit-or, bit-pow, bit-pow-other, or-keeps, and-some, shl_one}
+use Rattle.automaton.proofs.Word.{bit_below, bit-lt, bit-off, bit-zero, bit-clear, bit-clear-other}
+use Rattle.automaton.proofs.Word.{bit-or, bit-pow, bit-pow-other, or-keeps, and-some, shl_one}
 use Rattle.automaton.proofs.SetBits.{Passed, passed_none, passed-more}
 use Rattle.automaton.proofs.Built.{Holds}
 use Rattle.automaton.proofs.Strings.{can-match-step}
@@ -26,17 +27,16 @@ pub record Marked (p w left : ℕ) (old new : List ℕ) : Type 0 where
   pub put : Passed (Put p old new) w left
   pub kept : (s : ℕ) → (bit w s ≡ 1 → bit left s ≡ 1) → get_or new s 0 ≡ get_or old s 0
 
-pub marked-none : (p w : ℕ) (old : List ℕ) → Marked p w w old old
-marked-none p w old = record { long = refl; put = passed_none w; kept = λ s f. refl }
-
 -- `words[s] |= 1 << p`
 pub marked_more : {p w left : ℕ} {old new : List ℕ} → Marked p w left old new → (s : ℕ) → bit left s ≡ 1 → s < length new → p < 64
     → (rest : ℕ) → rest ≡ left - 2 ^ s → Marked p w rest old (set new s (bit_or (get_or new s 0) ((1 * 2 ^ p) % 2 ^ 64)))
 marked_more {p} {w} {left} {old} {new} i s e l h rest is = rw (is, shl_one p h) (record {
   long = length-set new s (bit_or (get_or new s 0) (2 ^ p)) ∙ i.long;
-  put = passed-more i.put s e (λ k n g. other k n ∙ g) (get_or-set_same new s (bit_or (get_or new s 0) (2 ^ p)) 0 l ∙ ap (λ (x : ℕ). bit_or x (2 ^ p)) (i.kept s (λ g. e)));
+  put = passed-more i.put s e (λ k n g. other k n ∙ g) (get_or-set_same new s (bit_or (get_or new s 0) (2 ^ p)) 0 l
+      ∙ ap (λ (x : ℕ). bit_or x (2 ^ p)) (i.kept s (λ g. e)));
   kept = λ k f. ⊎_elim
-      (λ q. absurd (let y = f (ap (bit w) q ∙ i.put.sub s e) in let z = bit-clear left s e in let y' = ap (bit (left - 2 ^ s)) (sym q) ∙ y in omega arith))
+      (λ q. absurd (let y = f (ap (bit w) q ∙ i.put.sub s e) in let z = bit-clear left s e in let y' = ap (bit (left - 2 ^ s)) (sym q)
+      ∙ y in omega arith))
       (λ n. other k n ∙ i.kept k (λ g. sym (bit-clear-other left s k e n) ∙ f g))
       (same_or k s);
 })
@@ -91,7 +91,8 @@ led-none t w found words none = record {
 }
 
 -- a state that is still to come is one of the table's
-pub led-below : {t : List ℕ} {w left found : ℕ} {words : List ℕ} → Led t w left found words → w < 2 ^ states t → (p : ℕ) → bit left p ≡ 1 → p < states t
+pub led-below : {t : List ℕ} {w left found : ℕ} {words : List ℕ} → Led t w left found words → w < 2 ^ states t → (p : ℕ) → bit left p ≡ 1
+    → p < states t
 led-below {t} {w} i h p e = bit_below (states t) w p h (i.leads.sub p e)
 
 -- one turn: p is found
@@ -114,7 +115,8 @@ pub led-more : {t : List ℕ} {w left found : ℕ} {words new : List ℕ} → Le
 led-more {t} {w} {left} {found} {words} {new} i p e l row h put kept rest is = rw is (record {
   leads = passed-more i.leads p e (λ q n f z b g. grown (next t q b) q (f z b g)) (λ z b g. mine (next t p b) (h.has b g));
   only = λ q s g. by_row s (old q s g) (marks q s g);
-  small = λ s. by_row s (λ z. subst (λ (x : ℕ). x < 2 ^ states t) (sym (kept s z)) (i.small s)) (λ o. subst (λ (x : ℕ). x < 2 ^ states t) (sym (put s o)) (or_lt (states t) (get_or words s 0) (2 ^ p) (i.small s) (pow-lt l)));
+  small = λ s. by_row s (λ z. subst (λ (x : ℕ). x < 2 ^ states t) (sym (kept s z)) (i.small s))
+      (λ o. subst (λ (x : ℕ). x < 2 ^ states t) (sym (put s o)) (or_lt (states t) (get_or words s 0) (2 ^ p) (i.small s) (pow-lt l)));
 })
   where
     by_row : {C : Type 0} (s : ℕ) → (bit row s ≡ 0 → C) → (bit row s ≡ 1 → C) → C
@@ -126,7 +128,8 @@ led-more {t} {w} {left} {found} {words} {new} i p e l row h put kept rest is = r
         (λ o. ap (λ (x : ℕ). bit x q) (put s o) ∙ or-keeps (get_or words s 0) (2 ^ p) q g)
 
     mine : (s : ℕ) → bit row s ≡ 1 → bit (get_or new s 0) p ≡ 1
-    mine s o = ap (λ (x : ℕ). bit x p) (put s o) ∙ bit-or (get_or words s 0) (2 ^ p) p ∙ omega (arith, bit-pow p, bit-lt (get_or words s 0) p)
+    mine s o =
+        ap (λ (x : ℕ). bit x p) (put s o) ∙ bit-or (get_or words s 0) (2 ^ p) p ∙ omega (arith, bit-pow p, bit-lt (get_or words s 0) p)
 
     old : (q s : ℕ) → bit (get_or new s 0) q ≡ 1 → bit row s ≡ 0 → (b : ℕ) × (b < 256) × (next t q b ≡ s)
     old q s g z = i.only q s (sym (ap (λ (x : ℕ). bit x q) (kept s z)) ∙ g)
@@ -134,5 +137,6 @@ led-more {t} {w} {left} {found} {words} {new} i p e l row h put kept rest is = r
     marks : (q s : ℕ) → bit (get_or new s 0) q ≡ 1 → bit row s ≡ 1 → (b : ℕ) × (b < 256) × (next t q b ≡ s)
     marks q s g o = ⊎_elim
         (λ x. subst (λ (y : ℕ). (b : ℕ) × (b < 256) × (next t y b ≡ s)) (sym x) (h.only s o))
-        (λ n. i.only q s (let a = ap (λ (x : ℕ). bit x q) (put s o) ∙ bit-or (get_or words s 0) (2 ^ p) q in let b = bit-pow-other p q n in omega (arith, a, b, g, bit-lt (get_or words s 0) q)))
+        (λ n. i.only q s (let a = ap (λ (x : ℕ). bit x q) (put s o)
+        ∙ bit-or (get_or words s 0) (2 ^ p) q in let b = bit-pow-other p q n in omega (arith, a, b, g, bit-lt (get_or words s 0) q)))
         (same_or q p)

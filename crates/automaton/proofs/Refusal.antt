@@ -14,7 +14,8 @@ use Rattle.automaton.specs.Table.{states, flag, any_from, table_no, WellFormed}
 
 -- ---- the loop over a list
 module _ (bound : ℕ) (l : List ℕ) (i : ℕ) where
-  pub any_step : (found : Bool) → i < length l → found || any_from bound (drop i l) ≡ (found || leb bound (get_or l i 0)) || any_from bound (drop (i + 1) l)
+  pub any_step : (found : Bool) → i < length l
+      → found || any_from bound (drop i l) ≡ (found || leb bound (get_or l i 0)) || any_from bound (drop (i + 1) l)
   unfolding any_from
   any_step found h = rw (add-one, drop-cons l i 0, or_assoc found (leb bound (get_or l i 0)) (any_from bound (drop (suc i) l)))
 
@@ -66,7 +67,8 @@ shape t e =
     record {
       some = ltb-false (states t) 1 (or_left (ltb (states t) 1) (ltb 64 (states t) || not (eqb (length t) (1 + 257 * states t))) e);
       few = ltb-false 64 (states t) (or_left (ltb 64 (states t)) (not (eqb (length t) (1 + 257 * states t))) e₁);
-      long = eqb-true (length t) (1 + 257 * states t) (not-false (eqb (length t) (1 + 257 * states t)) (or_right (ltb 64 (states t)) (not (eqb (length t) (1 + 257 * states t))) e₁));
+      long = eqb-true (length t) (1 + 257 * states t)
+          (not-false (eqb (length t) (1 + 257 * states t)) (or_right (ltb 64 (states t)) (not (eqb (length t) (1 + 257 * states t))) e₁));
     }
 
 is_true : (b : Bool) → (b ≡ false → ⊥) → b ≡ true
@@ -134,5 +136,6 @@ part-rest l n = take_all (length l - n) (drop n l) (le_of_eq (length-drop n l))
 pub flags-tested : (t : List ℕ) (r : Bool) → r ≡ any_from 2 (take (1 + states t - 1) (drop 1 t)) → flags_bad t ≡ r
 flags-tested t r e = let n : 1 + states t - 1 ≡ states t = omega arith in sym (rw n at e)
 
-pub next-tested : (t : List ℕ) (r : Bool) → r ≡ any_from (states t) (take (length t - (1 + states t)) (drop (1 + states t) t)) → next_bad t ≡ r
+pub next-tested : (t : List ℕ) (r : Bool) → r ≡ any_from (states t) (take (length t - (1 + states t)) (drop (1 + states t) t))
+    → next_bad t ≡ r
 next-tested t r e = sym (rw (part-rest t (1 + states t)) at e)

@@ -32,7 +32,8 @@ pub record Passed (P : ℕ → Type 0) (w left : ℕ) : Type 0 where
 pub passed_none : {P : ℕ → Type 0} (w : ℕ) → Passed P w w
 passed_none w = record { sub = λ s e. e; done = λ s e z. absurd (omega arith) }
 
-pub passed-more : {P Q : ℕ → Type 0} {w left : ℕ} → Passed P w left → (s : ℕ) → bit left s ≡ 1 → ((k : ℕ) → k ≢ s → P k → Q k) → Q s → Passed Q w (left - 2 ^ s)
+pub passed-more : {P Q : ℕ → Type 0} {w left : ℕ} → Passed P w left → (s : ℕ) → bit left s ≡ 1 → ((k : ℕ) → k ≢ s → P k → Q k) → Q s
+    → Passed Q w (left - 2 ^ s)
 passed-more {P} {Q} {w} {left} i s e f q = record {
   sub = λ k g. i.sub k (bit-cleared left s k e g);
   done = λ k g z. ⊎_elim (λ x. subst Q (sym x) q) (λ n. f k n (i.done k g (sym (bit-clear-other left s k e n) ∙ z))) (same_or k s);

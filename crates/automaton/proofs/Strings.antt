@@ -2,7 +2,6 @@
 use mathlib.Core.Path.{◌≡◌, refl}
 use mathlib.Core.List.{List, [], ◌∷◌, ◌++◌}
 use mathlib.Core.Bool.{Bool}
-use mathlib.Core.Logic.{◌⊎◌, inl, inr}
 use Prim.Native.Nat.{ℕ, zero, suc, ◌+◌, ◌≤◌, ◌<◌}
 use native.Mathlib.Numerals.{add-one}
 use native.Mathlib.Omega.{arith}
@@ -20,7 +19,8 @@ run-append t s [] q = refl
 run-append t s (x ∷ p) q = run-append t (next t s x) p q
 
 -- one byte more of a key
-pub run_more : (t : List ℕ) (s : ℕ) (key : List ℕ) (i : ℕ) → i < length key → run t s (take (i + 1) key) ≡ next t (run t s (take i key)) (get_or key i 0)
+pub run_more : (t : List ℕ) (s : ℕ) (key : List ℕ) (i : ℕ) → i < length key
+    → run t s (take (i + 1) key) ≡ next t (run t s (take i key)) (get_or key i 0)
 unfolding run
 run_more t s key i h = rw (add-one, take-suc key i 0) (run-append t s (take i key) (get_or key i 0 ∷ []))
 
@@ -59,7 +59,8 @@ bytes_take (suc n) (x ∷ l) h = (h.0, bytes_take n l h.1)
 pub word-nil : {t : List ℕ} {s : ℕ} (P : List ℕ → Type 0) → flag t s ≡ 1 → P [] → Accepts t s P
 word-nil P e p = record { string = []; hits = hits-nil e; good = p }
 
-pub word-cons : {t : List ℕ} (s b : ℕ) (P Q : List ℕ → Type 0) → b < 256 → ((w : List ℕ) → Q w → P (b ∷ w)) → Accepts t (next t s b) Q → Accepts t s P
+pub word-cons : {t : List ℕ} (s b : ℕ) (P Q : List ℕ → Type 0) → b < 256 → ((w : List ℕ) → Q w → P (b ∷ w)) → Accepts t (next t s b) Q
+    → Accepts t s P
 word-cons s b P Q h f m = record { string = b ∷ m.string; hits = hits-cons s b h m.hits; good = f m.string m.good }
 
 pub word-map : {t : List ℕ} {s : ℕ} (P Q : List ℕ → Type 0) → ((w : List ℕ) → P w → Q w) → Accepts t s P → Accepts t s Q
@@ -68,7 +69,8 @@ word-map P Q f m = record { string = m.string; hits = m.hits; good = f m.string 
 pub word-any : {t : List ℕ} {s : ℕ} (P : List ℕ → Type 0) → Accepts t s P → CanMatch t s
 word-any P m = record { string = m.string; hits = m.hits; good = tt }
 
-pub word-cases : {t : List ℕ} {s : ℕ} (P : List ℕ → Type 0) (C : Type 0) → (flag t s ≡ 1 → P [] → C) → ((b : ℕ) (w : List ℕ) → b < 256 → Hits t (next t s b) w → P (b ∷ w) → C) → Accepts t s P → C
+pub word-cases : {t : List ℕ} {s : ℕ} (P : List ℕ → Type 0) (C : Type 0) → (flag t s ≡ 1 → P [] → C)
+    → ((b : ℕ) (w : List ℕ) → b < 256 → Hits t (next t s b) w → P (b ∷ w) → C) → Accepts t s P → C
 unfolding run
 word-cases {t} {s} P C f g m = go m.string m.hits m.good
   where
@@ -77,7 +79,8 @@ word-cases {t} {s} P C f g m = go m.string m.hits m.good
     go (b ∷ w) h p = let (l, i) = hits-tail s b h in g b w l i p
 
 -- a byte of a range, and any string after it
-pub byte_word : {t : List ℕ} {s lo hi : ℕ} (P : List ℕ → Type 0) → hi ≤ 256 → ((b : ℕ) (w : List ℕ) → lo ≤ b → b < hi → P (b ∷ w)) → LiveByte t s lo hi → Accepts t s P
+pub byte_word : {t : List ℕ} {s lo hi : ℕ} (P : List ℕ → Type 0) → hi ≤ 256 → ((b : ℕ) (w : List ℕ) → lo ≤ b → b < hi → P (b ∷ w))
+    → LiveByte t s lo hi → Accepts t s P
 byte_word {s = s} P l f y = word-cons s y.byte P (λ w. Unit {0}) (omega (arith, y.high)) (λ w u. f y.byte w y.low y.high) y.rest
 
 -- ---- can match
@@ -91,5 +94,6 @@ pub can-match-step : {t : List ℕ} (s b : ℕ) → b < 256 → CanMatch t (next
 can-match-step s b h m = can-match-hits (hits-cons s b h m.hits)
 
 -- what `can_match` tells, by the word of `reach`
-pub can-match-exactly : {t : List ℕ} {word : ℕ} → Reach t word → (s : ℕ) → s < states t → (r : Bool) → Exactly r (bit word s ≡ 1) → Exactly r (CanMatch t s)
+pub can-match-exactly : {t : List ℕ} {word : ℕ} → Reach t word → (s : ℕ) → s < states t → (r : Bool) → Exactly r (bit word s ≡ 1)
+    → Exactly r (CanMatch t s)
 can-match-exactly k s h r = exactly-map r (k.up s h) (k.down s h)

@@ -109,7 +109,8 @@ unfolding bit count_trailing_zeros
 bit-trailing zero w p h = omega arith
 bit-trailing (suc k) w p h = go (w % 2) refl (λ q. bit-trailing k (w / 2) q (let e = pow-suc 2 k in omega (arith, e)))
   where
-    go : (r : ℕ) → w % 2 ≡ r → (0 < w / 2 → bit (w / 2) (count_trailing_zeros k (w / 2)) ≡ 1) → bit w (under r (count_trailing_zeros k (w / 2))) ≡ 1
+    go : (r : ℕ) → w % 2 ≡ r → (0 < w / 2 → bit (w / 2) (count_trailing_zeros k (w / 2)) ≡ 1)
+        → bit w (under r (count_trailing_zeros k (w / 2))) ≡ 1
     go zero e i = i (omega arith)
     go (suc r) e i = omega arith
 
@@ -119,7 +120,8 @@ unfolding bit count_trailing_zeros
 bit-under zero w s h = absurd (omega arith)
 bit-under (suc k) w s h = go (w % 2) refl s h (λ j. bit-under k (w / 2) j)
   where
-    go : (r : ℕ) → w % 2 ≡ r → (j : ℕ) → j < under r (count_trailing_zeros k (w / 2)) → ((i : ℕ) → i < count_trailing_zeros k (w / 2) → bit (w / 2) i ≡ 0) → bit w j ≡ 0
+    go : (r : ℕ) → w % 2 ≡ r → (j : ℕ) → j < under r (count_trailing_zeros k (w / 2))
+        → ((i : ℕ) → i < count_trailing_zeros k (w / 2) → bit (w / 2) i ≡ 0) → bit w j ≡ 0
     go zero e zero h f = e
     go zero e (suc j) h f = f j (omega arith)
     go (suc r) e j h f = absurd (omega arith)
@@ -150,13 +152,15 @@ pub bit-or : (a b s : ℕ) → bit (bit_or a b) s ≡ max (bit a s) (bit b s)
 unfolding bit
 bit-or a b zero = ap (λ (x : ℕ). x % 2) (or_step a b) ∙ omega arith
 bit-or a b (suc s) =
-    ap (λ (x : ℕ). bit (x / 2) s) (or_step a b) ∙ ap (λ (x : ℕ). bit x s) (cut (bit_or (a / 2) (b / 2)) (max (a % 2) (b % 2)) (omega arith)) ∙ bit-or (a / 2) (b / 2) s
+    ap (λ (x : ℕ). bit (x / 2) s) (or_step a b)
+    ∙ ap (λ (x : ℕ). bit x s) (cut (bit_or (a / 2) (b / 2)) (max (a % 2) (b % 2)) (omega arith)) ∙ bit-or (a / 2) (b / 2) s
 
 pub bit-and : (a b s : ℕ) → bit (bit_and a b) s ≡ min (bit a s) (bit b s)
 unfolding bit
 bit-and a b zero = ap (λ (x : ℕ). x % 2) (and_step a b) ∙ omega arith
 bit-and a b (suc s) =
-    ap (λ (x : ℕ). bit (x / 2) s) (and_step a b) ∙ ap (λ (x : ℕ). bit x s) (cut (bit_and (a / 2) (b / 2)) (min (a % 2) (b % 2)) (omega arith)) ∙ bit-and (a / 2) (b / 2) s
+    ap (λ (x : ℕ). bit (x / 2) s) (and_step a b)
+    ∙ ap (λ (x : ℕ). bit x s) (cut (bit_and (a / 2) (b / 2)) (min (a % 2) (b % 2)) (omega arith)) ∙ bit-and (a / 2) (b / 2) s
 
 pub or-keeps : (a b s : ℕ) → bit a s ≡ 1 → bit (bit_or a b) s ≡ 1
 or-keeps a b s e = bit-or a b s ∙ omega (arith, bit-lt b s)

@@ -1,4 +1,5 @@
--- The worklist: f has the states found, w those of them that wait; each state that leads by a byte to a found state that does not wait is found.
+-- The worklist: f has the states found, w those of them that wait; each state that leads by a byte to a found state that does not
+-- wait is found.
 use mathlib.Core.Path.{◌≡◌, sym, ◌∙◌, subst}
 use mathlib.Core.List.{List, [], ◌∷◌}
 use mathlib.Core.Logic.{◌≢◌, ⊎_elim}
@@ -10,7 +11,8 @@ use Rattle.automaton.specs.Bits.{bit}
 use Rattle.automaton.specs.Table.{WellFormed, states, flag, next}
 use Rattle.automaton.specs.Words.{Bytes, run, CanMatch, Reach}
 use Rattle.automaton.proofs.Exact.{same_or}
-use Rattle.automaton.proofs.Word.{bit-lt, bit-off, bit-zero, bit_below, bit-has, bit-clear-other, bit-cleared, bit-or, or-keeps, bit-and, bit_not, bits-zero}
+use Rattle.automaton.proofs.Word.{bit-lt, bit-off, bit-zero, bit_below, bit-has, bit-clear-other}
+use Rattle.automaton.proofs.Word.{bit-cleared, bit-or, or-keeps, bit-and, bit_not, bits-zero}
 use Rattle.automaton.proofs.Strings.{can-match-here, can-match-step}
 
 pub record Work (t : List ℕ) (f w : ℕ) : Type 0 where
@@ -49,7 +51,8 @@ or_apart k a b ha hb d = or_disjoint a b (bits-zero k (bit_and a b) (and_lt k a 
 
 module _ {t : List ℕ} where
   -- all that are found wait
-  pub work_start : {f : ℕ} → f < 2 ^ states t → ((q : ℕ) → q < states t → flag t q ≡ 1 → bit f q ≡ 1) → ((q : ℕ) → bit f q ≡ 1 → CanMatch t q) → Work t f f
+  pub work_start : {f : ℕ} → f < 2 ^ states t → ((q : ℕ) → q < states t → flag t q ≡ 1 → bit f q ≡ 1)
+      → ((q : ℕ) → bit f q ≡ 1 → CanMatch t q) → Work t f f
   work_start h g c = record {
     small = h;
     small-w = h;
@@ -84,7 +87,8 @@ module _ {t : List ℕ} where
     -- a state that leads to s is found already, or it is added
     from-kept : (q b : ℕ) → q < states t → b < 256 → next t q b ≡ s → bit (bit_or f (added l f)) q ≡ 1
     from-kept q b hq hb e =
-        ⊎_elim (λ z. new-kept q (added-all l f (fits wf hl) (fits wf i.small) q (from q b hq z hb e) z)) (λ n. old-kept q (omega (arith, bit-lt f q))) (same_or (bit f q) 0)
+        ⊎_elim (λ z. new-kept q (added-all l f (fits wf hl) (fits wf i.small) q (from q b hq z hb e) z))
+        (λ n. old-kept q (omega (arith, bit-lt f q))) (same_or (bit f q) 0)
 
     in-or : (a q : ℕ) (C : Type 0) → (bit a q ≡ 1 → C) → (bit (added l f) q ≡ 1 → C) → bit (bit_or a (added l f)) q ≡ 1 → C
     in-or a q C g h e = ⊎_elim g (λ n. h (omega (arith, bit-or a (added l f) q, bit-lt a q, bit-lt (added l f) q))) (same_or (bit a q) 1)
@@ -102,7 +106,8 @@ module _ {t : List ℕ} where
         leads : (q : ℕ) → (b : ℕ) × (b < 256) × (next t q b ≡ s) → CanMatch t q
         leads q (b, h, e) = can-match-step q b h (subst (λ (x : ℕ). CanMatch t x) (sym e) (i.sound s (i.sub s hs)))
 
-        still : (q b : ℕ) → q < states t → b < 256 → next t q b ≢ s → bit (bit_or f (added l f)) (next t q b) ≡ 1 → bit (bit_or (w - 2 ^ s) (added l f)) (next t q b) ≡ 0 → bit f q ≡ 1
+        still : (q b : ℕ) → q < states t → b < 256 → next t q b ≢ s → bit (bit_or f (added l f)) (next t q b) ≡ 1
+            → bit (bit_or (w - 2 ^ s) (added l f)) (next t q b) ≡ 0 → bit f q ≡ 1
         still q b hq hb n e₁ e₀ =
             let x = next t q b in
             let o = bit-or (w - 2 ^ s) (added l f) x in
@@ -116,7 +121,8 @@ module _ {t : List ℕ} where
         let p = pow_pos s in
         let h = bit-has w s hs in
         let e₁ = or_apart (states t) f (added l f) i.small added-small apart in
-        let e₂ = or_apart (states t) (w - 2 ^ s) (added l f) (omega (arith, i.small-w)) added-small (λ q g. apart q (i.sub q (left-waits q g))) in
+        let e₂ =
+        or_apart (states t) (w - 2 ^ s) (added l f) (omega (arith, i.small-w)) added-small (λ q g. apart q (i.sub q (left-waits q g))) in
         omega arith
       where
         apart : (q : ℕ) → bit f q ≡ 1 → bit (added l f) q ≡ 0
@@ -162,4 +168,5 @@ module _ {t : List ℕ} where
 
   -- a state that is not found does not accept
   pub not_found : {f w : ℕ} → WellFormed t → Work t f w → (q : ℕ) → q < states t → bit f q ≡ 0 → flag t q ≡ 0
-  not_found wf i q hq z = ⊎_elim (λ e. let o = i.flags q hq e in absurd (omega arith)) (λ n. omega (arith, wf.flags q hq)) (same_or (flag t q) 1)
+  not_found wf i q hq z =
+      ⊎_elim (λ e. let o = i.flags q hq e in absurd (omega arith)) (λ n. omega (arith, wf.flags q hq)) (same_or (flag t q) 1)

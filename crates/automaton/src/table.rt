@@ -6,18 +6,20 @@ ghost use Rattle.automaton.specs.Table.{table_no, WellFormed, states, flag, next
 
 use layout::refusals::Refusal;
 
-// Whether some byte is at or above the bound. It looks at all of them, byte against byte: so the loop takes many at once.
+// Whether some byte is at or above the bound. It looks at all of them, byte against byte, so that the loop takes many at once:
+// `any` would stop at the first.
 fn any_from(bytes: &[u8], bound: u8) -> bool
     ensures { result ≡ any_from bound bytes.now }
 {
     let mut found = false;
     for byte in bytes {
-        found = found | (*byte >= bound);
+        found |= *byte >= bound;
     }
     found
 }
 
-// The bytes of a table that keeps the rules.
+// The bytes of a table that keeps the rules. That a state is one of the table's stands in the clauses of what takes it: a type
+// that says so would hold the table beside each state, and walks keep states as bytes and as bits.
 #[derive(Clone, Copy)]
 pub struct Table<'a> {
     pub bytes: &'a [u8],
@@ -30,24 +32,16 @@ impl<'a> Table<'a> {
         ensures number { no_of result ≡ table_no bytes.now }
         ensures bytes { IfOk result (λ t. t.bytes.now ≡ bytes.now) }
     {
-        if bytes.len() == 0 {
+        let m = *bytes.first().ok_or(Refusal::TableBad)?;
+        let rows = 1 + usize::from(m);
+        // Two comparisons: contains goes by partial_cmp, whose cases the proof would have to walk.
+        if m < 1 || m > 64 || bytes.len() != 1 + 257 * usize::from(m) {
             return Err(Refusal::TableBad);
         }
-        let m = bytes[0] as usize;
-        if m < 1 {
-            return Err(Refusal::TableBad);
-        }
-        if m > 64 {
-            return Err(Refusal::TableBad);
-        }
-        if bytes.len() != 1 + 257 * m {
-            return Err(Refusal::TableBad);
-        }
-        let rows = 1 + m;
         if any_from(&bytes[1..rows], 2) {
             return Err(Refusal::FlagBad);
         }
-        if any_from(&bytes[rows..], m as u8) {
+        if any_from(&bytes[rows..], m) {
             return Err(Refusal::StateBad);
         }
         Ok(Table { bytes })
@@ -57,7 +51,7 @@ impl<'a> Table<'a> {
     pub fn states(self) -> usize
         ensures { result ≡ states self.entry.bytes.now }
     {
-        self.bytes[0] as usize
+        usize::from(self.bytes[0])
     }
 
     // Where the 256 next states of a state begin.
@@ -73,7 +67,7 @@ impl<'a> Table<'a> {
         requires { state < states self.bytes.now }
         ensures { (result ≡ next self.entry.bytes.now state byte) × (result < states self.entry.bytes.now) }
     {
-        self.bytes[self.row(state) + byte as usize] as usize
+        usize::from(self.bytes[self.row(state) + usize::from(byte)])
     }
 
     // Whether a state accepts.

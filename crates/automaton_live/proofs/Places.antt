@@ -1,11 +1,12 @@
 -- The nearest of n places, from those that a loop has passed; and of eights of them, from the nearest of one.
-use Rattle.std.proofs.Common.{Option, None, Some, ◌≡◌, ℕ, zero, suc, ◌^◌, lit≤, ◌+◌, ◌-◌, ◌*◌, ◌/◌, ◌%◌, ◌<◌, ◌≤◌, List, Bool, true, false, ◌⊎◌, inl, inr, ⊎_elim, sym, subst, arith, ap, ◌∙◌, get_or}
+use Rattle.std.proofs.Common.{Option, None, Some, ◌≡◌, ℕ, zero, suc, ◌^◌, lit≤, ◌+◌, ◌-◌, ◌*◌, ◌/◌, ◌%◌, ◌<◌}
+use Rattle.std.proofs.Common.{◌≤◌, List, Bool, true, false, ◌⊎◌, inl, inr, ⊎_elim, sym, subst, arith, ap, ◌∙◌, get_or}
 use Rattle.serialize.specs.Digits.{DigitsBelow}
 use Rattle.automaton.specs.Bits.{bit}
 use Rattle.automaton.specs.Table.{WellFormed, states, next}
 use Rattle.automaton.specs.Words.{CanMatch, Reach}
 use lib.ListN.{replicate, length-replicate, get_or-replicate}
-use Rattle.automaton.specs.Live.{FirstLive, EndLive, Firsts, Ends}
+use Rattle.automaton.specs.Live.{Firsts, Ends}
 use Rattle.automaton.proofs.Exact.{lt-or-le, same_or}
 use Rattle.automaton.proofs.Word.{bit-off, bit-top}
 use Rattle.automaton.proofs.Eights.{eight_at, Blank, blank-new, blank-used}
@@ -30,10 +31,9 @@ place-lt false n i h = h
 
 module _ (P : ℕ → Type 0) (back : Bool) (n : ℕ) where
   pub past-more : (i v : ℕ) → v ≡ place back n i → Past P back n i → (P v → ⊥) → Past P back n (i + 1)
-  past-more i v is f g m h = ⊎_elim (λ d. f m d) (λ d. let e : i ≡ m = omega arith in subst (λ (x : ℕ). P (place back n x) → ⊥) e (λ q. g (subst P (sym is) q))) (lt-or-le m i)
-
-  pub nearest-none : Past P back n n → Nearest P back n None
-  nearest-none f k l p = let (m, y, z) = all-places back n k l in f m y (subst P (sym z) p)
+  past-more i v is f g m h =
+      ⊎_elim (λ d. f m d) (λ d. let e : i ≡ m = omega arith in subst (λ (x : ℕ). P (place back n x) → ⊥) e (λ q. g (subst P (sym is) q)))
+      (lt-or-le m i)
 
 -- ---- the 256 bytes as 32 eights
 abbrev pub InEight : (P : ℕ → Type 0) (e : ℕ) → Type 0
@@ -45,7 +45,8 @@ before-eight true e j k l b = ⊎_elim (λ d. inl (d, omega arith)) (λ d. inr (
 before-eight false e j k l b = ⊎_elim (λ d. inl (d, omega arith)) (λ d. inr (omega (arith, d))) (same_or (k / 8) e)
 
 module _ (P : ℕ → Type 0) (back : Bool) where
-  eights-at : (i j : ℕ) → i < 32 → Nearest (λ k. P (8 * place back 32 i + k)) back 8 (Some j) → Past (InEight P) back 32 i → Nearest P back 256 (Some (8 * place back 32 i + j))
+  eights-at : (i j : ℕ) → i < 32 → Nearest (λ k. P (8 * place back 32 i + k)) back 8 (Some j) → Past (InEight P) back 32 i
+      → Nearest P back 256 (Some (8 * place back 32 i + j))
   eights-at i j h n f =
       let e = place back 32 i in
       let l = place-lt back 32 i h in (
@@ -55,12 +56,19 @@ module _ (P : ℕ → Type 0) (back : Bool) where
             let whole : 8 * (k / 8) + k % 8 ≡ k = omega arith in
             ⊎_elim
             (λ d. n.2 (k % 8) (omega arith) d.1 (let q : 8 * e + k % 8 ≡ k = omega (arith, d.0) in subst P (sym q) p))
-            (λ d. let (m, y, z) = before-place back 32 i (k / 8) h (omega arith) d in f m y (k % 8, omega arith, let q : 8 * place back 32 m + k % 8 ≡ k = omega (arith, z) in subst P (sym q) p))
+            (λ d. let (m, y, z) = before-place back 32 i (k / 8) h (omega arith) d in f m y (
+              k % 8,
+              omega arith,
+              let q : 8 * place back 32 m + k % 8 ≡ k = omega (arith, z) in subst P (sym q) p,
+            ))
             (before-eight back e j k n.0 b),
       )
 
-  pub eights-here : (i e j : ℕ) → i < 32 → e ≡ place back 32 i → Nearest (λ k. P (8 * e + k)) back 8 (Some j) → Past (InEight P) back 32 i → Nearest P back 256 (Some (8 * e + j))
-  eights-here i e j h is n f = subst (λ (x : ℕ). Nearest P back 256 (Some (8 * x + j))) (sym is) (eights-at i j h (subst (λ (x : ℕ). Nearest (λ k. P (8 * x + k)) back 8 (Some j)) is n) f)
+  pub eights-here : (i e j : ℕ) → i < 32 → e ≡ place back 32 i → Nearest (λ k. P (8 * e + k)) back 8 (Some j) → Past (InEight P) back 32 i
+      → Nearest P back 256 (Some (8 * e + j))
+  eights-here i e j h is n f =
+      subst (λ (x : ℕ). Nearest P back 256 (Some (8 * x + j))) (sym is)
+      (eights-at i j h (subst (λ (x : ℕ). Nearest (λ k. P (8 * x + k)) back 8 (Some j)) is n) f)
 
   pub eights-none : Past (InEight P) back 32 32 → Nearest P back 256 None
   eights-none f k l p =
@@ -68,7 +76,8 @@ module _ (P : ℕ → Type 0) (back : Bool) where
       f m y (k % 8, omega arith, let q : 8 * place back 32 m + k % 8 ≡ k = omega (arith, z) in subst P (sym q) p)
 
 -- ---- the eight next states of the bytes from b on, by their bits in the word of those that can match
-module _ {t : List ℕ} (wf : WellFormed t) (s : ℕ) (hs : s < states t) (at b : ℕ) (is : at ≡ 1 + states t + s * 256 + b) (fit : b + 8 ≤ 256) where
+module _ {t : List ℕ} (wf : WellFormed t) (s : ℕ) (hs : s < states t) (at b : ℕ) (is : at ≡ 1 + states t + s * 256 + b)
+    (fit : b + 8 ≤ 256) where
   bit-next : (j : ℕ) → get_or t (at + j) 0 ≡ next t s (b + j)
   bit-next j = let e : at + j ≡ 1 + states t + s * 256 + (b + j) = omega arith in ap (λ (x : ℕ). get_or t x 0) e
 
@@ -76,7 +85,8 @@ module _ {t : List ℕ} (wf : WellFormed t) (s : ℕ) (hs : s < states t) (at b 
   eight-below j h = omega (arith, bit-next j, wf.few, wf.closed s (b + j) hs (omega arith))
 
   module _ {reach : ℕ} (r : Reach t reach) where
-    pub eight-some : (back : Bool) (j : ℕ) → Nearest (λ j. bit reach (get_or t (at + j) 0) ≡ 1) back 8 (Some j) → Nearest (λ k. CanMatch t (next t s (b + k))) back 8 (Some j)
+    pub eight-some : (back : Bool) (j : ℕ) → Nearest (λ j. bit reach (get_or t (at + j) 0) ≡ 1) back 8 (Some j)
+        → Nearest (λ k. CanMatch t (next t s (b + k))) back 8 (Some j)
     eight-some back j n = (
       n.0,
       r.up (next t s (b + j)) (wf.closed s (b + j) hs (omega (arith, n.0))) (ap (bit reach) (sym (bit-next j)) ∙ n.1),
@@ -84,13 +94,15 @@ module _ {t : List ℕ} (wf : WellFormed t) (s : ℕ) (hs : s < states t) (at b 
     )
 
     -- eight that equal a word of none that can match
-    pub eight-blank : DigitsBelow 8 t → (eight : ℕ) → eight ≡ eight_at t at → Blank reach eight → (j : ℕ) × (j < 8) × CanMatch t (next t s (b + j)) → ⊥
+    pub eight-blank : DigitsBelow 8 t → (eight : ℕ) → eight ≡ eight_at t at → Blank reach eight
+        → (j : ℕ) × (j < 8) × CanMatch t (next t s (b + j)) → ⊥
     eight-blank small eight e f x =
         let m = r.down (next t s (b + x.0)) (wf.closed s (b + x.0) hs (omega (arith, x.1))) x.2 in
         let one = ap (bit reach) (bit-next x.0) ∙ m in
         omega (arith, one, blank-used t small reach at eight e f x.0 x.1)
 
-pub eight-new : (t : List ℕ) (reach at : ℕ) → DigitsBelow 8 t → (back : Bool) (eight : ℕ) → eight ≡ eight_at t at → Nearest (λ j. bit reach (get_or t (at + j) 0) ≡ 1) back 8 None → Blank reach eight
+pub eight-new : (t : List ℕ) (reach at : ℕ) → DigitsBelow 8 t → (back : Bool) (eight : ℕ) → eight ≡ eight_at t at
+    → Nearest (λ j. bit reach (get_or t (at + j) 0) ≡ 1) back 8 None → Blank reach eight
 eight-new t reach at small back eight e n = blank-new t small reach at eight e (λ j h. bit-off reach (get_or t (at + j) 0) (n j h))
 
 -- no next state is 255
@@ -111,7 +123,9 @@ none-known s x h e = let n : get_or (replicate {A = Option ℕ} 64 None) s None 
 
 module _ {t : List ℕ} (ok : WellFormed t) where
   pub firsts-unknown : Firsts t (replicate 64 None)
-  firsts-unknown = record { long = length-replicate {A = Option ℕ} 64 None; each = λ s x h e. absurd (none-known s x (omega (arith, ok.few)) e) }
+  firsts-unknown = record
+      { long = length-replicate {A = Option ℕ} 64 None; each = λ s x h e. absurd (none-known s x (omega (arith, ok.few)) e) }
 
   pub ends-unknown : Ends t (replicate 64 None)
-  ends-unknown = record { long = length-replicate {A = Option ℕ} 64 None; each = λ s x h e. absurd (none-known s x (omega (arith, ok.few)) e) }
+  ends-unknown = record
+      { long = length-replicate {A = Option ℕ} 64 None; each = λ s x h e. absurd (none-known s x (omega (arith, ok.few)) e) }

@@ -10,3 +10,15 @@ pub record IsPrepared (t : List ℕ) (p : Prepared) : Type 0 where
   pub found : Reach t p.reach
   pub lowest : Firsts t p.firsts
   pub highest : Ends t p.ends
+
+-- what a search for the lowest byte asks for of it
+pub record FirstsReady (t : List ℕ) (p : Prepared) : Type 0 where
+  pub same : p.table.bytes.now ≡ t
+  pub found : Reach t p.reach
+  pub lowest : Firsts t p.firsts
+
+-- and one for the highest
+pub record EndsReady (t : List ℕ) (p : Prepared) : Type 0 where
+  pub same : p.table.bytes.now ≡ t
+  pub found : Reach t p.reach
+  pub highest : Ends t p.ends

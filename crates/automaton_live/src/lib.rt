@@ -7,14 +7,15 @@ ghost use Rattle.automaton.specs.Table.{states, next};
 ghost use Rattle.automaton.specs.Words.{CanMatch, Reach};
 ghost use Rattle.automaton.specs.Live.{LiveByte, FirstLive, EndLive};
 ghost use Rattle.automaton_live.specs.Nearest.{place, Nearest};
-ghost use Rattle.automaton_live.specs.Prepared.{IsPrepared};
+ghost use Rattle.automaton_live.specs.Prepared.{IsPrepared, FirstsReady, EndsReady};
 
 use automaton::bits::is_set;
 use automaton::table::Table;
 
 // What the walks along keys have of a table: the word of the states that can match, and for the states asked for so far the
 // lowest byte that leads on, and one more than the highest. That they are right stands in the contracts and not in a ghost
-// field: it has strings, so more than one proof, and a truncated fact doesn't give the string back.
+// field: it has strings, so more than one proof, and a truncated fact doesn't give the string back. The lowest and the highest
+// are two arrays, since each search asks for one of them and leaves the other as it is; they are arrays, since there is no heap.
 #[derive(Drop)]
 pub struct Prepared<'a> {
     pub table: Table<'a>,
@@ -24,23 +25,22 @@ pub struct Prepared<'a> {
 }
 
 // The k-th of n places, from the front or from the back.
-#[inline(always)]
-fn place(back: bool, n: usize, k: usize) -> usize
+fn place<const BACK: bool>(n: usize, k: usize) -> usize
     requires { k < n }
-    ensures { result ≡ place back n k }
+    ensures { result ≡ place BACK n k }
 {
-    if back { n - 1 - k } else { k }
+    if BACK { n - 1 - k } else { k }
 }
 
-// Of the eight next states from `at` on the first that can match, from the front or from the back.
-#[inline(always)]
-fn nearest_of_eight(back: bool, bytes: &[u8], reach: u64, at: usize) -> Option<usize>
+// Of the eight next states from `at` on the first that can match, from the front or from the back. A loop counts the places: tried
+// with `find` over the places mapped, the check knew nothing of what a closure gives that calls a function with a constant parameter.
+fn nearest_of_eight<const BACK: bool>(bytes: &[u8], reach: u64, at: usize) -> Option<usize>
     requires { (at + 8 ≤ length bytes.now) × ((j : ℕ) → j < 8 → get_or bytes.now (at + j) 0 < 64) }
-    ensures { Nearest (λ j. bit reach (get_or bytes.now (at + j) 0) ≡ 1) back 8 result }
+    ensures { Nearest (λ j. bit reach (get_or bytes.now (at + j) 0) ≡ 1) BACK 8 result }
 {
     for k in 0..8 {
-        let j = place(back, 8, k);
-        if is_set(reach, bytes[at + j] as usize) {
+        let j = place::<BACK>(8, k);
+        if is_set(reach, usize::from(bytes[at + j])) {
             return Some(j);
         }
     }
@@ -49,18 +49,17 @@ fn nearest_of_eight(back: bool, bytes: &[u8], reach: u64, at: usize) -> Option<u
 
 // The first byte that leads on from a state, from the front or from the back. Eight next states that equal eight that lead
 // nowhere are passed over; no eight equal those that the loop begins with.
-#[inline(always)]
-fn nearest(back: bool, table: Table, reach: u64, state: usize) -> Option<usize>
+fn nearest<const BACK: bool>(table: Table, reach: u64, state: usize) -> Option<usize>
     requires { Reach table.bytes.now reach × (state < states table.bytes.now) }
-    ensures { Nearest (λ b. CanMatch table.entry.bytes.now (next table.entry.bytes.now state b)) back 256 result }
+    ensures { Nearest (λ b. CanMatch table.entry.bytes.now (next table.entry.bytes.now state b)) BACK 256 result }
 {
     let row = table.row(state);
     let mut dead = u64::MAX;
     for k in 0..32 {
-        let from = 8 * place(back, 32, k);
+        let from = 8 * place::<BACK>(32, k);
         let eight = serialize::deserialize_u64(table.bytes, row + from);
         if eight != dead {
-            if let Some(j) = nearest_of_eight(back, table.bytes, reach, row + from) {
+            if let Some(j) = nearest_of_eight::<BACK>(table.bytes, reach, row + from) {
                 return Some(from + j);
             }
             dead = eight;
@@ -86,49 +85,49 @@ impl<'a> Prepared<'a> {
         requires { state < 64 }
         ensures { Exactly result (bit self.now.reach state ≡ 1) }
     {
-        is_set(self.reach, state)
+        automaton_reach::can_match(self.reach, state)
     }
 
-    // Whether a byte from lo on and below hi leads on.
+    // Whether a byte from lo on and below hi leads on. They stay two: lo is one more than a byte, hi a byte, and the clauses take each
+    // by itself.
     pub fn any_byte(&self, state: usize, lo: usize, hi: usize) -> bool
-        requires { IsPrepared self.now.table.bytes.now self.now × (state < states self.now.table.bytes.now) × (hi ≤ 256) }
+        requires { Reach self.now.table.bytes.now self.now.reach × (state < states self.now.table.bytes.now) × (hi ≤ 256) }
         ensures { Exactly result (LiveByte self.now.table.bytes.now state lo hi) }
     {
         let row = self.table.row(state);
-        for b in lo..hi {
-            if is_set(self.reach, self.table.bytes[row + b] as usize) {
-                return true;
-            }
-        }
-        false
+        (lo..hi).any(|b| is_set(self.reach, usize::from(self.table.bytes[row + b])))
     }
 
     // The lowest byte that leads on from a state, worked out when it is first asked for; 256 where there is none: a bound, which
-    // is compared as one.
+    // is compared as one. Here and in `end` a known answer is returned by hand: of what `get_or_insert_with` lends, and that the other
+    // states stay, the check found no proof.
     pub fn first(&mut self, state: usize) -> u16
-        requires { IsPrepared self.old.table.bytes.now self.old × (state < states self.old.table.bytes.now) }
+        requires { FirstsReady self.old.table.bytes.now self.old × (state < states self.old.table.bytes.now) }
         ensures first_live { FirstLive self.old.table.bytes.now state result }
-        ensures prepared { IsPrepared self.old.table.bytes.now self.new }
+        ensures ready { FirstsReady self.old.table.bytes.now self.new }
+        ensures ends { self.new.ends ≡ self.old.ends }
     {
         if let Some(known) = self.firsts[state] {
             return known;
         }
-        let byte = nearest(false, self.table, self.reach, state);
-        let first = byte.map_or(256, |b| b) as u16;
+        let byte = nearest::<false>(self.table, self.reach, state);
+        let first = byte.unwrap_or(256) as u16;
         self.firsts[state] = Some(first);
         first
     }
 
-    // One more than the highest byte that leads on from a state, worked out when it is first asked for; 0 where there is none.
+    // One more than the highest byte that leads on from a state, worked out when it is first asked for; 0 where there is none: a
+    // bound too.
     pub fn end(&mut self, state: usize) -> u16
-        requires { IsPrepared self.old.table.bytes.now self.old × (state < states self.old.table.bytes.now) }
+        requires { EndsReady self.old.table.bytes.now self.old × (state < states self.old.table.bytes.now) }
         ensures end_live { EndLive self.old.table.bytes.now state result }
-        ensures prepared { IsPrepared self.old.table.bytes.now self.new }
+        ensures ready { EndsReady self.old.table.bytes.now self.new }
+        ensures firsts { self.new.firsts ≡ self.old.firsts }
     {
         if let Some(known) = self.ends[state] {
             return known;
         }
-        let byte = nearest(true, self.table, self.reach, state);
+        let byte = nearest::<true>(self.table, self.reach, state);
         let end = byte.map_or(0, |b| b + 1) as u16;
         self.ends[state] = Some(end);
         end

@@ -1,4 +1,5 @@
-// Which states lead to acceptance.
+// Which states lead to acceptance. A word of 64 bits is a set of states, and an array of 64 words has one for each: a table has
+// no more states, and there is no heap.
 #![tactic(auto)]
 
 ghost use Rattle.std.specs.Prelude.{◌≡◌, List, ℕ, ◌+◌, ◌-◌, ◌*◌, ◌^◌, ◌≤◌, ◌<◌, length, get_or};
@@ -11,14 +12,14 @@ ghost use Rattle.automaton.specs.Words.{CanMatch, Reach};
 use automaton::bits::{SetBits, is_set};
 use automaton::table::Table;
 
-// The word of the accepting states.
+// The word of the accepting states. The loop counts them, since a flag's place is its bit.
 pub fn flags(table: Table) -> u64
     ensures upper_bound { result < 2 ^ states table.entry.bytes.now }
     ensures by_index { (s : ℕ) → s < states table.entry.bytes.now → bit result s ≡ flag table.entry.bytes.now s }
 {
     let mut word: u64 = 0;
     for s in 0..table.states() {
-        word |= (table.bytes[1 + s] as u64) << s;
+        word |= u64::from(table.bytes[1 + s]) << s;
     }
     word
 }
@@ -30,13 +31,15 @@ fn states_of(bytes: &[u8], at: usize) -> u64
     ensures by_index_2 { (s : ℕ) → bit result s ≡ 1 → (b : ℕ) × (b < 8) × (get_or bytes.now (at + b) 0 ≡ s) }
 {
     let mut word: u64 = 0;
-    for b in 0..8 {
-        word |= 1u64 << bytes[at + b];
+    for state in &bytes[at..at + 8] {
+        word |= 1u64 << *state;
     }
     word
 }
 
-// Whether the eight words from `at` on all equal `last`. The loop has no branch, so that it is unrolled whole.
+// Whether the eight words from `at` on all equal `last`. The loop has no branch, so that it is unrolled whole: `all` would have
+// one a word. It counts them, as the loops below do: the clauses have a word as `number_at`, and of chunks of eight one would have
+// to show first which word each is.
 fn repeats(bytes: &[u8], at: usize, last: u64) -> bool
     requires { at + 64 ≤ length bytes.now }
     ensures { Exactly result ((k : ℕ) → k < 8 → number_at bytes.now (at + 8 * k) 8 ≡ last) }
@@ -76,7 +79,8 @@ fn next_states(bytes: &[u8], at: usize, wanted: u64) -> u64
     word
 }
 
-// For each state the word of those that a byte leads to from it.
+// For each state the word of those that a byte leads to from it. The loop counts the states: by chunks of 256 of the bytes behind the
+// flags one would have to show first that each is the row that `next` reads.
 pub fn successors(table: Table) -> [u64; 64]
     ensures by_index { (p b : ℕ) → p < states table.entry.bytes.now → b < 256
         → bit (get_or result p 0) (next table.entry.bytes.now p b) ≡ 1 }
@@ -101,7 +105,7 @@ fn others(word: u64, m: usize) -> u64
 
 // Sets bit p in the words of a word's states.
 fn mark(words: &mut [u64; 64], states: u64, p: usize)
-    requires { (length words.old ≡ 64) × (p < 64) }
+    requires { p < 64 }
     ensures words_len { length words.new ≡ 64 }
     ensures by_index { (s : ℕ) → bit states s ≡ 1 → get_or words.new s 0 ≡ bit_or (get_or words.old s 0) (2 ^ p) }
     ensures by_index_2 { (s : ℕ) → bit states s ≡ 0 → get_or words.new s 0 ≡ get_or words.old s 0 }
@@ -117,7 +121,7 @@ fn mark(words: &mut [u64; 64], states: u64, p: usize)
 fn first_look(table: Table, accepting: u64, unfound: u64, before: &mut [u64; 64]) -> u64
     requires accepting { (accepting < 2 ^ states table.bytes.now) × ((s : ℕ) → bit accepting s ≡ 1 → CanMatch table.bytes.now s) }
     requires unfound { unfound < 2 ^ states table.bytes.now }
-    requires before_len { (length before.old ≡ 64) × ((s : ℕ) → get_or before.old s 0 ≡ 0) }
+    requires before_empty { (s : ℕ) → get_or before.old s 0 ≡ 0 }
     ensures upper_bound { (result < 2 ^ states table.entry.bytes.now) × ((s : ℕ) → bit accepting s ≡ 1 → bit result s ≡ 1)
         × ((s : ℕ) → bit result s ≡ 1 → CanMatch table.entry.bytes.now s) }
     ensures by_index { (s : ℕ) → get_or before.new s 0 < 2 ^ states table.entry.bytes.now }
@@ -151,6 +155,7 @@ pub fn reach(table: Table) -> u64
     let mut before: [u64; 64] = [0; 64];
     let mut found = first_look(table, accepting, unfound, &mut before);
     let mut waiting = SetBits { left: found };
+    // No for: states are added to `waiting` as it goes.
     while let Some(s) = waiting.next() {
         let more = before[s] & !found;
         found |= more;
@@ -160,7 +165,7 @@ pub fn reach(table: Table) -> u64
 }
 
 // Whether a state can match, by the word of those that can: true exactly when acceptance can be reached from it in the
-// table whose word this is.
+// table whose word this is. It is `is_set`, with what it means of such a word, and `Prepared` hands it on.
 pub fn can_match(word: u64, state: usize) -> bool
     requires { state < 64 }
     ensures exactly { Exactly result (bit word state ≡ 1) }

@@ -14,24 +14,19 @@ use layout::refusals::Refusal;
 // What an example has beyond its key at most: a byte and a tail of 63.
 const BEYOND: usize = 64;
 
-// Whether an output of this length has room for every example.
+// Whether an output of this length has room for every example. A let .. else: within `is_some_and` the second test would be a closure
+// in a closure, of which the check doesn't find what it tells.
 fn has_room(start_key: Option<&[u8]>, end_key: &[u8], room: usize) -> bool
     ensures { Exactly result (longer (start_now start_key.entry) end_key.now + 64 ≤ room) }
 {
-    if room < BEYOND {
+    let Some(left) = room.checked_sub(BEYOND) else {
         return false;
-    }
-    let left = room - BEYOND;
-    if end_key.len() > left {
-        return false;
-    }
-    match start_key {
-        Some(start_key) => start_key.len() <= left,
-        None => true,
-    }
+    };
+    end_key.len() <= left && start_key.is_none_or(|start_key| start_key.len() <= left)
 }
 
-// Writes some accepted string above `start_key` and not above `end_key` to the front of `out`; the first block has no start key.
+// Writes some accepted string above `start_key` and not above `end_key` to the front of `out`, which is lent, since there is no
+// heap; the first block has no start key.
 pub fn example(
     start_key: Option<&[u8]>,
     end_key: &[u8],

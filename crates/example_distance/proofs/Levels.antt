@@ -1,4 +1,5 @@
--- The levels: f has the states found, whose distances stand in d; l the states at distance k. Each level adds a state, so that k stays within 64.
+-- The levels: f has the states found, whose distances stand in d; l the states at distance k. Each level adds a state, so that k
+-- stays within 64.
 use mathlib.Core.Path.{◌≡◌, refl, sym, ap, ◌∙◌, subst}
 use mathlib.Core.List.{List, [], ◌∷◌}
 use mathlib.Core.Logic.{◌⊎◌, inl, inr, ⊎_elim}
@@ -15,7 +16,7 @@ use Rattle.automaton.specs.Table.{WellFormed, states, flag, next}
 use Rattle.automaton.specs.Words.{run, Hits, Accepts}
 use Rattle.automaton.proofs.Exact.{same_or, lt-or-le}
 use Rattle.automaton.proofs.Word.{bit-lt, bit-off, bit-zero, bit_below, bit-trailing, bit-or, bit-and, bit_not}
-use Rattle.automaton.proofs.SetBits.{Passed, passed_none, passed-more}
+use Rattle.automaton.proofs.SetBits.{Passed, passed-more}
 use Rattle.automaton.proofs.Strings.{hits-tail, word-nil, word-cons}
 use Rattle.example_distance.specs.Distance.{Distances}
 
@@ -89,7 +90,8 @@ module _ {t : List ℕ} where
     long = length-replicate {A = ℕ} 64 64;
     done = λ q e. absurd (omega (arith, bit-zero q));
     none = λ q l e. get_or-replicate 64 q 64 0 l;
-    level = λ q e. record { near = word-nil (λ w. length w ≡ 0) (sym (g q (bit_below (states t) f q h e)) ∙ e) refl; least = λ w i. zero-le };
+    level = λ q e. record
+        { near = word-nil (λ w. length w ≡ 0) (sym (g q (bit_below (states t) f q h e)) ∙ e) refl; least = λ w i. zero-le };
     all = here;
     count = zero-le;
   }
@@ -104,7 +106,8 @@ module _ {t : List ℕ} where
   -- a byte more
   exact-step : {s n : ℕ} (q b : ℕ) → b < 256 → next t q b ≡ s → Exact t s n → Accepts t q (λ w. length w ≡ n + 1)
   exact-step {s} {n} q b h e x =
-      word-cons q b (λ w. length w ≡ n + 1) (λ w. length w ≡ n) h (λ w i. omega (arith, i)) (subst (λ (y : ℕ). Accepts t y (λ w. length w ≡ n)) (sym e) x.near)
+      word-cons q b (λ w. length w ≡ n + 1) (λ w. length w ≡ n) h (λ w i. omega (arith, i))
+      (subst (λ (y : ℕ). Accepts t y (λ w. length w ≡ n)) (sym e) x.near)
 
   module _ {d : List ℕ} {f l k : ℕ} (wf : WellFormed t) (i : Levels t d f l k) where
     -- a state from which a byte leads to one found is found, or of this level
@@ -143,7 +146,12 @@ module _ {t : List ℕ} where
         to-new : (q : ℕ) → bit r q ≡ 1 → (bit (bit_or f l) q ≡ 1) ⊎ (bit (left r (bit_or f l)) q ≡ 1)
         to-new q h =
             ⊎_elim inl
-            (λ n. inr (bit-and r (2 ^ 64 - 1 - bit_or f l) q ∙ omega (arith, n, bit-lt (bit_or f l) q, bit_not 64 (bit_or f l) q (fits wf small') (bit_below 64 r q (fits wf hr) h))))
+            (λ n. inr (bit-and r (2 ^ 64 - 1 - bit_or f l) q ∙ omega (
+              arith,
+              n,
+              bit-lt (bit_or f l) q,
+              bit_not 64 (bit_or f l) q (fits wf small') (bit_below 64 r q (fits wf hr) h),
+            )))
             (same_or (bit (bit_or f l) q) 1)
 
         found : (q : ℕ) → (bit f q ≡ 1) ⊎ (bit l q ≡ 1) → bit (bit_or f l) q ≡ 1
@@ -180,7 +188,8 @@ module _ {t : List ℕ} where
           count = omega (arith, more, i.count);
         }
           where
-            reached : (q : ℕ) (w : List ℕ) → q < states t → Hits t q w → length w ≤ k + 1 → (bit (bit_or f l) q ≡ 1) ⊎ (bit (left r (bit_or f l)) q ≡ 1)
+            reached : (q : ℕ) (w : List ℕ) → q < states t → Hits t q w → length w ≤ k + 1
+                → (bit (bit_or f l) q ≡ 1) ⊎ (bit (left r (bit_or f l)) q ≡ 1)
             reached q [] hq hw s = inl (found q (i.all q [] hq hw zero-le))
             reached q (b ∷ w) hq hw s =
                 let (hb, h) = hits-tail q b hw in
@@ -218,9 +227,11 @@ pub record PutTo (l left k : ℕ) (old new : List ℕ) : Type 0 where
   pub put : Passed (λ q. get_or new q 0 ≡ k) l left
   pub kept : (q : ℕ) → bit l q ≡ 0 → get_or new q 0 ≡ get_or old q 0
 
-pub put-more : {l left k : ℕ} {old new : List ℕ} → PutTo l left k old new → (s : ℕ) → s < length new → bit left s ≡ 1 → (rest : ℕ) → rest ≡ left - 2 ^ s → PutTo l rest k old (set new s k)
+pub put-more : {l left k : ℕ} {old new : List ℕ} → PutTo l left k old new → (s : ℕ) → s < length new → bit left s ≡ 1 → (rest : ℕ)
+    → rest ≡ left - 2 ^ s → PutTo l rest k old (set new s k)
 put-more {l} {left} {k} {old} {new} i s h e rest is = rw is (record {
   long = length-set new s k ∙ i.long;
   put = passed-more i.put s e (λ q n f. get_or-set_other new s q k 0 n ∙ f) (get_or-set_same new s k 0 h);
-  kept = λ q b. get_or-set_other new s q k 0 (λ z. let y = subst (λ (x : ℕ). bit l x ≡ 0) z b in let o = i.put.sub s e in omega arith) ∙ i.kept q b;
+  kept = λ q b. get_or-set_other new s q k 0 (λ z. let y = subst (λ (x : ℕ). bit l x ≡ 0) z b in let o = i.put.sub s e in omega arith)
+      ∙ i.kept q b;
 })

@@ -24,7 +24,8 @@ module _ {t d : List ℕ} (x : Distances t d) where
   zero-at s hs f = omega (arith, x.least s [] hs (hits-nil f))
 
   -- a byte leads to a nearer state
-  pub some-nearer : (s : ℕ) → WellFormed t → s < states t → 0 < get_or d s 0 → get_or d s 0 < 64 → (b : ℕ) × (b < 256) × (get_or d (next t s b) 0 < get_or d s 0)
+  pub some-nearer : (s : ℕ) → WellFormed t → s < states t → 0 < get_or d s 0 → get_or d s 0 < 64
+      → (b : ℕ) × (b < 256) × (get_or d (next t s b) 0 < get_or d s 0)
   some-nearer s wf hs pos small =
       word-cases (λ w. length w ≡ get_or d s 0) ((b : ℕ) × (b < 256) × (get_or d (next t s b) 0 < get_or d s 0))
       (λ f p. absurd (omega (arith, p)))
@@ -32,7 +33,8 @@ module _ {t d : List ℕ} (x : Distances t d) where
       (x.near s hs small)
 
   -- and a nearer state is one nearer
-  pub one-nearer : (s b : ℕ) → WellFormed t → s < states t → b < 256 → get_or d s 0 < 64 → get_or d (next t s b) 0 < get_or d s 0 → get_or d (next t s b) 0 + 1 ≡ get_or d s 0
+  pub one-nearer : (s b : ℕ) → WellFormed t → s < states t → b < 256 → get_or d s 0 < 64 → get_or d (next t s b) 0 < get_or d s 0
+      → get_or d (next t s b) 0 + 1 ≡ get_or d s 0
   one-nearer s b wf hs hb small less =
       let m = x.near (next t s b) (wf.closed s b hs hb) (omega arith) in
       omega (arith, m.good, x.least s (b ∷ m.string) hs (hits-cons s b hb m.hits))
@@ -57,7 +59,8 @@ module _ {t d old : List ℕ} where
   sofar-none state at h = record { string = []; bytes = tt; leads = refl; small = h; ends = omega arith; left = omega arith; put = refl }
 
   module _ {new : List ℕ} {state at s i : ℕ} (z : Sofar t d old new state at s i) where
-    pub sofar-more : (b : ℕ) → WellFormed t → b < 256 → get_or d (next t s b) 0 + 1 ≡ get_or d s 0 → Sofar t d old (set new i b) state at (next t s b) (i + 1)
+    pub sofar-more : (b : ℕ) → WellFormed t → b < 256 → get_or d (next t s b) 0 + 1 ≡ get_or d s 0
+        → Sofar t d old (set new i b) state at (next t s b) (i + 1)
     unfolding run
     sofar-more b wf h e =
         let l = length-append z.string (b ∷ []) in

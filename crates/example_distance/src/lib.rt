@@ -10,15 +10,17 @@ use automaton::table::Table;
 use automaton_reach::{flags, successors};
 
 // A table with its distances: for each state the length of a shortest string that leads to acceptance, 64 where there is
-// none: it is above each distance, so that the walks compare without a case. That they are right stands in the contracts and not in
-// a ghost field, since it has strings, so more than one proof.
+// none: it is above each distance, so that the walks compare without a case. They are an array, since there is no heap. That they
+// are right stands in the contracts and not in a ghost field: it has strings, so more than one proof, and a truncated fact doesn't
+// give the string back.
 #[derive(Clone, Copy)]
 pub struct Measured<'a> {
     pub table: Table<'a>,
     pub distances: [u8; 64],
 }
 
-// The word of the states below m from which a byte leads to a state of the level.
+// The word of the states below m from which a byte leads to a state of the level. The loop counts the states, since a state's
+// place is its bit.
 fn leading_to_level(successors: &[u64; 64], m: usize, level: u64) -> u64
     requires { m ≤ 64 }
     ensures upper_bound { result < 2 ^ m }
@@ -36,7 +38,6 @@ fn leading_to_level(successors: &[u64; 64], m: usize, level: u64) -> u64
 
 // Writes the distance of a level's states.
 fn write_level(distances: &mut [u8; 64], level: u64, distance: u8)
-    requires { length distances.old ≡ 64 }
     ensures distances_len { length distances.new ≡ 64 }
     ensures by_index { (s : ℕ) → s < 64 → bit level s ≡ 1 → get_or distances.new s 0 ≡ distance }
     ensures by_index_2 { (s : ℕ) → bit level s ≡ 0 → get_or distances.new s 0 ≡ get_or distances.old s 0 }

@@ -74,7 +74,8 @@ meet x b (inr g) (inl k) = absurd (omega (arith, g.0))
 meet x b (inr g) (inr k) = (g.0, g.1, k.1)
 
 -- they have such a byte
-pub leaving-byte : {t : List ℕ} (s : ℕ) (p w : List ℕ) (lo hi : ℕ) → Hits t s w → (p ++ (lo ∷ [])) ≼ w → w ≺ (p ++ (hi ∷ [])) → LiveByte t (run t s p) lo hi
+pub leaving-byte : {t : List ℕ} (s : ℕ) (p w : List ℕ) (lo hi : ℕ) → Hits t s w → (p ++ (lo ∷ [])) ≼ w → w ≺ (p ++ (hi ∷ []))
+    → LiveByte t (run t s p) lo hi
 unfolding run
 leaving-byte s [] [] lo hi i l h = absurd (not-cons-≼-nil lo [] l)
 leaving-byte s [] (b ∷ w) lo hi i l h = record {

@@ -15,7 +15,8 @@ use Rattle.example_walk.specs.Walk.{FromByte, UnderByte, InFront, Walked}
 use Rattle.example_walk.proofs.Bounds.{leaving}
 
 -- in another interval, where the output was untouched till then
-pub found_map : {t old old' new : List ℕ} {r : ℕ} (L U L' U' : List ℕ → Type 0) → old ≡ old' → ((w : List ℕ) → L w → U w → L' w × U' w) → InFront t L U old new r → InFront t L' U' old' new r
+pub found_map : {t old old' new : List ℕ} {r : ℕ} (L U L' U' : List ℕ → Type 0) → old ≡ old' → ((w : List ℕ) → L w → U w → L' w × U' w)
+    → InFront t L U old new r → InFront t L' U' old' new r
 found_map {new = new} L U L' U' e f m =
     let (l, u) = f m.string m.good.0 m.good.1 in
     record { string = m.string; hits = m.hits; good = (l, u, m.good.2, m.good.3 ∙ ap (λ (x : List ℕ). sets x 0 m.string) e) }
@@ -27,7 +28,16 @@ module _ (t key out a : List ℕ) (len : ℕ) (within : len ≤ length key) (roo
 
   -- the key's first bytes alone
   pub found_front : {L U : List ℕ → Type 0} → Hits t 0 (take len key) → L (take len key) → U (take len key) → InFront t L U out a len
-  found_front h l u = record { string = take len key; hits = h; good = (l, u, sym long, copy ∙ copied out (take len key) (omega (arith, long))) }
+  found_front h l u = record {
+    string = take len key;
+    hits = h;
+    good = (
+      l,
+      u,
+      sym long,
+      copy ∙ copied out (take len key) (omega (arith, long)),
+    );
+  }
 
   -- a byte and a tail behind them
   pub found-leaving : {c : List ℕ} (b lo hi k : ℕ) → lo ≤ b → b < hi → b < 256
@@ -50,7 +60,8 @@ module _ (t key out a : List ℕ) (len : ℕ) (within : len ≤ length key) (roo
           ∙ sets-append out (take len key) (b ∷ m.string) 0)
 
 -- the same of a walk
-pub walked_map : {t old old' : List ℕ} (new : List ℕ) {most most' : ℕ} (L U L' U' : List ℕ → Type 0) (r : Option ℕ) → most ≤ most' → old ≡ old'
+pub walked_map : {t old old' : List ℕ} (new : List ℕ) {most most' : ℕ} (L U L' U' : List ℕ → Type 0) (r : Option ℕ) → most ≤ most'
+    → old ≡ old'
     → ((w : List ℕ) → L w → U w → L' w × U' w) → ((Accepts t 0 (λ w. L w × U w) → ⊥) → Accepts t 0 (λ w. L' w × U' w) → ⊥)
     → Walked t L U most old new r → Walked t L' U' most' old' new r
 walked_map new L U L' U' None h e f g w = (w.0 ∙ e, g w.1)

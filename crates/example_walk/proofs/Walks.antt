@@ -39,13 +39,15 @@ pub record Upto (t key m : List ℕ) (i low s : ℕ) : Type 0 where
 
 pub upto-start : {t : List ℕ} (key : List ℕ) (n lo s : ℕ) → n ≤ length key → s ≡ run t 0 (take n key) → s < states t → lo ≤ get_or key n 0
     → Upto t key (take n key ++ (lo ∷ [])) n lo s
-upto-start key n lo s h r hs l = record { place = h; state = r; small = hs; over = l; from-m = ≼_refl (take n key ++ (lo ∷ [])); left = λ w i a b. a }
+upto-start key n lo s h r hs l = record
+    { place = h; state = r; small = hs; over = l; from-m = ≼_refl (take n key ++ (lo ∷ [])); left = λ w i a b. a }
 
 module _ {t key m : List ℕ} {i low s : ℕ} (z : Upto t key m i low s) where
   pub upto-end : length key ≤ i → Accepts t 0 (λ w. (m ≼ w) × (w ≼ key)) → ⊥
   upto-end h x =
       let e : take i key ≡ key = take_all i key h in
-      let a : (key ++ (low ∷ [])) ≼ x.string = subst (λ (p : List ℕ). (p ++ (low ∷ [])) ≼ x.string) e (z.left x.string x.hits x.good.0 x.good.1) in
+      let a : (key ++ (low ∷ [])) ≼ x.string =
+      subst (λ (p : List ℕ). (p ++ (low ∷ [])) ≼ x.string) e (z.left x.string x.hits x.good.0 x.good.1) in
       false≢true (sym (≼_trans (key ++ (low ∷ [])) x.string key a x.good.1) ∙ prefix-≺ key low [])
 
   module _ (h : i < length key) where
@@ -58,7 +60,9 @@ module _ {t key m : List ℕ} {i low s : ℕ} (z : Upto t key m i low s) where
 
     from_more : m ≼ take (i + 1) key
     from_more =
-        rw (take_more key i h) (≼_trans m (take i key ++ (low ∷ [])) (take i key ++ (get_or key i 0 ∷ [])) z.from-m (≼-behind (take i key) (low ∷ []) (get_or key i 0 ∷ []) (≼-byte low (get_or key i 0) [] z.over)))
+        rw (take_more key i h)
+        (≼_trans m (take i key ++ (low ∷ [])) (take i key ++ (get_or key i 0 ∷ [])) z.from-m
+        (≼-behind (take i key) (low ∷ []) (get_or key i 0 ∷ []) (≼-byte low (get_or key i 0) [] z.over)))
 
     -- one byte more of it
     pub upto-front : (m ≼ take (i + 1) key) × (take (i + 1) key ≼ key)
@@ -67,7 +71,8 @@ module _ {t key m : List ℕ} {i low s : ℕ} (z : Upto t key m i low s) where
     pub next-state : next t s (get_or key i 0) ≡ run t 0 (take (i + 1) key)
     next-state = ap (λ (x : ℕ). next t x (get_or key i 0)) z.state ∙ sym (run_more t 0 key i h)
 
-    pub upto_turn : WellFormed t → get_or key i 0 < 256 → (Accepts t 0 (λ w. ((take i key ++ (low ∷ [])) ≼ w) × (w ≺ (take i key ++ (get_or key i 0 ∷ [])))) → ⊥)
+    pub upto_turn : WellFormed t → get_or key i 0 < 256
+        → (Accepts t 0 (λ w. ((take i key ++ (low ∷ [])) ≼ w) × (w ≺ (take i key ++ (get_or key i 0 ∷ [])))) → ⊥)
         → (flag t (next t s (get_or key i 0)) ≡ 1 → ⊥) → Upto t key m (i + 1) 0 (next t s (get_or key i 0))
     upto_turn wf hk none dead = record {
       place = omega arith;
@@ -103,33 +108,49 @@ module _ {t key : List ℕ} {n i s : ℕ} (z : Over t key n i s) where
     whole : take i key ≡ key
     whole = take_all i key h
 
-    pub over_last : (w : List ℕ) → (take i key ++ (0 ∷ [])) ≼ w → w ≺ (take i key ++ (256 ∷ [])) → (key ≺ w) × (w ≺ (take n key ++ (256 ∷ [])))
+    pub over_last : (w : List ℕ) → (take i key ++ (0 ∷ [])) ≼ w → w ≺ (take i key ++ (256 ∷ []))
+        → (key ≺ w) × (w ≺ (take n key ++ (256 ∷ [])))
     over_last w a b = (≺-≼-trans key (key ++ (0 ∷ [])) w (prefix-≺ key 0 []) (rw whole at a), below-n w b)
 
-    pub over-end : (Accepts t 0 (λ w. ((take i key ++ (0 ∷ [])) ≼ w) × (w ≺ (take i key ++ (256 ∷ [])))) → ⊥) → Accepts t 0 (λ w. (key ≺ w) × (w ≺ (take n key ++ (256 ∷ [])))) → ⊥
+    pub over-end : (Accepts t 0 (λ w. ((take i key ++ (0 ∷ [])) ≼ w) × (w ≺ (take i key ++ (256 ∷ [])))) → ⊥)
+        → Accepts t 0 (λ w. (key ≺ w) × (w ≺ (take n key ++ (256 ∷ [])))) → ⊥
     over-end none x =
-        none (record { string = x.string; hits = x.hits; good = (rw whole (next-string key x.string x.good.0), z.left x.string x.hits x.good.0 x.good.1) })
+        none (record {
+          string = x.string;
+          hits = x.hits;
+          good = (
+            rw whole (next-string key x.string x.good.0),
+            z.left x.string x.hits x.good.0 x.good.1,
+          );
+        })
 
   module _ (h : i < length key) where
     -- leaving the key above its byte
-    pub over-leaving : (w : List ℕ) → (take i key ++ ((get_or key i 0 + 1) ∷ [])) ≼ w → w ≺ (take i key ++ (256 ∷ [])) → (key ≺ w) × (w ≺ (take n key ++ (256 ∷ [])))
+    pub over-leaving : (w : List ℕ) → (take i key ++ ((get_or key i 0 + 1) ∷ [])) ≼ w → w ≺ (take i key ++ (256 ∷ []))
+        → (key ≺ w) × (w ≺ (take n key ++ (256 ∷ [])))
     over-leaving w a b =
         let k = get_or key i 0 in
-        let u : (take i key ++ (k ∷ drop (i + 1) key)) ≺ (take i key ++ ((k + 1) ∷ [])) = ≺-behind (take i key) (k ∷ drop (i + 1) key) ((k + 1) ∷ []) (≺-lower k (k + 1) (drop (i + 1) key) [] (omega arith)) in
-        (≺-≼-trans key (take i key ++ ((k + 1) ∷ [])) w (subst (λ (x : List ℕ). x ≺ (take i key ++ ((k + 1) ∷ []))) (split key i h) u) a, below-n w b)
+        let u : (take i key ++ (k ∷ drop (i + 1) key)) ≺ (take i key ++ ((k + 1) ∷ [])) =
+        ≺-behind (take i key) (k ∷ drop (i + 1) key) ((k + 1) ∷ []) (≺-lower k (k + 1) (drop (i + 1) key) [] (omega arith)) in (
+          ≺-≼-trans key (take i key ++ ((k + 1) ∷ [])) w (subst (λ (x : List ℕ). x ≺ (take i key ++ ((k + 1) ∷ []))) (split key i h) u) a,
+          below-n w b,
+        )
 
     behind_more : take (i + 1) key ++ (256 ∷ []) ≡ take i key ++ (get_or key i 0 ∷ (256 ∷ []))
     behind_more = rw (take_more key i h) (append_assoc (take i key) (get_or key i 0 ∷ []) (256 ∷ []))
 
-    pub over-turn : WellFormed t → get_or key i 0 < 256 → (Accepts t 0 (λ w. ((take i key ++ ((get_or key i 0 + 1) ∷ [])) ≼ w) × (w ≺ (take i key ++ (256 ∷ [])))) → ⊥)
+    pub over-turn : WellFormed t → get_or key i 0 < 256
+        → (Accepts t 0 (λ w. ((take i key ++ ((get_or key i 0 + 1) ∷ [])) ≼ w) × (w ≺ (take i key ++ (256 ∷ [])))) → ⊥)
         → Over t key n (i + 1) (next t s (get_or key i 0))
     over-turn wf hk none = record {
       place = omega arith;
       state = ap (λ (x : ℕ). next t x (get_or key i 0)) z.state ∙ sym (run_more t 0 key i h);
       small = wf.closed s (get_or key i 0) z.small hk;
       below = rw behind_more (≼_trans (take i key ++ (get_or key i 0 ∷ (256 ∷ []))) (take i key ++ (256 ∷ [])) (take n key ++ (256 ∷ []))
-          (less-asym (take i key ++ (get_or key i 0 ∷ (256 ∷ []))) (take i key ++ (256 ∷ [])) (≺-behind (take i key) (get_or key i 0 ∷ (256 ∷ [])) (256 ∷ []) (≺-lower (get_or key i 0) 256 (256 ∷ []) [] hk)))
+          (less-asym (take i key ++ (get_or key i 0 ∷ (256 ∷ []))) (take i key ++ (256 ∷ []))
+          (≺-behind (take i key) (get_or key i 0 ∷ (256 ∷ [])) (256 ∷ []) (≺-lower (get_or key i 0) 256 (256 ∷ []) [] hk)))
           z.below);
       left = λ w hw a b. rw behind_more (next-byte (take i key) (get_or key i 0) w hw.bytes
-          (by-test (less w (take i key ++ ((get_or key i 0 + 1) ∷ []))) (λ e. e) (λ e. absurd (none (record { string = w; hits = hw; good = (e, z.left w hw a b) })))));
+          (by-test (less w (take i key ++ ((get_or key i 0 + 1) ∷ []))) (λ e. e)
+          (λ e. absurd (none (record { string = w; hits = hw; good = (e, z.left w hw a b) })))));
     }

@@ -16,7 +16,8 @@ use crate::tail::write_tail;
 use example_distance::Measured;
 use pruning::block_match_automaton::accept_prefix;
 
-// The first byte from lo on and below hi that leads to a state that can match.
+// The first byte from lo on and below hi that leads to a state that can match. A loop, since `find` takes half as many instructions
+// more a byte.
 fn first_byte(measured: &Measured, state: usize, lo: usize, hi: usize) -> Option<usize>
     requires { IsMeasured measured.now × (state < states measured.now.table.bytes.now) × (hi ≤ 256) }
     ensures { MatchOption result (LiveByte measured.now.table.bytes.now state lo hi → ⊥)
@@ -32,7 +33,10 @@ fn first_byte(measured: &Measured, state: usize, lo: usize, hi: usize) -> Option
     None
 }
 
-// Writes the key's first `len` bytes, which lead to the state, and behind them a string that begins with a byte from lo on and below hi.
+// Writes the key's first `len` bytes, which lead to the state, and behind them a string that begins with a byte from lo on and
+// below hi. Key, place and state stay parameters: a walk goes on to another place and state with each byte, and would make a
+// struct of them anew. So does the room in the output: it is what one key needs, and `write_between` writes along two. lo and hi stay
+// two: one is 0 or a byte and one more, the other 256 or a byte, and the clauses take each by itself.
 fn write_leaving(
     measured: &Measured,
     key: &[u8],
@@ -55,7 +59,8 @@ fn write_leaving(
     Some(write_tail(measured, to, out, len + 1))
 }
 
-// Writes a string above the key that begins with its first n bytes, which lead to the state.
+// Writes a string above the key that begins with its first n bytes, which lead to the state. Here and below the loop counts the
+// bytes, since a string leaves the key at a place.
 fn write_range_start(
     measured: &Measured,
     key: &[u8],
@@ -72,7 +77,7 @@ fn write_range_start(
     let mut at = state;
     for i in n..key.len() {
         let kb = key[i];
-        if let Some(len) = write_leaving(measured, key, i, at, kb as usize + 1, 256, out) {
+        if let Some(len) = write_leaving(measured, key, i, at, usize::from(kb) + 1, 256, out) {
             return Some(len);
         }
         at = measured.table.accept(at, kb);
@@ -99,7 +104,7 @@ pub fn write_range_end(
     let mut low = lo;
     for i in n..key.len() {
         let kb = key[i];
-        if let Some(len) = write_leaving(measured, key, i, at, low, kb as usize, out) {
+        if let Some(len) = write_leaving(measured, key, i, at, low, usize::from(kb), out) {
             return Some(len);
         }
         at = measured.table.accept(at, kb);
@@ -135,8 +140,10 @@ pub fn write_between(
         return None;
     }
     let state = measured.table.accept(base, start_range);
+    // An if let: or_else would take the output into a closure of its own.
     if let Some(len) = write_range_start(measured, start_key, n + 1, state, out) {
         return Some(len);
     }
-    write_range_end(measured, end_key, n, base, start_range as usize + 1, out)
+    let lo = usize::from(start_range) + 1;
+    write_range_end(measured, end_key, n, base, lo, out)
 }

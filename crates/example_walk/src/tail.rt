@@ -7,7 +7,7 @@ ghost use Rattle.example_distance.specs.Measured.{IsMeasured};
 
 use example_distance::Measured;
 
-// The first byte that leads to a state one nearer.
+// The first byte that leads to a state one nearer. A loop, since `find` takes more instructions a byte.
 fn nearer(measured: &Measured, state: usize) -> u8
     requires { IsMeasured measured.now × (state < states measured.now.table.bytes.now)
         × (0 < get_or measured.now.distances state 0) × (get_or measured.now.distances state 0 < 64) }
@@ -32,12 +32,11 @@ pub fn write_tail(measured: &Measured, state: usize, out: &mut [u8], at: usize) 
     ensures accepts { Accepts measured.now.table.bytes.now state
         (λ w. (length w ≡ get_or measured.now.distances state 0) × (out.new ≡ sets out.old at w)) }
 {
-    let end = at + measured.distances[state] as usize;
+    let end = at + usize::from(measured.distances[state]);
     let mut s = state;
-    for i in at..end {
-        let byte = nearer(measured, s);
-        out[i] = byte;
-        s = measured.table.accept(s, byte);
+    for place in &mut out[at..end] {
+        *place = nearer(measured, s);
+        s = measured.table.accept(s, *place);
     }
     end
 }

@@ -14,7 +14,8 @@ module _ {t : List ℕ} {separator : ℕ → List ℕ} {n : ℕ} {marks : List �
   pub nothing-listed : (k : ℕ) → 0 < k → ListingLeaves t separator n marks marks k 0
   nothing-listed k h = record { taken = λ e. absurd (let z : ⊥ = omega arith in z); refused = λ s. (refl, refl) }
 
-  pub all_listed : {written : List ℕ} {count : ℕ} → Listing t separator n marks written count → ListingLeaves t separator n marks written 0 count
+  pub all_listed : {written : List ℕ} {count : ℕ} → Listing t separator n marks written count
+      → ListingLeaves t separator n marks written 0 count
   all_listed l = record { taken = λ e. l; refused = λ s. absurd (let z : ⊥ = omega arith in z) }
 
 -- ---- separators that are equal below n
@@ -29,7 +30,8 @@ module _ (t : List ℕ) (f g : ℕ → List ℕ) (n : ℕ) (same : (i : ℕ) →
   pub listing-same : (marks written : List ℕ) (count : ℕ) → Listing t f n marks written count → Listing t g n marks written count
   listing-same marks written count l = record { list = l.list; right = marks-same l.list l.right; counted = l.counted; bytes = l.bytes }
 
-  pub leaves-same : (marks written : List ℕ) (k count : ℕ) → ListingLeaves t f n marks written k count → ListingLeaves t g n marks written k count
+  pub leaves-same : (marks written : List ℕ) (k count : ℕ) → ListingLeaves t f n marks written k count
+      → ListingLeaves t g n marks written k count
   leaves-same marks written k count l = record { taken = λ e. listing-same marks written count (l.taken e); refused = l.refused }
 
 -- ---- one listing

@@ -3,8 +3,7 @@ use mathlib.Core.Path.{◌≡◌, refl, sym, ◌∙◌}
 use mathlib.Core.Bool.{true, false, true≢false, or-true}
 use mathlib.Core.List.{List}
 use mathlib.Core.Logic.{⊎_elim}
-use Prim.Native.Nat.{ℕ, zero, suc, ◌+◌, ◌<◌}
-use native.Mathlib.Numerals.{add-one}
+use Prim.Native.Nat.{ℕ, zero, suc, ◌<◌}
 use native.Mathlib.Omega.{arith}
 use borrow.Table.Steps.{cases}
 use Rattle.automaton.proofs.Exact.{same_or}
@@ -12,14 +11,6 @@ use Rattle.directory.specs.Read.{key_outside}
 use Rattle.listing.specs.Listing.{keys_outside}
 
 module _ (d : List ℕ) (n : ℕ) where
-  pub outside-none : keys_outside d n 0 ≡ false
-  unfolding keys_outside
-  outside-none = refl
-
-  pub outside-next : (m : ℕ) → keys_outside d n m ≡ false → key_outside d n m ≡ false → keys_outside d n (m + 1) ≡ false
-  unfolding keys_outside
-  outside-next m e f = rw (add-one m, e, f)
-
   pub one_outside : (m i : ℕ) → i < m → key_outside d n i ≡ true → keys_outside d n m ≡ true
   unfolding keys_outside
   one_outside zero i h t = absurd (omega arith)

@@ -9,7 +9,7 @@ use native.Mathlib.Nat.{add-zero, zero-add, add-suc, suc-add, add_assoc}
 use native.Mathlib.Omega.{arith}
 use lib.Dec.{eqb}
 use lib.ListN.{length, set, length-append, get_or-append}
-use lib.Seq.{sets, length-sets, get_or_at, set-set}
+use lib.Seq.{sets, get_or_at}
 use Rattle.automaton.specs.Bits.{Exactly}
 use Rattle.automaton.proofs.Exact.{same_or}
 use Rattle.pruning.specs.Interval.{Marked}
@@ -51,7 +51,8 @@ module _ (t : List ℕ) (separator : ℕ → List ℕ) where
     bytes = refl;
   }
 
-  marks-more : (i x : ℕ) (ms : List ℕ) → Marks t separator i ms → Mark x (Marked t (start_at separator i) (separator i)) → Marks t separator (i + 1) (ms ++ (x ∷ []))
+  marks-more : (i x : ℕ) (ms : List ℕ) → Marks t separator i ms → Mark x (Marked t (start_at separator i) (separator i))
+      → Marks t separator (i + 1) (ms ++ (x ∷ []))
   marks-more i x ms m p = record {
     long = length-append ms (x ∷ []) ∙ ap (λ (k : ℕ). k + 1) m.long;
     each = λ k h. ⊎_elim
@@ -61,7 +62,8 @@ module _ (t : List ℕ) (separator : ℕ → List ℕ) where
   }
 
   module _ (i count : ℕ) (marks written : List ℕ) (l : Listing t separator i marks written count) where
-    listing-more : (x : ℕ) → Mark x (Marked t (start_at separator i) (separator i)) → Listing t separator (i + 1) marks (set written i x) (count + cond (eqb x 1) 1 0)
+    listing-more : (x : ℕ) → Mark x (Marked t (start_at separator i) (separator i))
+        → Listing t separator (i + 1) marks (set written i x) (count + cond (eqb x 1) 1 0)
     unfolding count_ones
     listing-more x p = record {
       list = l.list ++ (x ∷ []);
@@ -77,11 +79,13 @@ module _ (t : List ℕ) (separator : ℕ → List ℕ) where
     listing-zero p = rw add-zero at (listing-more 0 (inr (refl, p)))
 
     -- the mark that the code writes
-    pub listing-turn : (b : Bool) (x : ℕ) (after : List ℕ) → Exactly b (Marked t (start_at separator i) (separator i)) → x ≡ cond b 1 0 → after ≡ set written i (cond b 1 0) → Listing t separator (i + 1) marks after (count + x)
+    pub listing-turn : (b : Bool) (x : ℕ) (after : List ℕ) → Exactly b (Marked t (start_at separator i) (separator i)) → x ≡ cond b 1 0
+        → after ≡ set written i (cond b 1 0) → Listing t separator (i + 1) marks after (count + x)
     listing-turn true x after m p q = rw (p, q) (listing-one m)
     listing-turn false x after m p q = rw (p, q, add-zero count) (listing-zero m)
 
 -- ---- what the loop asks of it
-module _ {t : List ℕ} {separator : ℕ → List ℕ} {n : ℕ} {marks written : List ℕ} {count : ℕ} (l : Listing t separator n marks written count) where
+module _ {t : List ℕ} {separator : ℕ → List ℕ} {n : ℕ} {marks written : List ℕ} {count : ℕ}
+    (l : Listing t separator n marks written count) where
   pub listing-count : count ≤ n
   listing-count = omega (arith, l.counted, count_ones-le l.list, l.right.long)

@@ -23,12 +23,7 @@ use pruning_match::{can_block_match, can_block_match_from};
 fn keys_outside(directory: Directory) -> bool
     ensures { result ≡ keys_outside directory.entry.bytes.now directory.entry.n directory.entry.n }
 {
-    for i in 0..directory.n {
-        if directory.key_outside(i) {
-            return true;
-        }
-    }
-    false
+    (0..directory.n).any(|i| directory.key_outside(i))
 }
 
 // Whether a state behind bytes that the keys share can't match: then no key between them matches.
@@ -40,10 +35,11 @@ fn shares_dead(prepared: &Prepared, trail: &Trail, start_key: &[u8], end_key: &[
     if !trail.is_dead(prepared) {
         return false;
     }
+    // By common_prefix_len, as the clause speaks of it; match_block takes it next.
     keys::common_prefix_len(&start_key[..trail.known], end_key) == trail.known
 }
 
-// Marks block i with 0 or 1, and returns the mark.
+// Marks block i with 0 or 1, and returns the mark. The marks are bytes that C lends and reads, and the caller adds them up.
 fn mark(marks: &mut [u8], i: usize, matches: bool) -> usize
     requires { i < length marks.old }
     ensures { (result ≡ cond «matches» 1 0) × (marks.new ≡ set marks.old i (cond «matches» 1 0)) }
@@ -71,7 +67,8 @@ fn match_block(prepared: &mut Prepared, trail: &mut Trail, start_key: &[u8], end
     can_block_match_from(prepared, base, common, start_key, end_key)
 }
 
-// Marks the blocks of a directory, 0 or 1 each. Returns how many are 1.
+// Marks the blocks of a directory, 0 or 1 each. Returns how many are 1. The loop counts the blocks, since a directory reads each
+// key at its place: no slice holds the keys.
 fn mark_blocks(directory: Directory, table: Table, marks: &mut [u8]) -> usize
     requires { (keys_outside directory.bytes.now directory.n directory.n ≡ false) × (directory.n ≤ length marks.old) }
     ensures { Listing table.entry.bytes.now (key_of directory.entry.bytes.now directory.entry.n) directory.entry.n

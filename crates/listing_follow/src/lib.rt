@@ -14,22 +14,25 @@ use automaton_live::Prepared;
 use layout::MAX_KEY_LEN;
 use pruning::block_match_automaton::accept_prefix;
 
-// The states behind the first bytes of a key: behind none of them, and so on up to `known`.
+// The states behind the first bytes of a key: behind none of them, and so on up to `known`. They are an array, since there is no
+// heap. That they are a key's stands in clauses and not in a ghost field: a trail goes on from the start key of a block to its
+// end key, and a type that says whose states they are would lend it one key for good. So does that they are at most 1,024: IsTrail
+// has both.
 #[derive(Drop)]
 pub struct Trail {
     pub states: [u8; 1025],
     pub known: usize,
 }
 
-// Whether each of the eight bytes from `at` on leads from the state to itself. It looks at all of them, so that no look
-// waits for another.
+// Whether each of the eight bytes from `at` on leads from the state to itself. It looks at all of them, where `all` would stop at
+// the first that doesn't: so no look waits for another.
 fn stays(table: Table, key: &[u8], at: usize, state: usize) -> bool
     requires { (state < state_count table.bytes.now) × (at + 8 ≤ length key.now) }
     ensures { Exactly result ((j : ℕ) → j < 8 → next table.entry.bytes.now state (get_or key.now (at + j) 0) ≡ state) }
 {
     let mut all = true;
-    for j in 0..8 {
-        all = all & (table.accept(state, key[at + j]) == state);
+    for byte in &key[at..at + 8] {
+        all &= table.accept(state, *byte) == state;
     }
     all
 }
@@ -39,13 +42,12 @@ fn fill_eight(states: &mut [u8; 1025], at: usize, state: u8)
     requires { at + 8 ≤ max_key_len }
     ensures { states.new ≡ sets states.old (at + 1) (replicate 8 state) }
 {
-    for i in 0..8 {
-        states[at + 1 + i] = state;
-    }
+    states[at + 1..at + 9].fill(state);
 }
 
 // As long as the next eight bytes lead back to the state, they are followed at once. Returns how many bytes are followed.
-// It is tried behind every eighth byte alone, so that a state that is soon left costs little.
+// It is tried behind every eighth byte alone, so that a state that is soon left costs little. The eights are counted, since the
+// place is that of the key and of the states alike.
 fn follow_loops(
     table: Table,
     key: &[u8],
@@ -75,37 +77,6 @@ fn follow_loops(
     from + 8 * eights
 }
 
-// The states behind the first bytes of a key, up to n bytes or 1,024, and no further than to a dead one: those behind at
-// most `known` bytes are there. Returns how many bytes are followed. Loops are passed at once, so that no `for` counts them.
-pub fn follow(
-    prepared: &Prepared,
-    key: &[u8],
-    states: &mut [u8; 1025],
-    known: usize,
-    n: usize,
-) -> usize
-    requires { Followed prepared.now.table.bytes.now key.now states.old known × (known ≤ max_key_len) × (n ≤ length key.now) }
-    ensures { (result ≤ n) × (result ≤ max_key_len) × Followed prepared.now.table.bytes.now key.now states.new result }
-{
-    let table = prepared.table;
-    let end = n.min(MAX_KEY_LEN);
-    let mut i = known.min(end);
-    let mut state = states[i] as usize;
-    while i < end {
-        if !prepared.can_match(state) {
-            return i;
-        }
-        let behind = table.accept(state, key[i]);
-        i += 1;
-        states[i] = behind as u8;
-        if behind == state {
-            i = follow_loops(table, key, states, i, end, state);
-        }
-        state = behind;
-    }
-    end
-}
-
 impl Trail {
     // The start state, which is behind no byte of any key.
     pub fn new() -> Trail
@@ -117,12 +88,27 @@ impl Trail {
         }
     }
 
-    // Follows the first n bytes of the key, or 1,024, and no further than to a dead state.
+    // Follows the first n bytes of the key, or 1,024, and no further than to a dead state. Loops of the automaton are passed at
+    // once, so that no `for` counts the bytes.
     pub fn follow(&mut self, prepared: &Prepared, key: &[u8], n: usize)
-        requires { IsTrail prepared.now.table.bytes.now key.now self.old × (n ≤ length key.now) }
+        requires { Followed prepared.now.table.bytes.now key.now self.old.states self.old.known × (self.old.known ≤ max_key_len)
+            × (n ≤ length key.now) }
         ensures { IsTrail prepared.now.table.bytes.now key.now self.new × (self.new.known ≤ n) }
     {
-        self.known = follow(prepared, key, &mut self.states, self.known, n);
+        let table = prepared.table;
+        let end = n.min(MAX_KEY_LEN);
+        let mut i = self.known.min(end);
+        let mut state = usize::from(self.states[i]);
+        while i < end && prepared.can_match(state) {
+            let behind = table.accept(state, key[i]);
+            i += 1;
+            self.states[i] = behind as u8;
+            if behind == state {
+                i = follow_loops(table, key, &mut self.states, i, end, state);
+            }
+            state = behind;
+        }
+        self.known = i;
     }
 
     // Whether the last state can't match.
@@ -130,7 +116,7 @@ impl Trail {
         requires { (self.now.known ≤ max_key_len) × (get_or self.now.states self.now.known 0 < 64) }
         ensures { Exactly result (bit prepared.now.reach (get_or self.now.states self.now.known 0) ≡ 0) }
     {
-        !prepared.can_match(self.states[self.known] as usize)
+        !prepared.can_match(usize::from(self.states[self.known]))
     }
 
     // The state behind the first n bytes of the key. All of them are followed, but in a key that no file has.
@@ -140,7 +126,7 @@ impl Trail {
         ensures { (result ≡ run table.entry.bytes.now 0 (take n key.now)) × (result < state_count table.entry.bytes.now) }
     {
         if n == self.known {
-            return self.states[n] as usize;
+            return usize::from(self.states[n]);
         }
         accept_prefix(table, &key[..n])
     }

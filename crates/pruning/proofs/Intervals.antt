@@ -2,7 +2,7 @@
 use mathlib.Core.Path.{◌≡◌, sym, subst, subst₂, ◌∙◌}
 use mathlib.Core.List.{List, [], ◌∷◌, ◌++◌}
 use mathlib.Core.Bool.{false, false≢true}
-use mathlib.Core.Option.{none, some}
+use mathlib.Core.Option.{none}
 use mathlib.Core.Logic.Iff
 use mathlib.Core.Logic.{◌⊎◌, inl, inr, ⊎_elim, ◌↔◌}
 use Prim.Native.Nat.{ℕ, ◌+◌, ◌-◌, ◌≤◌, ◌<◌, zero-le}
@@ -14,7 +14,8 @@ use lib.Seq.{drop-cons}
 use lib.Arith.{lt_of_le-ne}
 use borrow.Author.Tests.{eqb-true, eqb-false, ne_eqb, lt-ltb, ltb-true, ltb-false, le-ltb}
 use Rattle.keys.specs.Order.{less, ◌≺◌, ◌≼◌, common_prefix_len}
-use Rattle.keys.proofs.Order.{by-test, less-asym, less-append, prefix-≼, prefix-≺, ≺-≼-trans, common_prefix_len-take, common_prefix_len-differ, less-end-right, less-at}
+use Rattle.keys.proofs.Order.{by-test, less-asym, less-append, prefix-≼, prefix-≺}
+use Rattle.keys.proofs.Order.{≺-≼-trans, common_prefix_len-take, common_prefix_len-differ, less-end-right, less-at}
 use Rattle.automaton.specs.Table.{flag, next}
 use Rattle.automaton.specs.Words.{Bytes, run, Hits, Accepts}
 use Rattle.automaton.specs.Live.{LiveByte}
@@ -71,7 +72,8 @@ after-nil t s = (
   byte_word (λ w. [] ≺ w) (omega arith) (λ b w l h. prefix-≺ [] b w),
 )
 
-pub after-cons : (t : List ℕ) (s k : ℕ) (ks : List ℕ) → k < 256 → MatchAbove t s (k ∷ ks) ↔ (LiveByte t s (k + 1) 256 ⊎ MatchAbove t (next t s k) ks)
+pub after-cons : (t : List ℕ) (s k : ℕ) (ks : List ℕ) → k < 256
+    → MatchAbove t s (k ∷ ks) ↔ (LiveByte t s (k + 1) 256 ⊎ MatchAbove t (next t s k) ks)
 after-cons t s k ks hk = (
   word-cases (λ w. (k ∷ ks) ≺ w) (LiveByte t s (k + 1) 256 ⊎ MatchAbove t (next t s k) ks)
       (λ e p. absurd (not-≺-nil (k ∷ ks) p))
@@ -89,7 +91,8 @@ pub upto-split : (t : List ℕ) (s : ℕ) (b : List ℕ) → Accepts t s (λ w. 
 upto-split t s b = (
   word-cases (λ w. w ≼ b) ((flag t s ≡ 1) ⊎ MatchBetween t s [] b)
       (λ e p. inl e)
-      (λ c w h i p. inr (word-cons s c (λ v. ([] ≺ v) × (v ≼ b)) (λ v. (c ∷ v) ≼ b) h (λ v l. (prefix-≺ [] c v, l)) (record { string = w; hits = i; good = p }))),
+      (λ c w h i p. inr (word-cons s c (λ v. ([] ≺ v) × (v ≼ b)) (λ v. (c ∷ v) ≼ b) h (λ v l. (prefix-≺ [] c v, l))
+      (record { string = w; hits = i; good = p }))),
   ⊎_elim
       (λ e. word-nil (λ w. w ≼ b) e (prefix-≼ [] b))
       (word-map (λ w. ([] ≺ w) × (w ≼ b)) (λ w. w ≼ b) (λ w p. p.1)),
@@ -99,7 +102,8 @@ upto-split t s b = (
 pub upto-nil : (t : List ℕ) (s : ℕ) → MatchBetween t s [] [] → ⊥
 upto-nil t s = word-cases (λ w. ([] ≺ w) × (w ≼ [])) ⊥ (λ e p. not-≺-nil [] p.0) (λ b w h i p. not-cons-≼-nil b w p.1)
 
-pub upto-cons : (t : List ℕ) (s k : ℕ) (ks : List ℕ) → k < 256 → MatchBetween t s [] (k ∷ ks) ↔ (LiveByte t s 0 k ⊎ ((flag t (next t s k) ≡ 1) ⊎ MatchBetween t (next t s k) [] ks))
+pub upto-cons : (t : List ℕ) (s k : ℕ) (ks : List ℕ) → k < 256
+    → MatchBetween t s [] (k ∷ ks) ↔ (LiveByte t s 0 k ⊎ ((flag t (next t s k) ≡ 1) ⊎ MatchBetween t (next t s k) [] ks))
 upto-cons t s k ks hk = (
   word-cases (λ w. ([] ≺ w) × (w ≼ (k ∷ ks))) (LiveByte t s 0 k ⊎ ((flag t (next t s k) ≡ 1) ⊎ MatchBetween t (next t s k) [] ks))
       (λ e p. absurd (not-≺-nil [] p.0))
@@ -109,7 +113,8 @@ upto-cons t s k ks hk = (
       (≼-heads b k w ks p.1)),
   ⊎_elim
       (byte_word (λ w. ([] ≺ w) × (w ≼ (k ∷ ks))) (omega arith) (λ b w l h. (prefix-≺ [] b w, ≼-lower b k w ks h)))
-      (λ m. word-cons s k (λ w. ([] ≺ w) × (w ≼ (k ∷ ks))) (λ w. w ≼ ks) hk (λ w l. (prefix-≺ [] k w, ≼-same k w ks l)) ((upto-split t (next t s k) ks).1 m)),
+      (λ m. word-cons s k (λ w. ([] ≺ w) × (w ≼ (k ∷ ks))) (λ w. w ≼ ks) hk (λ w l. (prefix-≺ [] k w, ≼-same k w ks l))
+      ((upto-split t (next t s k) ks).1 m)),
 )
 
 -- ---- between two keys
@@ -126,7 +131,8 @@ between-same t s x a b hx = (
   word-cons s x (λ w. ((x ∷ a) ≺ w) × (w ≼ (x ∷ b))) (λ w. (a ≺ w) × (w ≼ b)) hx (λ w p. (≺-same x a w p.0, ≼-same x w b p.1)),
 )
   where
-    both : (c : ℕ) (w : List ℕ) → Hits t (next t s c) w → (x < c) ⊎ ((x ≡ c) × (a ≺ w)) → (c < x) ⊎ ((c ≡ x) × (w ≼ b)) → MatchBetween t (next t s x) a b
+    both : (c : ℕ) (w : List ℕ) → Hits t (next t s c) w → (x < c) ⊎ ((x ≡ c) × (a ≺ w)) → (c < x) ⊎ ((c ≡ x) × (w ≼ b))
+        → MatchBetween t (next t s x) a b
     both c w i (inl l) (inl g) = absurd (omega arith)
     both c w i (inl l) (inr g) = absurd (omega (arith, g.0))
     both c w i (inr l) (inl g) = absurd (omega (arith, l.0))
@@ -182,9 +188,6 @@ marked-none t end =
       λ m. word-map (λ w. w ≼ end) (λ w. Unit {0} × (w ≼ end)) (λ w p. (tt, p)) (i.1 m),
     )
 
-pub marked-some : (t a end : List ℕ) → Marked t (some a) end ↔ MatchBetween t 0 a end
-marked-some t a end = Iff.rfl
-
 -- ---- a key from its byte i on
 pub drop-byte : (key : List ℕ) (i : ℕ) → i < length key → drop i key ≡ get_or key i 0 ∷ drop (i + 1) key
 drop-byte key i h = rw add-one (drop-cons key i 0 h)
@@ -204,10 +207,12 @@ module _ (key : List ℕ) (n : ℕ) (h : n < length key) where
   part-first = rw (part-rest key n, drop-byte key n h)
 
 -- ---- two keys that share n bytes
-pub shared-run : (t : List ℕ) (s : ℕ) (a b : List ℕ) (n : ℕ) → take n a ≡ take n b → Bytes a → {base : ℕ} → base ≡ run t s (take n a) → MatchBetween t s a b ↔ MatchBetween t base (drop n a) (drop n b)
+pub shared-run : (t : List ℕ) (s : ℕ) (a b : List ℕ) (n : ℕ) → take n a ≡ take n b → Bytes a → {base : ℕ} → base ≡ run t s (take n a)
+    → MatchBetween t s a b ↔ MatchBetween t base (drop n a) (drop n b)
 shared-run t s a b n same bytes r =
     let i = between-prefix t s (take n a) (drop n a) (drop n b) (bytes_take n a bytes) in
-    rw r (subst₂ (λ (x y : List ℕ). MatchBetween t s x y ↔ MatchBetween t (run t s (take n a)) (drop n a) (drop n b)) (take-append-drop n a) (rw same (take-append-drop n b)) i)
+    rw r (subst₂ (λ (x y : List ℕ). MatchBetween t s x y ↔ MatchBetween t (run t s (take n a)) (drop n a) (drop n b))
+    (take-append-drop n a) (rw same (take-append-drop n b)) i)
 
 -- ---- two keys, by the length n of their common prefix
 module _ (t : List ℕ) (s : ℕ) (a b : List ℕ) {n : ℕ} (e : n ≡ common_prefix_len a b) where
@@ -215,10 +220,12 @@ module _ (t : List ℕ) (s : ℕ) (a b : List ℕ) {n : ℕ} (e : n ≡ common_p
   common-none h = between_none t s a b (less-end-right a b (omega arith))
 
   pub common-above : n < length a → n < length b → get_or b n 0 < get_or a n 0 → MatchBetween t s a b → ⊥
-  common-above ha hb h = between_none t s a b (less-at a b (omega arith) (omega arith) ∙ rw (sym e) (le-ltb (get_or a n 0) (get_or b n 0) (omega arith)))
+  common-above ha hb h =
+      between_none t s a b (less-at a b (omega arith) (omega arith) ∙ rw (sym e) (le-ltb (get_or a n 0) (get_or b n 0) (omega arith)))
 
   pub common-below : n < length a → n < length b → get_or a n 0 ≤ get_or b n 0 → get_or a n 0 < get_or b n 0
-  common-below ha hb h = lt_of_le-ne h (subst (λ (k : ℕ). get_or a k 0 ≡ get_or b k 0 → ⊥) (sym e) (common_prefix_len-differ a b (omega arith) (omega arith)))
+  common-below ha hb h =
+      lt_of_le-ne h (subst (λ (k : ℕ). get_or a k 0 ≡ get_or b k 0 → ⊥) (sym e) (common_prefix_len-differ a b (omega arith) (omega arith)))
 
   module _ (bytes : Bytes a) {base : ℕ} (r : base ≡ run t s (take n a)) where
     pub common-run : MatchBetween t s a b ↔ MatchBetween t base (drop n a) (drop n b)

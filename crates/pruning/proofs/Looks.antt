@@ -44,7 +44,8 @@ module _ (t : List ℕ) (s : ℕ) (end : ℕ) (e : EndLive t s end) where
       let i = after-cons t s k ks h in
       exactly-map (ltb (k + 1) end)
       (λ y. i.1 (inl y))
-      (λ m. ⊎_elim (λ y. y) (λ w. let g = end-above k (byte_at k k 256 (omega arith) h (word-any _ w)) in end-byte (k + 1) (omega (arith, n))) (i.0 m))
+      (λ m. ⊎_elim (λ y. y)
+      (λ w. let g = end-above k (byte_at k k 256 (omega arith) h (word-any _ w)) in end-byte (k + 1) (omega (arith, n))) (i.0 m))
       (e (k + 1))
 
   -- and one whose first byte is
@@ -65,11 +66,15 @@ module _ (t : List ℕ) (s : ℕ) (first : ℕ) (f : FirstLive t s first) where
       let i = upto-cons t s k ks h in
       exactly-map (ltb first k)
       (λ y. i.1 (inl y))
-      (λ m. ⊎_elim (λ y. y) (λ w. let g = first_below (k + 1) (omega arith) (byte_at k 0 (k + 1) zero-le (omega arith) (upto-can t (next t s k) ks w)) in first_byte k (omega arith) (omega (arith, n))) (i.0 m))
+      (λ m. ⊎_elim (λ y. y)
+      (λ w. let g = first_below (k + 1) (omega arith)
+      (byte_at k 0 (k + 1) zero-le (omega arith) (upto-can t (next t s k) ks w)) in first_byte k (omega arith) (omega (arith, n)))
+      (i.0 m))
       (f k (omega arith))
 
   -- and one whose first byte is
-  pub upto_next : (k : ℕ) (ks : List ℕ) → k < 256 → first ≡ k → MatchBetween t s [] (k ∷ ks) ↔ ((flag t (next t s k) ≡ 1) ⊎ MatchBetween t (next t s k) [] ks)
+  pub upto_next : (k : ℕ) (ks : List ℕ) → k < 256 → first ≡ k
+      → MatchBetween t s [] (k ∷ ks) ↔ ((flag t (next t s k) ≡ 1) ⊎ MatchBetween t (next t s k) [] ks)
   upto_next k ks h q = past (upto-cons t s k ks h) (λ y. let g = first_below k (omega arith) y in omega arith)
 
 -- ---- between two keys: none where all bytes that lead on are below the start's or above the end's
@@ -96,15 +101,19 @@ module _ (t : List ℕ) (s x y : ℕ) (a b : List ℕ) (l : x < y) (h : y < 256)
 
 -- ---- a key from its byte i on
 module _ (key : List ℕ) (i : ℕ) (h : i < length key) (g : get_or key i 0 < 256) where
-  pub after-decided-at : (t : List ℕ) (s end : ℕ) → EndLive t s end → (end ≡ get_or key i 0 + 1 → ⊥) → Exactly (ltb (get_or key i 0 + 1) end) (MatchAbove t s (drop i key))
+  pub after-decided-at : (t : List ℕ) (s end : ℕ) → EndLive t s end → (end ≡ get_or key i 0 + 1 → ⊥)
+      → Exactly (ltb (get_or key i 0 + 1) end) (MatchAbove t s (drop i key))
   after-decided-at t s end e n = rw (drop-byte key i h) (after-decided t s end e (get_or key i 0) (drop (i + 1) key) g n)
 
-  pub after-next-at : (t : List ℕ) (s end : ℕ) → EndLive t s end → end ≡ get_or key i 0 + 1 → MatchAbove t s (drop i key) ↔ MatchAbove t (next t s (get_or key i 0)) (drop (i + 1) key)
+  pub after-next-at : (t : List ℕ) (s end : ℕ) → EndLive t s end → end ≡ get_or key i 0 + 1
+      → MatchAbove t s (drop i key) ↔ MatchAbove t (next t s (get_or key i 0)) (drop (i + 1) key)
   after-next-at t s end e q = rw (drop-byte key i h) (after_next t s end e (get_or key i 0) (drop (i + 1) key) g q)
 
-  pub upto-decided-at : (t : List ℕ) (s first : ℕ) → FirstLive t s first → (first ≡ get_or key i 0 → ⊥) → Exactly (ltb first (get_or key i 0)) (MatchBetween t s [] (drop i key))
+  pub upto-decided-at : (t : List ℕ) (s first : ℕ) → FirstLive t s first → (first ≡ get_or key i 0 → ⊥)
+      → Exactly (ltb first (get_or key i 0)) (MatchBetween t s [] (drop i key))
   upto-decided-at t s first f n = rw (drop-byte key i h) (upto-decided t s first f (get_or key i 0) (drop (i + 1) key) g n)
 
   pub upto-next-at : (t : List ℕ) (s first : ℕ) → FirstLive t s first → first ≡ get_or key i 0
-      → MatchBetween t s [] (drop i key) ↔ ((flag t (next t s (get_or key i 0)) ≡ 1) ⊎ MatchBetween t (next t s (get_or key i 0)) [] (drop (i + 1) key))
+      → MatchBetween t s [] (drop i key) ↔ ((flag t (next t s (get_or key i 0))
+      ≡ 1) ⊎ MatchBetween t (next t s (get_or key i 0)) [] (drop (i + 1) key))
   upto-next-at t s first f q = rw (drop-byte key i h) (upto_next t s first f (get_or key i 0) (drop (i + 1) key) g q)

@@ -3,7 +3,7 @@ ghost use Rattle.std.specs.Prelude.{◌≡◌, [], ◌≤◌, ◌<◌, length, g
 ghost use Rattle.automaton.specs.Bits.{Exactly};
 ghost use Rattle.automaton.specs.Table.{states};
 ghost use Rattle.automaton.specs.Words.{run};
-ghost use Rattle.automaton_live.specs.Prepared.{IsPrepared};
+ghost use Rattle.automaton_live.specs.Prepared.{IsPrepared, FirstsReady, EndsReady};
 ghost use Rattle.pruning.specs.Interval.{MatchAbove, MatchBetween};
 
 use automaton::table::Table;
@@ -12,14 +12,15 @@ use automaton_live::Prepared;
 // Whether a string above `start_key` can match from `state` on. Where the highest byte that leads on is the key's,
 // the walk goes on behind it; a higher one matches, and below it the key's own leads nowhere.
 fn match_range_start(prepared: &mut Prepared, start_key: &[u8], state: usize) -> bool
-    requires { IsPrepared prepared.old.table.bytes.now prepared.old × (state < states prepared.old.table.bytes.now) }
+    requires { EndsReady prepared.old.table.bytes.now prepared.old × (state < states prepared.old.table.bytes.now) }
     ensures exactly { Exactly result (MatchAbove prepared.old.table.bytes.now state start_key.now) }
-    ensures prepared { IsPrepared prepared.old.table.bytes.now prepared.new }
+    ensures ready { EndsReady prepared.old.table.bytes.now prepared.new }
+    ensures firsts { prepared.new.firsts ≡ prepared.old.firsts }
 {
     let table = prepared.table;
     let mut at = state;
     for kb in start_key {
-        let behind = *kb as u16 + 1;
+        let behind = u16::from(*kb) + 1;
         let most = prepared.end(at);
         if most != behind {
             return most > behind;
@@ -31,16 +32,18 @@ fn match_range_start(prepared: &mut Prepared, start_key: &[u8], state: usize) ->
 
 // Whether a string that isn't empty and not above `end_key` can match from `state` on: the same by the lowest byte.
 pub fn match_range_end(prepared: &mut Prepared, end_key: &[u8], state: usize) -> bool
-    requires { IsPrepared prepared.old.table.bytes.now prepared.old × (state < states prepared.old.table.bytes.now) }
+    requires { FirstsReady prepared.old.table.bytes.now prepared.old × (state < states prepared.old.table.bytes.now) }
     ensures exactly { Exactly result (MatchBetween prepared.old.table.bytes.now state [] end_key.now) }
-    ensures prepared { IsPrepared prepared.old.table.bytes.now prepared.new }
+    ensures ready { FirstsReady prepared.old.table.bytes.now prepared.new }
+    ensures ends { prepared.new.ends ≡ prepared.old.ends }
 {
     let table = prepared.table;
     let mut at = state;
     for kb in end_key {
         let least = prepared.first(at);
-        if least != *kb as u16 {
-            return least < *kb as u16;
+        let byte = u16::from(*kb);
+        if least != byte {
+            return least < byte;
         }
         at = table.accept(at, *kb);
         if table.is_match(at) {
@@ -50,7 +53,8 @@ pub fn match_range_end(prepared: &mut Prepared, end_key: &[u8], state: usize) ->
     false
 }
 
-// The state after the bytes that a key begins with.
+// The state after the bytes that a key begins with. A loop, since each step asks that the state before it is one of the table's:
+// the closure of a `fold` would owe that for any state.
 pub fn accept_prefix(table: Table, prefix: &[u8]) -> usize
     ensures { (result ≡ run table.entry.bytes.now 0 prefix.now) × (result < states table.entry.bytes.now) }
 {
@@ -62,7 +66,8 @@ pub fn accept_prefix(table: Table, prefix: &[u8]) -> usize
 }
 
 // Whether a string above `start_key` and not above `end_key` can match from `state` on, where the first byte of the one
-// is below that of the other.
+// is below that of the other. An interval's start and end are two parameters here and above: C hands them apart, the start may be
+// absent in the outer functions and is there in the inner ones, and each walk takes the rest of one of them.
 pub fn match_between(
     prepared: &mut Prepared,
     start_key: &[u8],
@@ -78,17 +83,17 @@ pub fn match_between(
     let table = prepared.table;
     let start_range = start_key[0];
     let end_range = end_key[0];
-    if prepared.end(state) <= start_range as u16 {
+    if prepared.end(state) <= u16::from(start_range) {
         return false;
     }
-    if prepared.first(state) > end_range as u16 {
+    if prepared.first(state) > u16::from(end_range) {
         return false;
     }
     let start_state = table.accept(state, start_range);
     if match_range_start(prepared, &start_key[1..], start_state) {
         return true;
     }
-    if prepared.any_byte(state, start_range as usize + 1, end_range as usize) {
+    if prepared.any_byte(state, usize::from(start_range) + 1, usize::from(end_range)) {
         return true;
     }
     let end_state = table.accept(state, end_range);

@@ -64,10 +64,8 @@ pub fn can_block_match(prepared: &mut Prepared, start_key: Option<&[u8]>, end_ke
     match start_key {
         Some(start_key) => can_block_match_automaton_with_start(prepared, start_key, end_key),
         None => {
-            if prepared.table.is_match(0) {
-                return true;
-            }
-            can_block_match_automaton_with_start(prepared, &end_key[..0], end_key)
+            prepared.table.is_match(0)
+                || can_block_match_automaton_with_start(prepared, &end_key[..0], end_key)
         }
     }
 }

@@ -15,14 +15,16 @@ use Rattle.listing.proofs.ListedOpened.{opened-list-no, opened-separator}
 use Rattle.written_index.specs.Written.{WrittenIndex, ListingRead}
 use Rattle.written_index.proofs.IndexRead.{written-facts, index_read}
 
-module _ {choose : List ℕ → ℕ} {bs : List BlockAddr} {ks : List (List ℕ)} {f : List ℕ} (w : WrittenIndex choose (group_of (opened_of f)) bs ks f) where
+module _ {choose : List ℕ → ℕ} {bs : List BlockAddr} {ks : List (List ℕ)} {f : List ℕ}
+    (w : WrittenIndex choose (group_of (opened_of f)) bs ks f) where
   number : (t : List ℕ) (room : ℕ) → listing_no (opened_of f) f t room ≡ or_row (table_no t) (cond (ltb room (length bs)) 24 0)
   number t room = opened-list-no (written-facts w) t room ∙ rw (index_read w).count
 
   leaves : (t marks written : List ℕ) (k count : ℕ) → GetBlockForAutomaton f (opened_of f) t marks written k count
       → ListingLeaves t (λ i. get_or ks i []) (length bs) marks written k count
   leaves t marks written k count g =
-      leaves-same t (separator_at (opened_of f) f) (λ i. get_or ks i []) (length bs) (λ i h. opened-separator (written-facts w) i ∙ (index_read w).separator i h) marks written k count
+      leaves-same t (separator_at (opened_of f) f) (λ i. get_or ks i []) (length bs)
+      (λ i h. opened-separator (written-facts w) i ∙ (index_read w).separator i h) marks written k count
       (subst (λ (n : ℕ). ListingLeaves t (separator_at (opened_of f) f) n marks written k count) (index_read w).count g.leaves)
 
   pub listing-read : ListingRead (length bs) ks f

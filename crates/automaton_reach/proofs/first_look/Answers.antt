@@ -1,4 +1,5 @@
 -- A state whose row has a state that is found is found; else its next states keep that it leads there.
+use Rattle.std.proofs.Common.{arith}
 use Rattle.automaton.specs.Table.{next}
 use Rattle.automaton.proofs.Built.{Holds}
 use Rattle.automaton.proofs.Rows.{row-inside, row-below, row-holds}
@@ -11,8 +12,8 @@ loop-p-init c =
     let p = c.requires in
     record {
       sound = record { small = p.accepting.0; has = λ s e. e; sound = p.accepting.1 };
-      led = rw c.into_iter-p-iterator.ensures.into_iter_gives (led-none _ _ _ _ p.before_len.1);
-      long = p.before_len.0;
+      led = rw c.into_iter-p-iterator.ensures.into_iter_gives (led-none _ _ _ _ p.before_empty);
+      long = omega arith;
     }
 
 pub row-requires : goal.row-requires
@@ -31,7 +32,8 @@ loop-p-preserved-then-states-found-ne0 c =
     let below = led-below l.led c.requires.unfound c.in-Some.p took.set in
     let row = c.next_states-states in
     record {
-      sound = sound_more l.sound c.in-Some.p below took.below row.result (rw c.row.ensures at row.ensures.by_index) c.if-states-found-ne0.true;
+      sound = sound_more l.sound c.in-Some.p below took.below row.result
+          (rw c.row.ensures at row.ensures.by_index) c.if-states-found-ne0.true;
       led = led-found l.led c.in-Some.p took.set took.below _ took.rest;
       long = l.long;
     }
@@ -43,7 +45,8 @@ loop-p-preserved c =
     let took = c.in-Some.ensures.steps in
     let below = led-below l.led c.requires.unfound c.in-Some.p took.set in
     let row = c.next_states-states in
-    let h : Holds (next c.args.table.bytes.now c.in-Some.p) 256 row.result = row-holds _ _ c.row.ensures (row.ensures.b_value c.if-states-found-ne0.false) row.ensures.by_index in
+    let h : Holds (next c.args.table.bytes.now c.in-Some.p) 256 row.result =
+    row-holds _ _ c.row.ensures (row.ensures.b_value c.if-states-found-ne0.false) row.ensures.by_index in
     record {
       sound = l.sound;
       led = led-more l.led c.in-Some.p took.set below row.result h c.mark.ensures.by_index c.mark.ensures.by_index_2 _ took.rest;

@@ -1,5 +1,5 @@
 -- No bit at first, one more with each turn, and at the end a bit for each state.
-use Rattle.std.proofs.Common.{◌≡◌, ℕ, refl, subst, arith}
+use Rattle.std.proofs.Common.{◌≡◌, ℕ, subst, arith}
 use Rattle.automaton.specs.Table.{states, flag}
 use Rattle.automaton.proofs.Built.{Filled, filled_none, filled_more}
 use Rattle.automaton_reach.proofs.flags.Goals as goal
@@ -11,7 +11,8 @@ pub loop-s-preserved : goal.loop-s-preserved
 loop-s-preserved c =
     let t = c.args.table in
     let s = c.loop-s.s in
-    filled_more c.loop-s.invariant (flag t.bytes.now s) refl (omega (arith, t.well_formed.flags s (omega arith))) (omega (arith, t.well_formed.few))
+    filled_more c.loop-s.invariant c.from.result c.from.ensures
+    (omega (arith, c.from.ensures, t.well_formed.flags s (omega arith))) (omega (arith, t.well_formed.few))
 
 pub returns : goal.returns
 returns c =

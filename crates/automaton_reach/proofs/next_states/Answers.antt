@@ -21,12 +21,19 @@ loop-quarter-preserved-then-repeats c =
     let l = c.loop-quarter in
     let small : DigitsBelow 8 a.bytes.now = λ i. omega (arith, c.type_inv.bytes i) in
     let e : 64 * l.quarter + 64 ≡ 64 * (l.quarter + 1) = omega arith in
-    subst (λ (x : ℕ). Held a.bytes.now a.at x l.last l.word) e (held-repeats small a.at l.invariant (when_true c.repeats.ensures c.if-repeats.true))
+    subst (λ (x : ℕ). Held a.bytes.now a.at x l.last l.word) e
+    (held-repeats small a.at l.invariant (when_true c.repeats.ensures c.if-repeats.true))
 
 pub states_of-word-requires-then-eight-last : goal.states_of-word-requires-then-eight-last
 states_of-word-requires-then-eight-last c =
-    let b = 64 * c.loop-quarter.quarter + 8 * c.loop-k.k in
-    (omega arith, λ k h. omega (arith, place_2 c.args.bytes.now c.args.at (64 * c.loop-quarter.quarter) (8 * c.loop-k.k) k, c.requires.1 (b + k) (omega arith)))
+    let b = 64 * c.loop-quarter.quarter + 8 * c.loop-k.k in (
+      omega arith,
+      λ k h. omega (
+        arith,
+        place_2 c.args.bytes.now c.args.at (64 * c.loop-quarter.quarter) (8 * c.loop-k.k) k,
+        c.requires.1 (b + k) (omega arith),
+      ),
+    )
 
 pub loop-k-preserved : goal.loop-k-preserved
 loop-k-preserved c =
@@ -42,6 +49,8 @@ loop-k-preserved c =
     (elim j.branch [
       | then-eight-last w ↦
           let s = w.states_of-word-then-eight-last in
-          held-add small a.at l.invariant x.result s.result j.last j.word (omega arith) is (holds-place a.bytes.now a.at (64 * c.loop-quarter.quarter) (8 * l.k) s.ensures.by_index s.ensures.by_index_2) w.last-is w.word-is
+          held-add small a.at l.invariant x.result s.result j.last j.word (omega arith) is
+          (holds-place a.bytes.now a.at (64 * c.loop-quarter.quarter)
+          (8 * l.k) s.ensures.by_index s.ensures.by_index_2) w.last-is w.word-is
       | else-eight-last w ↦ held-skip small a.at l.invariant x.result j.last j.word is w.if-eight-last.false w.last-is w.word-is
     ])

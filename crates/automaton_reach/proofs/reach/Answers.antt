@@ -1,11 +1,12 @@
 -- One state of those that wait is taken with each turn, and those that lead to it and aren't found yet are put to both words.
-use Rattle.std.proofs.Common.{◌≡◌, ℕ, refl, ap, ◌∙◌, subst, arith, get_or}
+use Rattle.std.proofs.Common.{◌≡◌, ℕ, ap, ◌∙◌, subst, arith, get_or}
 use Rattle.automaton.specs.Bits.{bit}
 use Rattle.automaton.proofs.Word.{bit-lt, bit-off, bit-zero, or-keeps}
 use Rattle.automaton.proofs.Predecessors.{zeros}
 use Rattle.automaton.proofs.Worklist.{Work, Turned, work_start, work-turn, work-done, flags-match, work_none, work-all, not_found}
 use Rattle.automaton_reach.proofs.reach.Goals as goal
-use Rattle.automaton_reach.proofs.reach.Goals.{In-Some, then-accepting-eq0-via-then-accepting-eq0, then-accepting-eq0-via-else-accepting-eq0+then-unfound-eq0}
+use Rattle.automaton_reach.proofs.reach.Goals.{In-Some, then-accepting-eq0-via-then-accepting-eq0}
+use Rattle.automaton_reach.proofs.reach.Goals.{then-accepting-eq0-via-else-accepting-eq0+then-unfound-eq0}
 
 pub returns-then-accepting-eq0-clause-reach : goal.returns-then-accepting-eq0-clause-reach
 returns-then-accepting-eq0-clause-reach c =
@@ -15,7 +16,12 @@ returns-then-accepting-eq0-clause-reach c =
     elim c.then-accepting-eq0.branch [
       | then-accepting-eq0-via-then-accepting-eq0 w ↦ work_none wf fl.ensures.upper_bound fl.ensures.by_index w.if-accepting-eq0.true
       | then-accepting-eq0-via-else-accepting-eq0+then-unfound-eq0 w ↦
-          work-all wf fl.ensures.upper_bound fl.ensures.by_index (λ q hq. omega (arith, ap (λ (x : ℕ). bit x q) w.if-unfound-eq0.true ∙ bit-zero q, o.ensures.by_index q (omega arith), bit-lt fl.result q))
+          work-all wf fl.ensures.upper_bound fl.ensures.by_index (λ q hq. omega (
+            arith,
+            ap (λ (x : ℕ). bit x q) w.if-unfound-eq0.true ∙ bit-zero q,
+            o.ensures.by_index q (omega arith),
+            bit-lt fl.result q,
+          ))
     ]
 
 pub first_look-found-requires-clause-accepting : goal.first_look-found-requires-clause-accepting
@@ -23,8 +29,8 @@ first_look-found-requires-clause-accepting c =
     let fl = c.flags-accepting.ensures in
     (fl.upper_bound, flags-match c.args.table.well_formed fl.upper_bound fl.by_index)
 
-pub first_look-found-requires-clause-before_len : goal.first_look-found-requires-clause-before_len
-first_look-found-requires-clause-before_len c = (refl, zeros 64)
+pub first_look-found-requires-clause-before_empty : goal.first_look-found-requires-clause-before_empty
+first_look-found-requires-clause-before_empty c = zeros 64
 
 pub loop-s-init : goal.loop-s-init
 loop-s-init c =
@@ -32,7 +38,9 @@ loop-s-init c =
     record { work = work_start look.0 (λ q h e. look.1 q (c.flags-accepting.ensures.by_index q h ∙ e)) look.2; kept = λ q e. e }
 
 -- what one turn leaves, and that the measure falls
-turn : (c : In-Some) → Turned c.args.table.bytes.now c.loop-s.found c.loop-s.waiting.left (get_or c.first_look-found.new.before c.in-Some.s 0) c.next.new.self.left
+turn : (c : In-Some)
+    → Turned c.args.table.bytes.now c.loop-s.found c.loop-s.waiting.left
+    (get_or c.first_look-found.new.before c.in-Some.s 0) c.next.new.self.left
 turn c =
     let wf = c.args.table.well_formed in
     let l = c.loop-s in

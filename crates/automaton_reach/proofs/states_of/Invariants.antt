@@ -3,5 +3,5 @@ use Rattle.std.proofs.Common.{◌+◌, get_or}
 use Rattle.automaton.proofs.Built.{Holds}
 use Rattle.automaton_reach.proofs.states_of.Given as goal
 
-abbrev pub invariant-loop-b : goal.invariant-loop-b
-invariant-loop-b l = Holds (λ k. get_or l.bytes (l.at + k) 0) l.b l.word
+abbrev pub invariant-loop-state : goal.invariant-loop-state
+invariant-loop-state l = Holds (λ k. get_or l.bytes (l.at + k) 0) l.state-index l.word

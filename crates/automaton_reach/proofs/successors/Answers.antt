@@ -17,5 +17,6 @@ loop-p-preserved c =
     let a = c.args.table.bytes.now in
     let l = c.loop-p in
     let s = c.next_states.ensures in
-    let row : Holds (next a l.p) 256 c.next_states.result = row-holds _ _ c.row.ensures (s.b_value (and_zero_r c.next_states.result)) s.by_index in
+    let row : Holds (next a l.p) 256 c.next_states.result =
+    row-holds _ _ c.row.ensures (s.b_value (and_zero_r c.next_states.result)) s.by_index in
     (simp length-set l.invariant.0, stored (λ k w. Holds (next a k) 256 w) l.words l.p c.next_states.result (omega arith) l.invariant.1 row)

@@ -19,7 +19,8 @@ loop-p-preserved c =
           subst (λ (x : ℕ). Filled f (l.p + 1) x)
           (sym (w.word-is ∙ ap (bit_or l.word) (shl_one l.p (omega arith)) ∙ or_set l.word l.p (filled-clear l.invariant)))
           (filled-one l.invariant (omega (arith, w.if-successors-p-ne0.true)))
-      | else-successors-p-ne0 w ↦ subst (λ (x : ℕ). Filled f (l.p + 1) x) (sym w.word-is) (filled_zero l.invariant (omega (arith, w.if-successors-p-ne0.false)))
+      | else-successors-p-ne0 w ↦ subst (λ (x : ℕ). Filled f (l.p + 1) x) (sym w.word-is)
+          (filled_zero l.invariant (omega (arith, w.if-successors-p-ne0.false)))
     ]
 
 pub returns : goal.returns
@@ -31,5 +32,6 @@ returns c =
     record {
       upper_bound = i.small;
       by_index = λ p s h g₁ g₂. i.at p h ∙ common-down (get_or a.successors.now p 0) a.level s g₁ g₂;
-      by_index_2 = λ p g. common-up (get_or a.successors.now p 0) a.level c.ranges.level.fits (sym (i.at p (bit_below a.m c.loop-p.word p i.small g)) ∙ g);
+      by_index_2 = λ p g. common-up (get_or a.successors.now p 0) a.level c.ranges.level.fits
+          (sym (i.at p (bit_below a.m c.loop-p.word p i.small g)) ∙ g);
     }

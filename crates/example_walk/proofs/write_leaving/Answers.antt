@@ -16,7 +16,9 @@ returns-in_err-byte c =
     let p = take a.len a.key.now in
     rw c.from_residual.ensures (
       refl,
-      λ m. c.in_err-byte.ensures (subst (λ (q : ℕ). LiveByte a.measured.now.table.bytes.now q a.lo a.hi) (sym c.requires.measured.2) (leaving-byte 0 p m.string a.lo a.hi m.hits m.good.0 m.good.1)),
+      λ m. c.in_err-byte.ensures
+          (subst (λ (q : ℕ). LiveByte a.measured.now.table.bytes.now q a.lo a.hi) (sym c.requires.measured.2)
+          (leaving-byte 0 p m.string a.lo a.hi m.hits m.good.0 m.good.1)),
     )
 
 pub returns : goal.returns
@@ -31,8 +33,12 @@ returns c =
     let is : to ≡ next t (run t 0 (take a.len a.key.now)) b = c.accept-to.ensures.0 ∙ ap (λ (q : ℕ). next t q b) c.requires.measured.2 in
     let small : get_or d to 0 < 64 = subst (λ (q : ℕ). get_or d q 0 < 64) (sym c.accept-to.ensures.0) near in (
       omega (arith, tail.ensures.value, c.requires.len_in_bounds.0),
-      subst (λ (r : ℕ). InFront t (FromByte a.key.now a.len a.lo) (UnderByte a.key.now a.len a.hi) a.out.now tail.new.out r) {x = a.len + 1 + get_or d to 0} (sym tail.ensures.value)
-          (found-leaving t a.key.now a.out.now c.copy.new.to a.len c.requires.len_in_bounds.0 (omega arith) (bytes_of a.key.now (λ i. omega (arith, c.type_inv.key i))) c.copy.ensures.copied
+      subst (λ (r : ℕ). InFront t (FromByte a.key.now a.len a.lo) (UnderByte a.key.now a.len a.hi) a.out.now tail.new.out r)
+          {x = a.len + 1 + get_or d to 0} (sym tail.ensures.value)
+          (found-leaving t a.key.now a.out.now c.copy.new.to a.len c.requires.len_in_bounds.0 (omega arith)
+          (bytes_of a.key.now (λ i. omega (arith, c.type_inv.key i))) c.copy.ensures.copied
           b a.lo a.hi (get_or d to 0) low high (omega arith)
-          (subst (λ (q : ℕ). Accepts t q (λ v. (length v ≡ get_or d to 0) × (tail.new.out ≡ sets (set c.copy.new.to a.len b) (a.len + 1) v))) is tail.ensures.accepts)),
+          (subst (λ (q : ℕ). Accepts t q
+          (λ v. (length v ≡ get_or d to 0)
+          × (tail.new.out ≡ sets (set c.copy.new.to a.len b) (a.len + 1) v))) is tail.ensures.accepts)),
     )

@@ -44,7 +44,12 @@ returns-then-marks-opened c =
     let fits = passed-record a.opened a.«data».now is c.in_ok-check.field-0.fits in
     let directory = same-directory a.opened a.«data».now is c.directory-directory.ensures in
     let inside = rw (directory.0, directory.1) at (sym c.if-keys_outside.ensures) in
-    record { number = sym (room-refused _ _ _ _ fits inside (sym c.in_ok-table.ensures.number) c.if-marks-opened.true); leaves = nothing-listed _ (omega arith) }
+    record {
+      number = sym
+          (room-refused _ _ _ _ fits inside (sym c.in_ok-table.ensures.number) c.if-marks-opened.true);
+      leaves = nothing-listed _
+          (omega arith);
+    }
 
 pub mark_blocks-requires : goal.mark_blocks-requires
 mark_blocks-requires c =

@@ -28,7 +28,8 @@ loop-i-init c =
       some = omega arith;
       trail = c.new-trail.ensures t (f 0);
       prepared = same-prepared p b.ensures.prepared;
-      listed = rw (zero-add c.mark-count.result) at (listing-turn t f 0 0 a.marks.now a.marks.now (listing_none t f a.marks.now) b.result c.mark-count.result _ e m.0 m.1);
+      listed = rw (zero-add c.mark-count.result) at (listing-turn t f 0 0 a.marks.now a.marks.now
+          (listing_none t f a.marks.now) b.result c.mark-count.result _ e m.0 m.1);
     }
 
 pub key-start_key-requires : goal.key-start_key-requires
@@ -41,7 +42,13 @@ key-end_key-requires c = (c.loop-i-test.true, each-inside _ _ _ c.requires.0 c.l
 
 pub overflow_add-count : goal.overflow_add-count
 overflow_add-count c =
-    omega (arith, listing-count c.loop-i.invariant.listed, one_at_most c.match_block-matches.result, c.mark-count-in-loop-i.ensures.0, c.args.directory.counted.1)
+    omega (
+      arith,
+      listing-count c.loop-i.invariant.listed,
+      one_at_most c.match_block-matches.result,
+      c.mark-count-in-loop-i.ensures.0,
+      c.args.directory.counted.1,
+    )
 
 pub loop-i-preserved : goal.loop-i-preserved
 loop-i-preserved c =

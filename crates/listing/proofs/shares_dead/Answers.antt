@@ -7,8 +7,10 @@ use Rattle.listing.proofs.shares_dead.Goals as goal
 
 pub is_dead-requires : goal.is_dead-requires
 is_dead-requires c =
-    let z = c.requires.1 in
-    (z.few, trail-state z c.args.prepared.now.table.well_formed (bytes_of c.args.start_key.now (λ i. omega (arith, c.type_inv.start_key i))))
+    let z = c.requires.1 in (
+      z.few,
+      trail-state z c.args.prepared.now.table.well_formed (bytes_of c.args.start_key.now (λ i. omega (arith, c.type_inv.start_key i))),
+    )
 
 pub returns : goal.returns
 returns c =
@@ -17,5 +19,8 @@ returns c =
     let z = c.requires.1 in
     let bytes = bytes_of a.start_key.now (λ i. omega (arith, c.type_inv.start_key i)) in
     λ e.
-    let h = front-common a.trail.now.known a.start_key.now a.end_key.now (sym c.common_prefix_len.ensures ∙ eqb-true _ _ e) in
-    (h, trail-dead p.table.bytes.now a.start_key.now a.end_key.now z h p.reach p.table.well_formed c.requires.0.found bytes c.if-not-is_dead.ensures)
+    let h = front-common a.trail.now.known a.start_key.now a.end_key.now (sym c.common_prefix_len.ensures ∙ eqb-true _ _ e) in (
+      h,
+      trail-dead p.table.bytes.now a.start_key.now a.end_key.now z h p.reach p.table.well_formed
+          c.requires.0.found bytes c.if-not-is_dead.ensures,
+    )

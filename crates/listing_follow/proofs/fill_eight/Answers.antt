@@ -1,22 +1,26 @@
--- One store less is left with each turn.
-use Rattle.std.proofs.Common.{◌≡◌, ℕ, ◌+◌, ◌-◌, sym, ap, subst, ◌∙◌, arith, replicate}
-use native.Mathlib.Nat.{add-zero}
-use lib.Seq.{sets}
-use Rattle.listing_follow.proofs.Eights.{fill-turn}
+-- The eight that `fill` writes are eight stores one after the other.
+use Rattle.std.proofs.Common.{◌≡◌, ℕ, ◌+◌, ◌-◌, ◌≤◌, ◌∙◌, sym, arith, drop, take, List, length, length-take, length-drop, replicate}
+use lib.Seq.{sets, sets-eq}
+use Rattle.std.proofs.lemmas.List.{append_assoc, drop-drop}
+use borrow.Rule.Slice.PartMut.{put_mid}
 use Rattle.listing_follow.proofs.fill_eight.Goals as goal
 
-pub loop-i-init : goal.loop-i-init
-loop-i-init c = ap (λ (k : ℕ). sets c.args.states.now k (replicate 8 c.args.state)) (sym (add-zero (c.args.at + 1)))
-
-pub loop-i-preserved : goal.loop-i-preserved
-loop-i-preserved c =
-    let a = c.args in
-    let l = c.loop-i in
-    l.invariant ∙ fill-turn l.states (a.at + 1) l.i 8 a.state (omega arith)
+written : (l y : List ℕ) (at k n v : ℕ) → at + 9 ≤ length l → k ≡ 8 → n ≡ 8 → y ≡ replicate n v
+    → put_mid (at + 1) k l y ≡ sets l (at + 1) (replicate 8 v)
+written l y at k n v h p q e =
+    rw (
+      p,
+      e,
+      q,
+      ← (append_assoc (take (at + 1) l) (replicate 8 v) (drop 8 (drop (at + 1) l))),
+      drop-drop 8 (at + 1) l,
+    ) (sym (sets-eq (replicate 8 v) l (at + 1) (omega arith)))
 
 pub returns : goal.returns
 returns c =
     let a = c.args in
-    let l = c.loop-i in
-    let e : l.i ≡ 8 = omega arith in
-    sym (subst (λ (k : ℕ). sets a.states.now (a.at + 1) (replicate 8 a.state) ≡ sets l.states (a.at + 1 + k) (replicate (8 - k) a.state)) e l.invariant)
+    let s = a.states.now in
+    let e : a.at + 9 - (a.at + 1) ≡ 8 = omega arith in
+    let n = length-take (a.at + 9 - (a.at + 1)) (drop (a.at + 1) s) in
+    let m = length-drop (a.at + 1) s in
+    written s c.fill.new.self a.at _ _ a.state (omega arith) e (n ∙ omega (arith, m)) (c.fill.ensures.after (λ y i. i))

@@ -58,12 +58,18 @@ match_between-requires c =
     let r = common_prefix_len-right a.start_key.now a.end_key.now in
     let ha : a.n < length a.start_key.now = omega (arith, l) in
     let hb : a.n < length a.end_key.now = omega (arith, r) in
-    let below = common-below a.prepared.now.table.bytes.now 0 a.start_key.now a.end_key.now c.requires.1 ha hb (omega arith) in
-    (c.requires.0, c.requires.3, part-some a.start_key.now a.n ha, part-some a.end_key.now a.n hb, rw (part-first a.start_key.now a.n ha, part-first a.end_key.now a.n hb) below)
+    let below = common-below a.prepared.now.table.bytes.now 0 a.start_key.now a.end_key.now c.requires.1 ha hb (omega arith) in (
+      c.requires.0,
+      c.requires.3,
+      part-some a.start_key.now a.n ha,
+      part-some a.end_key.now a.n hb,
+      rw (part-first a.start_key.now a.n ha, part-first a.end_key.now a.n hb) below,
+    )
 
 pub returns-clause-exactly : goal.returns-clause-exactly
 returns-clause-exactly c =
     let a = c.args in
     let bytes : Bytes a.start_key.now = bytes_of a.start_key.now (λ i. omega (arith, c.type_inv.start_key i)) in
     let i = common-run _ 0 a.start_key.now a.end_key.now c.requires.1 bytes c.requires.2 in
-    exactly-map c.match_between.result i.1 i.0 (rw (part-rest a.start_key.now a.n, part-rest a.end_key.now a.n) at c.match_between.ensures.exactly)
+    exactly-map c.match_between.result i.1 i.0
+    (rw (part-rest a.start_key.now a.n, part-rest a.end_key.now a.n) at c.match_between.ensures.exactly)

@@ -32,4 +32,6 @@ loop-level-preserved c =
 
 pub returns-clause-measured : goal.returns-clause-measured
 returns-clause-measured c =
-    levels-done c.args.table.well_formed (subst (λ (x : ℕ). Levels c.args.table.bytes.now c.loop-level.distances c.loop-level.found x c.loop-level.distance) c.loop-level-test.false c.loop-level.invariant)
+    levels-done c.args.table.well_formed
+    (subst (λ (x : ℕ). Levels c.args.table.bytes.now c.loop-level.distances c.loop-level.found x c.loop-level.distance)
+    c.loop-level-test.false c.loop-level.invariant)

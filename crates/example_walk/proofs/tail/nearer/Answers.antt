@@ -28,6 +28,7 @@ returns c =
     let wf = m.table.well_formed in
     let (b, hb, less) = some-nearer c.requires.0 state wf c.requires.1 c.requires.2 c.requires.3 in
     ⊎_elim
-    (λ e. subst (λ (k : ℕ). get_or d (next m.table.bytes.now state k) 0 + 1 ≡ get_or d state 0) e (one-nearer c.requires.0 state b wf c.requires.1 hb c.requires.3 less))
+    (λ e. subst (λ (k : ℕ). get_or d (next m.table.bytes.now state k) 0 + 1 ≡ get_or d state 0) e
+    (one-nearer c.requires.0 state b wf c.requires.1 hb c.requires.3 less))
     (λ e. absurd (l.invariant b (omega arith) less))
     (same_or b 255)

@@ -2,5 +2,6 @@
 use Rattle.example_distance.proofs.Shortest.{Sofar}
 use Rattle.example_walk.proofs.tail.write_tail.Given as goal
 
-abbrev pub invariant-loop-i : goal.invariant-loop-i
-invariant-loop-i l = Sofar l.measured.table.bytes.now l.measured.distances l.initial.out l.out l.state l.at l.s l.i
+abbrev pub invariant-loop-place : goal.invariant-loop-place
+invariant-loop-place l =
+    Sofar l.measured.table.bytes.now l.measured.distances l.initial.place-items l.place-items l.state 0 l.s l.place-index

@@ -7,4 +7,5 @@ use Rattle.listing_follow.proofs.Trail.is_dead.Goals as goal
 pub returns : goal.returns
 returns c =
     let trail = c.args.self.now in
-    exactly-not c.can_match.result c.can_match.ensures (bit-off c.args.prepared.now.reach (get_or trail.states trail.known 0)) (λ z one. omega arith)
+    exactly-not c.can_match.result (rw c.from.ensures at c.can_match.ensures)
+    (bit-off c.args.prepared.now.reach (get_or trail.states trail.known 0)) (λ z one. omega arith)

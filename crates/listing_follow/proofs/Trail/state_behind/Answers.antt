@@ -10,4 +10,7 @@ returns-then-n-self c =
     let trail = a.self.now in
     let followed = c.requires.0 in
     let bytes = bytes_of a.key.now (λ i. omega (arith, c.type_inv.key i)) in
-    (followed.each a.n (omega arith), followed-state a.table.bytes.now a.key.now trail.states trail.known a.n followed a.table.well_formed bytes (omega arith))
+    rw c.from.ensures (
+      followed.each a.n (omega arith),
+      followed-state a.table.bytes.now a.key.now trail.states trail.known a.n followed a.table.well_formed bytes (omega arith),
+    )

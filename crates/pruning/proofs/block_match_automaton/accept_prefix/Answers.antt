@@ -15,7 +15,8 @@ loop-byte-preserved c =
     let t = c.args.table.bytes.now in
     let p = c.args.prefix.now in
     let l = c.loop-byte in (
-      c.accept-state.ensures.0 ∙ ap (λ (x : ℕ). next t x (get_or p l.byte-index 0)) l.invariant.0 ∙ sym (run_more t 0 p l.byte-index (omega arith)),
+      c.accept-state.ensures.0 ∙ ap (λ (x : ℕ). next t x (get_or p l.byte-index 0)) l.invariant.0
+          ∙ sym (run_more t 0 p l.byte-index (omega arith)),
       c.accept-state.ensures.1,
     )
 
