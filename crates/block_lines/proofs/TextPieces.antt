@@ -20,14 +20,20 @@ module _ (f : List ℕ) where
   unfolding blocks_pieces
   long-pieces h = rw (lt-ltb max_len (length f) h)
 
-  pub short-pieces : length f ≤ max_len → (loaded : Result SSTableIndexV3 Refusal) → load_def f ≡ loaded → blocks_pieces f ≡ loaded_pieces loaded f
+  pub short-pieces : length f ≤ max_len → (loaded : Result SSTableIndexV3 Refusal) → load_def f ≡ loaded
+      → blocks_pieces f ≡ loaded_pieces loaded f
   unfolding blocks_pieces
   short-pieces h loaded e = rw (le-ltb max_len (length f) h, e)
 
 -- the line of a refusal is short
 pub refused-short : (k : ℕ) → length (refused_line k) ≤ 29
 unfolding refused_line
-refused-short k = omega (arith, length-append refused_text (decimal k ++ (10 ∷ [])), length-append (decimal k) (10 ∷ []), length-fuel 19 k [])
+refused-short k = omega (
+  arith,
+  length-append refused_text (decimal k ++ (10 ∷ [])),
+  length-append (decimal k) (10 ∷ []),
+  length-fuel 19 k [],
+)
 
 -- ---- a line per block
 module _ (f : List ℕ) where

@@ -3,9 +3,9 @@
 
 pub mod text;
 
-ghost use Rattle.std.specs.Prelude.{◌≡◌, ◌<◌, length};
+ghost use Rattle.std.specs.Prelude.{◌≡◌, ◌≤◌, ◌<◌, length};
 ghost use Rattle.group.specs.Legal.{NumbersOk};
-ghost use Rattle.line_text.specs.Lines.{line_of};
+ghost use Rattle.line_text.specs.Lines.{line_of, line_len};
 ghost use Rattle.index.specs.Opening.{load_def, Opens};
 ghost use Rattle.block_lines.specs.Opened.{opened_block};
 ghost use Rattle.block_lines.specs.Text.{line_at, blocks_pieces, IsPiece};
@@ -17,10 +17,14 @@ use layout::refusals::Refusal;
 use line_text::{Line, Refused, Separator};
 use text::Piece;
 
+// No line of an index is longer: an id of 5 digits, three numbers of 15, a key of 1,024 bytes, five signs between and behind.
+pub const LINE_LEN: usize = 2103;
+
 // A longer input isn't taken.
 pub const MAX_LEN: usize = 65536;
 
-// The address of a block of an opened index.
+// The address of a block of an opened index. Record and bytes come apart, as index_load answers them; that they belong together is
+// asked of each function.
 fn block(opened: SSTableIndexV3, data: &[u8], id: usize) -> BlockAddr
     requires { Opens «data».now opened × (id < opened.n) }
     ensures { (result ≡ opened_block opened «data».now id) × NumbersOk result }
@@ -31,7 +35,8 @@ fn block(opened: SSTableIndexV3, data: &[u8], id: usize) -> BlockAddr
 // The line of a block of an opened index.
 pub fn line(opened: SSTableIndexV3, data: &[u8], id: usize) -> Line
     requires { Opens «data».now opened × (id < opened.n) }
-    ensures { line_of result.id result.block result.separator.bytes.now ≡ line_at opened «data».now id }
+    ensures same { line_of result.id result.block result.separator.bytes.now ≡ line_at opened «data».now id }
+    ensures short { length (line_of result.id result.block result.separator.bytes.now) ≤ line_len }
 {
     let block = block(opened, data, id);
     let bytes = index_lookup::separator(opened, data, id as u64);
@@ -50,10 +55,7 @@ pub fn pieces(loaded: Result<SSTableIndexV3, Refusal>, data: &[u8]) -> usize
     if data.len() > MAX_LEN {
         return 1;
     }
-    match loaded {
-        Ok(opened) => opened.n,
-        Err(_) => 1,
-    }
+    loaded.map_or(1, |opened| opened.n)
 }
 
 // Piece i of the text.

@@ -1,4 +1,4 @@
--- Demand 3: the calls' answers are the plain machine's; a finish that isn't refused writes the entries' index; it opens, the blocks are found there, and the check says yes.
+-- Demand 3: the calls' answers are the plain machine's; what finish writes opens, has the blocks and passes the check.
 use Prim.Native.Nat.{ℕ, ◌^◌, ◌<◌}
 use mathlib.Core.Path.{◌≡◌, refl, sym, ap, subst, ◌∙◌}
 use mathlib.Core.List.{List}
@@ -49,7 +49,8 @@ module _ (choose : List ℕ → ℕ) (slopes : (vs : List ℕ) → choose vs < 2
           subst (λ (f : List ℕ). Opens f (opened_of f)) (sym laid_out)
           (entries-open choose slopes (entries_of_calls cs fresh) both.1 both.0.rep.few h.two)
 
-      finds : Finds (entries_of_calls cs fresh) (index_of_calls (settings choose) cs fresh out) (opened_of (index_of_calls (settings choose) cs fresh out))
+      finds : Finds (entries_of_calls cs fresh) (index_of_calls (settings choose) cs fresh out)
+          (opened_of (index_of_calls (settings choose) cs fresh out))
       finds =
           let both = run-rules cs fresh none in
           subst (λ (f : List ℕ). Finds (entries_of_calls cs fresh) f (opened_of f)) (sym laid_out)

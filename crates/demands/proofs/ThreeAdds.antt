@@ -48,7 +48,8 @@ room-good v key few numbers fits =
 added : (v : View) (key : List ℕ) (b : BlockAddr) → block_no v key key b ≡ 0 → v.n < max_blocks → stride * v.n + stride ≤ v.room
     → RecordOk v.key_room v.place → v.next_key + length key ≤ v.key_room → add_no v key b ≡ 0
 added v key b e few numbers last fits =
-    sym (add_none v key b (area-good v (record { few = omega arith; inside = omega arith; last = last })) 0 (sym e) refl (room-good v key few numbers fits))
+    sym (add_none v key b (area-good v (record { few = omega arith; inside = omega arith; last = last })) 0 (sym e) refl
+    (room-good v key few numbers fits))
 
 module _ (rooms : Rooms) (blocks : 15 ≤ rooms.blocks) (keys : 3 ≤ rooms.keys) where
   add-0 : add_no (plain_view rooms []) (98 ∷ []) block0 ≡ 0
@@ -103,7 +104,8 @@ in-2 (suc (suc zero)) l = refl
 in-2 (suc (suc (suc id))) l = absurd (omega (arith, l.inside))
 
 -- the block of an ordinal, where its number among the three is known
-pub located : (ord at : ℕ) → ((id : ℕ) → Last ordinal 3 ord id → id ≡ at) → (k id : ℕ) (addr : BlockAddr) → ByOrdExact (entry_block three) 3 ord k id addr
+pub located : (ord at : ℕ) → ((id : ℕ) → Last ordinal 3 ord id → id ≡ at) → (k id : ℕ) (addr : BlockAddr)
+    → ByOrdExact (entry_block three) 3 ord k id addr
     → (k ≡ 0) × (id ≡ at) × (addr ≡ entry_block three at)
 located ord at is k id addr (inl p) = (p.0, is id p.1, p.2 ∙ ap (entry_block three) (is id p.1))
 located ord at is k id addr (inr p) = absurd (let z : ⊥ = omega (arith, p.3) in z)

@@ -1,2 +1,4 @@
 pub mod Decimal
+pub mod Hexed
+pub mod Stored
 pub mod Written

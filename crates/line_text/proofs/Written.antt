@@ -30,7 +30,8 @@ module _ (id : ℕ) (b : BlockAddr) where
   pub parts-line : (separator : List ℕ) → to-separator separator ++ (10 ∷ []) ≡ line_of id b separator
   unfolding line_of
   parts-line separator =
-      regroup (decimal id) (32 ∷ decimal b.start) (32 ∷ decimal b.end) (32 ∷ decimal b.first_ordinal) (32 ∷ separator_text separator) (10 ∷ [])
+      regroup (decimal id) (32 ∷ decimal b.start) (32 ∷ decimal b.end) (32 ∷ decimal b.first_ordinal) (32 ∷ separator_text separator)
+      (10 ∷ [])
 
 -- ---- their lengths
 
@@ -72,4 +73,8 @@ module _ (id : ℕ) (b : BlockAddr) (h : id < 65536) (ok : NumbersOk b) where
 
   pub line-short : (separator : List ℕ) → length separator ≤ 1024 → length (line_of id b separator) ≤ 2103
   line-short separator short =
-      rw (← (parts-line id b separator)) (omega (arith, separator-reach separator short, length-append (to-separator id b separator) (10 ∷ [])))
+      rw (← (parts-line id b separator)) (omega (
+        arith,
+        separator-reach separator short,
+        length-append (to-separator id b separator) (10 ∷ []),
+      ))

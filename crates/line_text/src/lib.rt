@@ -1,5 +1,7 @@
-// The lines of the program `blocks`.
+// The lines of the program `blocks`. Each prints by `Display`, and is put into a lent area by `put`, which can't fail.
 #![tactic(auto)]
+
+pub mod put;
 
 ghost use Rattle.std.specs.Prelude.{Some};
 ghost use Rattle.layout.specs.Refusals.{number_of};
@@ -7,6 +9,7 @@ ghost use Rattle.line_text.specs.Lines.{separator_text, line_of, refused_line};
 
 use group::BlockAddr;
 use layout::refusals::Refusal;
+pub use put::{put_refusal, put_too_long};
 use std::fmt;
 
 // A separator: its bytes in lower-case hex, or `-` where it is empty.

@@ -2,7 +2,7 @@
 use Prim.Native.Nat.{ℕ, zero, suc, ◌+◌, ◌-◌, ◌≤◌}
 use mathlib.Core.Path.{◌≡◌, refl, sym, ap, ap₂, ◌∙◌}
 use mathlib.Core.List.{List, [], ◌++◌}
-use Rattle.std.specs.Prelude.{Option, Some, None, Result, Ok, Err, MatchResult, MatchOption}
+use Rattle.std.specs.Prelude.{Result, Ok, Err, MatchResult}
 use Rattle.layout.specs.declared.refusals.Refusal.{Refusal}
 use Rattle.layout.specs.Refusals.{number_of}
 use Rattle.layout.proofs.Numbers.{number_positive}
@@ -21,11 +21,11 @@ use Rattle.builder.specs.Index.{Settings}
 use Rattle.machine.specs.Plain.{Entry}
 use Rattle.automaton.specs.Table.{table_no}
 use Rattle.index.specs.declared.SSTableIndexV3.{SSTableIndexV3}
-use Rattle.index.specs.Lookups.{GetBlock, LocateWithOrd, LocateWithKey, GetBlockWithKey, place_def}
+use Rattle.index.specs.Lookups.{GetBlock, LocateWithOrd, LocateWithKey, GetBlockWithKey}
 use Rattle.listing.specs.Listing.{Listing, GetBlockForAutomaton, listed_no, listed_count}
 use Rattle.demands.specs.Demand3.{entry_separator}
 use Rattle.replay.specs.Made.{cells}
-use Rattle.replay.specs.Replay.{IdAnswer, OrdAnswer, KeyAnswer, AddrAnswer, place_cells, SeparatorAnswer, MarkAnswer}
+use Rattle.replay.specs.Replay.{IdAnswer, OrdAnswer, KeyAnswer, AddrAnswer, MarkAnswer}
 use Rattle.replay.specs.Asked.{Indexed}
 
 abbrev zeros : ℕ → List ℕ
@@ -80,11 +80,6 @@ located_written : (r : Result Located Refusal) (cs : List ℕ) → MatchResult r
 located_written (Ok l) cs w = w
 located_written (Err e) cs w = w
 
-place_written : (p : Option (ℕ × ℕ)) (cs : List ℕ) → MatchOption p (cs ≡ cells 0 0 0 0 0) (λ at. cs ≡ cells 0 at.0 at.1 1 0)
-    → cs ≡ place_cells p
-place_written None cs w = w
-place_written (Some at) cs w = w
-
 module _ {S : Settings} {es : List Entry} {f : List ℕ} {opened : SSTableIndexV3} (x : Indexed S es f opened) where
   pub id_answer : (id : ℕ) (r : Result BlockAddr Refusal) (cs : List ℕ) → GetBlock f opened id (by_id_no r) (by_id_addr r)
       → MatchResult r (λ b. cs ≡ cells 0 0 b.start b.end b.first_ordinal) (Refused cs) → IdAnswer es id cs
@@ -119,14 +114,6 @@ module _ {S : Settings} {es : List Entry} {f : List ℕ} {opened : SSTableIndexV
     addr = located_addr r;
     written = located_written r cs w;
     right = x.finds.address-by-key key _ _ _ g;
-  }
-
-  -- a separator's place
-  pub place_answer : (id : ℕ) (p : Option (ℕ × ℕ)) (cs : List ℕ) → p ≡ place_def opened f id
-      → MatchOption p (cs ≡ cells 0 0 0 0 0) (λ at. cs ≡ cells 0 at.0 at.1 1 0) → SeparatorAnswer S es id cs
-  place_answer id p cs e w = record {
-    place = place_written p cs w ∙ ap place_cells (e ∙ x.finds.separator-place id);
-    bytes = λ h. rw (sym x.bytes, sym (x.finds.separator-place id)) (x.finds.separator id h);
   }
 
   -- a listing

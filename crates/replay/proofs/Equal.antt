@@ -22,7 +22,8 @@ pub equal-replays : {s B K out answers B₁ K₁ out₁ answers₁ s' B' K' out'
     → Replayed s B K out answers B₁ K₁ out₁ answers₁ → Replayed s' B' K' out' answers' B₂ K₂ out₂ answers₂
     → ((finish_of_list s B K out).total ≡ 0 → ⊥) → ((finish_of_list s' B' K' out').total ≡ 0 → ⊥)
     → SameIndex (SameLists (entries_of s B K) (entries_of s' B' K')) (replayed_index s B K out out₁) (replayed_index s' B' K' out' out₂)
-equal-replays {s} {B} {K} {out} {answers} {B₁} {K₁} {out₁} {answers₁} {s'} {B'} {K'} {out'} {answers'} {B₂} {K₂} {out₂} {answers₂} x y some some' =
+equal-replays {s} {B} {K} {out} {answers} {B₁} {K₁} {out₁} {answers₁}
+    {s'} {B'} {K'} {out'} {answers'} {B₂} {K₂} {out₂} {answers₂} x y some some' =
     let d = list-demand s B K out in
     let left = ap (take (finish_of_list s B K out).total) x.output ∙ sym (list-after s B K out) in
     let right = ap (take (finish_of_list s' B' K' out').total) y.output ∙ sym (list-after s' B' K' out') in

@@ -31,7 +31,8 @@ fn make_call(
     builder::number_and_builder(answer)
 }
 
-// Makes the list's calls on a fresh builder, each on what the last one left, and writes their numbers.
+// Makes the list's calls on a fresh builder, each on what the last one left, and writes their numbers. A loop,
+// since a call stands where the one before it ends.
 pub fn make_calls(
     list: &format::List,
     blocks: &mut [u64],

@@ -1,4 +1,5 @@
-// An answer: five numbers.
+// An answer: five numbers. The answers of a list stand in one list of numbers, as its caller lends it, and the contracts speak of all of
+// it: as rows (`as_chunks_mut`) the numbers behind the last one would be a list of their own.
 ghost use Rattle.std.specs.Prelude.{◌≡◌, ℕ, ◌+◌, ◌≤◌, length, MatchResult, MatchOption, [], ◌∷◌};
 ghost use Rattle.std.proofs.lemmas.List.Edits.{sets};
 ghost use Rattle.layout.specs.Refusals.{number_of};
@@ -30,10 +31,7 @@ impl Cells {
         ensures { MatchResult answer (λ value. T.converts value result)
             (λ refusal. cells_of result ≡ cells (number_of refusal) 0 0 0 0) }
     {
-        match answer {
-            Ok(value) => value.into(),
-            Err(refusal) => Cells::number(u32::from(refusal)),
-        }
+        answer.map_or_else(Cells::from, T::into)
     }
 
     // Writes the five numbers from `at` on.
@@ -43,6 +41,15 @@ impl Cells {
         ensures five { length (cells_of self) ≡ 5 }
     {
         answers[at..at + WIDTH].copy_from_slice(&self.0);
+    }
+}
+
+// A refusal's number.
+impl From<Refusal> for Cells {
+    ghost from_gives = { λ refusal x. cells_of x ≡ cells (number_of refusal) 0 0 0 0 };
+
+    fn from(refusal: Refusal) -> Cells {
+        Cells::number(u32::from(refusal))
     }
 }
 
@@ -94,9 +101,9 @@ impl From<Option<(usize, usize)>> for Cells {
     ghost from_gives = { λ place x. MatchOption place (cells_of x ≡ cells 0 0 0 0 0) (λ p. cells_of x ≡ cells 0 p.0 p.1 1 0) };
 
     fn from(place: Option<(usize, usize)>) -> Cells {
-        match place {
-            Some((offset, len)) => Cells([0, offset as u64, len as u64, 1, 0]),
-            None => Cells::number(0),
-        }
+        place.map_or(
+            Cells::number(0),
+            |(offset, len)| Cells([0, offset as u64, len as u64, 1, 0]),
+        )
     }
 }

@@ -8,7 +8,8 @@ ghost use Rattle.replay.specs.Made.{finish_cells};
 use crate::cells::Cells;
 use builder::SSTableIndexBuilder;
 
-// Finishes into `out`, and writes the answer at `at`: its number, the total and the directory's length. Returns the total.
+// Finishes into `out`, and writes the answer at `at`: its number, the total and the directory's length. Returns the total,
+// 0 where it is refused: of such a finish the front of `out` that is opened is empty.
 pub fn finish_list(
     builder: SSTableIndexBuilder,
     blocks: &[u64],

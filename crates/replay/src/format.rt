@@ -1,6 +1,7 @@
-// A list of calls and questions in bytes.
-ghost use Rattle.std.specs.Prelude.{Option, ◌≡◌, true, false, ℕ, ◌||◌, ◌+◌, ◌^◌, ◌≤◌, ◌<◌, eqb, length, MatchOption};
-ghost use Rattle.serialize.specs.Digits.{number_at};
+// A list of calls and questions in bytes. The list and a place in it go together here, and stay two: nearly each reader reads at another
+// place than its own, so that a pair of both would be made anew for it.
+ghost use Rattle.std.specs.Prelude.{Option, ◌≡◌, true, false, ℕ, ◌||◌, ◌+◌, ◌^◌, ◌≤◌, ◌<◌, eqb, length};
+ghost use Rattle.std.specs.Prelude.{MatchOption};
 ghost use Rattle.replay.specs.Format.{string_len, string_at, within, call_len, question_len, behind};
 ghost use Rattle.replay.specs.Format.{counts_at, calls_from, questions_from, call_count, question_count, head_bad, list_bad};
 ghost use Rattle.replay.specs.Format.{added_block, call_at, question_at};
@@ -78,29 +79,13 @@ const SETTINGS_LEN_LEN: usize = 4;
 
 const COUNTS_LEN: usize = 8;
 
-// The number of the eight bytes from `at` on.
-pub fn number(list: &[u8], at: usize) -> u64
-    requires { at + 8 ≤ length list.now }
-    ensures { result ≡ number_at list.now at 8 }
-{
-    serialize::deserialize_u64(list, at)
-}
-
-// The number of the four bytes from `at` on.
-fn small_number(list: &[u8], at: usize) -> usize
-    requires { at + 4 ≤ length list.now }
-    ensures { (result ≡ number_at list.now at 4) × (result < 2 ^ 32) }
-{
-    serialize::deserialize_u32(list, at) as usize
-}
-
 // The byte string whose length stands at `at`.
 pub fn string(list: &[u8], at: usize) -> &[u8]
     requires { at + 4 + string_len list.now at ≤ length list.now }
     ensures { result.now ≡ string_at list.now at }
 {
     let from = at + 4;
-    &list[from..from + small_number(list, at)]
+    &list[from..from + directory_read::number(list, at)]
 }
 
 // `len` where the list has as many bytes from `at` on.
@@ -108,11 +93,7 @@ fn if_within(list: &[u8], at: usize, len: usize) -> Option<usize>
     requires { (at ≤ length list.now) × (0 < len) }
     ensures { IsItem list.now at result (within list.now at len) }
 {
-    if len <= list.len() - at {
-        Some(len)
-    } else {
-        None
-    }
+    (len <= list.len() - at).then_some(len)
 }
 
 // How many bytes an item takes whose string's length stands `head` bytes behind its tag, if it is whole.
@@ -121,7 +102,7 @@ fn with_string(list: &[u8], at: usize, head: usize) -> Option<usize>
     ensures { IsItem list.now at result (within list.now at (4 + head + string_len list.now (at + head))) }
 {
     let fixed = if_within(list, at, 4 + head)?;
-    if_within(list, at, fixed + small_number(list, at + head))
+    if_within(list, at, fixed + directory_read::number(list, at + head))
 }
 
 // How many bytes the call at `at` takes, if there is one.
@@ -141,11 +122,11 @@ fn block(list: &[u8], at: usize) -> BlockAddr
     requires { at + 25 ≤ length list.now }
     ensures { result ≡ added_block list.now at }
 {
-    BlockAddr {
-        start: number(list, at + 1),
-        end: number(list, at + 9),
-        first_ordinal: number(list, at + 17),
-    }
+    BlockAddr::from([
+        serialize::deserialize_u64(list, at + 1),
+        serialize::deserialize_u64(list, at + 9),
+        serialize::deserialize_u64(list, at + 17),
+    ])
 }
 
 impl<'a> Call<'a> {
@@ -183,17 +164,21 @@ impl<'a> Question<'a> {
         ensures { question_of result ≡ question_at list.now at }
     {
         match Tag::at(list, at) {
-            Some(Tag::ById) => Question::ById(number(list, at + 1)),
-            Some(Tag::ByOrdinal) => Question::ByOrdinal(number(list, at + 1)),
+            Some(Tag::ById) => Question::ById(serialize::deserialize_u64(list, at + 1)),
+            Some(Tag::ByOrdinal) => Question::ByOrdinal(serialize::deserialize_u64(list, at + 1)),
             Some(Tag::ByKey) => Question::ByKey(string(list, at + 1)),
             Some(Tag::AddressByKey) => Question::AddressByKey(string(list, at + 1)),
-            Some(Tag::Separator) => Question::SeparatorOf(number(list, at + 1)),
-            _ => Question::MarkOf(number(list, at + 1), string(list, at + 9)),
+            Some(Tag::Separator) => Question::SeparatorOf(serialize::deserialize_u64(list, at + 1)),
+            _ => Question::MarkOf(
+                serialize::deserialize_u64(list, at + 1),
+                string(list, at + 9),
+            ),
         }
     }
 }
 
-// Behind `count` items from `from` on, whose lengths `item_len` tells, if each of them is there.
+// Behind `count` items from `from` on, whose lengths `item_len` tells, if each of them is there. A loop: `try_fold`
+// would take a closure around the closure that it is given.
 #[tactic(auto, using(crate::proofs::Items::behind_none, crate::proofs::Items::behind_next, crate::proofs::Items::behind_missing))]
 fn behind_items<F: Fn(usize) -> Option<usize>>(
     from: usize,
@@ -226,7 +211,7 @@ impl<'a> Head<'a> {
     pub fn read(list: &'a [u8]) -> Option<Head<'a>>
         ensures { MatchOption result (head_bad list.now ≡ true) (λ head. head.list.now ≡ list.now) }
     {
-        let counts_at = SETTINGS_LEN_LEN + small_number(list.get(..SETTINGS_LEN_LEN)?, 0);
+        let counts_at = SETTINGS_LEN_LEN + directory_read::number(list.get(..SETTINGS_LEN_LEN)?, 0);
         if counts_at != SETTINGS_LEN_LEN || list.len() < counts_at + COUNTS_LEN {
             return None;
         }
@@ -238,7 +223,7 @@ impl<'a> Head<'a> {
     fn counts_at(&self) -> usize
         ensures { (result ≡ counts_at self.now.list.now) × (result + 8 ≤ length self.now.list.now) }
     {
-        SETTINGS_LEN_LEN + small_number(self.list, 0)
+        SETTINGS_LEN_LEN + directory_read::number(self.list, 0)
     }
 
     // Where the first call stands.
@@ -252,14 +237,14 @@ impl<'a> Head<'a> {
     pub fn call_count(&self) -> usize
         ensures { (result ≡ call_count self.now.list.now) × (result < 2 ^ 32) }
     {
-        small_number(self.list, self.counts_at())
+        directory_read::number(self.list, self.counts_at())
     }
 
     // How many questions.
     pub fn question_count(&self) -> usize
         ensures { (result ≡ question_count self.now.list.now) × (result < 2 ^ 32) }
     {
-        small_number(self.list, self.counts_at() + 4)
+        directory_read::number(self.list, self.counts_at() + 4)
     }
 }
 
@@ -288,10 +273,10 @@ impl<'a> List<'a> {
             head.question_count(),
             |at| question_len(list, at),
         )?;
-        if end == list.len() {
-            Some(List { head, questions_at })
-        } else {
-            None
+        // No `then_some`: only where the test holds can a `List` be made, which keeps that it does.
+        if end != list.len() {
+            return None;
         }
+        Some(List { head, questions_at })
     }
 }

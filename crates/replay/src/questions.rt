@@ -16,7 +16,7 @@ use index::SSTableIndexV3;
 use layout::MAX_BLOCKS;
 use layout::refusals::{self, Refusal};
 
-// Mark i; 0 where there is none.
+// Mark i; 0 where there is none, since the answer has a number in its place.
 fn mark_at(marks: &[u8], i: u64) -> u64
     ensures { result ≡ get_or marks.now i 0 }
 {
@@ -31,15 +31,16 @@ struct Index<'a> {
 }
 
 impl Index<'_> {
-    // Lists the automaton's blocks: how many, and mark i.
+    // Lists the automaton's blocks: how many, and mark i. A match, here and in `answer_in`: with `map_or_else` the check found no proof.
     fn mark(&self, i: u64, automaton: &[u8]) -> Cells
         ensures { (S : Settings) (es : List Entry) → Indexed S es self.now.data.now self.now.opened
             → MarkAnswer es i automaton.now (cells_of result) }
     {
+        // A fixed area for every index, since the library has no heap.
         let mut marks = [0u8; MAX_BLOCKS];
         match listing::get_block_for_automaton(self.opened, self.data, automaton, &mut marks) {
             Ok(count) => Cells([0, count as u64, mark_at(&marks, i), 0, 0]),
-            Err(refusal) => Cells::number(u32::from(refusal)),
+            Err(refusal) => Cells::from(refusal),
         }
     }
 
@@ -75,11 +76,13 @@ fn answer_in(question: Question, loaded: Result<SSTableIndexV3, Refusal>, data: 
 {
     match loaded {
         Ok(opened) => Index { opened, data }.answer(question),
-        Err(refusal) => Cells::number(u32::from(refusal)),
+        Err(refusal) => Cells::from(refusal),
     }
 }
 
-// Asks the head's questions, which stand from `from` on, and writes their answers behind the first `first`.
+// Asks the head's questions, which stand from `from` on, and writes their answers behind the first `first`. A loop,
+// since a question stands where the one before it ends. The head and where the questions begin, here and below, and not a List: that
+// would ask that nothing stands behind the questions, too.
 fn ask_questions(
     head: &Head,
     from: usize,

@@ -8,7 +8,8 @@ use group::BlockAddr;
 use layout::refusals::{self, Refusal};
 use store::Located;
 
-// The address that is handed out where there is no block.
+// The address that is handed out where there is no block: C has no Option. By hand, since this is the only place that wants a block of
+// zeros: a Default of BlockAddr would offer one to each crate.
 pub const NO_BLOCK: BlockAddr = BlockAddr {
     start: 0,
     end: 0,

@@ -6,11 +6,10 @@ ghost use Rattle.index.specs.Answers.{load_no, load_opened, place_offset, place_
 ghost use Rattle.index.specs.Lookups.{GetBlock, LocateWithOrd, LocateWithKey, GetBlockWithKey, place_def};
 ghost use Rattle.canonical.specs.Canonical.{canonical_no};
 ghost use Rattle.batch.specs.Batch.{LocateWithKeys};
-ghost use Rattle.rosmarel.specs.Words.{opened_words, opened_at};
+ghost use Rattle.index.specs.Words.{opened_words, opened_at};
 ghost use Rattle.rosmarel.specs.Answers.{block_with};
 
 use crate::answers::{NO_BLOCK, put_address, put_count, put_located};
-use crate::words::Words;
 use index::SSTableIndexV3;
 use layout::refusals;
 
@@ -21,8 +20,7 @@ pub extern "C" fn rosmarel_open(index: &[u8], opened: &mut [u64; 7]) -> u32
     ensures opened_after { opened.new ≡ opened_words (load_opened (load_def index.now)) }
 {
     let loaded = index_load::load(index);
-    let Words(numbers) = loaded.map_or(Words([0; 7]), Words::from);
-    *opened = numbers;
+    *opened = <[u64; 7]>::from(loaded.unwrap_or_default());
     refusals::number(loaded)
 }
 
@@ -48,7 +46,7 @@ pub extern "C" fn rosmarel_get_block(
     ensures { GetBlock index.now (opened_at opened.now) id result
         (block_with start.new end.new first_ordinal.new) }
 {
-    let block = index_lookup::get_block(SSTableIndexV3::from(Words(*opened)), index, id);
+    let block = index_lookup::get_block(SSTableIndexV3::from(*opened), index, id);
     put_address(block.unwrap_or(NO_BLOCK), start, end, first_ordinal);
     refusals::number(block)
 }
@@ -67,7 +65,7 @@ pub extern "C" fn rosmarel_locate_with_ord(
     ensures { LocateWithOrd index.now (opened_at opened.now) ord result id.new
         (block_with start.new end.new first_ordinal.new) }
 {
-    let found = index_lookup::locate_with_ord(SSTableIndexV3::from(Words(*opened)), index, ord);
+    let found = index_lookup::locate_with_ord(SSTableIndexV3::from(*opened), index, ord);
     put_located(found, id, start, end, first_ordinal)
 }
 
@@ -81,11 +79,12 @@ pub extern "C" fn rosmarel_locate_with_key(
 ) -> u32
     ensures { LocateWithKey index.now (opened_at opened.now) key.now result id.new }
 {
-    let found = index_lookup::locate_with_key(SSTableIndexV3::from(Words(*opened)), index, key);
+    let found = index_lookup::locate_with_key(SSTableIndexV3::from(*opened), index, key);
     put_count(found, id)
 }
 
 // The blocks that may hold up to 64 keys: pairs of offset and length over `keys`, an id each at the front of `ids`.
+// A key above the last separator gets NO_ID, an id that no block has, since C has no Option.
 #[unsafe(no_mangle)]
 pub extern "C" fn rosmarel_locate_with_keys(
     index: &[u8],
@@ -97,7 +96,7 @@ pub extern "C" fn rosmarel_locate_with_keys(
     ensures { LocateWithKeys index.now (opened_at opened.now) pairs.now keys.now
         ids.old ids.new result }
 {
-    let opened = SSTableIndexV3::from(Words(*opened));
+    let opened = SSTableIndexV3::from(*opened);
     refusals::number(batch::locate_with_keys(opened, index, pairs, keys, ids))
 }
 
@@ -115,7 +114,7 @@ pub extern "C" fn rosmarel_get_block_with_key(
     ensures { GetBlockWithKey index.now (opened_at opened.now) key.now result id.new
         (block_with start.new end.new first_ordinal.new) }
 {
-    let found = index_lookup::get_block_with_key(SSTableIndexV3::from(Words(*opened)), index, key);
+    let found = index_lookup::get_block_with_key(SSTableIndexV3::from(*opened), index, key);
     put_located(found, id, start, end, first_ordinal)
 }
 
@@ -131,7 +130,7 @@ pub extern "C" fn rosmarel_separator(
     ensures offset_after { offset.new ≡ place_offset (place_def (opened_at opened.now) index.now id) }
     ensures len_after { len.new ≡ place_len (place_def (opened_at opened.now) index.now id) }
 {
-    let place = index_lookup::separator_place(SSTableIndexV3::from(Words(*opened)), index, id);
+    let place = index_lookup::separator_place(SSTableIndexV3::from(*opened), index, id);
     let (from, long) = place.unwrap_or((0, 0));
     *offset = from as u64;
     *len = long as u64;

@@ -1,13 +1,13 @@
-// Patterns: the blocks that can hold a key of one, and an example of such a key.
+// Patterns: the blocks that can hold a key of one, and an example of such a key. An interval's start may be absent: a flag beside it says
+// so, and a match is 1 or 0, since C has no Option.
 ghost use Rattle.std.specs.Prelude.{◌≤◌, eqb};
 ghost use Rattle.pruning.specs.Interval.{start_of};
 ghost use Rattle.pruning.specs.Answers.{CanBlockMatch};
 ghost use Rattle.example.specs.Example.{ExampleFor};
 ghost use Rattle.listing.specs.Listing.{GetBlockForAutomaton};
-ghost use Rattle.rosmarel.specs.Words.{opened_at};
+ghost use Rattle.index.specs.Words.{opened_at};
 
 use crate::answers::put_count;
-use crate::words::Words;
 use index::SSTableIndexV3;
 use layout::refusals;
 
@@ -23,7 +23,7 @@ pub extern "C" fn rosmarel_list(
     ensures { GetBlockForAutomaton index.now (opened_at opened.now) automaton.now
         marks.old marks.new result count.new }
 {
-    let opened = SSTableIndexV3::from(Words(*opened));
+    let opened = SSTableIndexV3::from(*opened);
     put_count(
         listing::get_block_for_automaton(opened, index, automaton, marks),
         count,

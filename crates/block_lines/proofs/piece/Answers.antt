@@ -43,7 +43,7 @@ line-requires c =
 pub returns-in-Ok : goal.returns-in-Ok
 returns-in-Ok c =
     let opens = sym c.requires.0 ∙ c.in-Ok.is in
-    is_line c.args.«data».now c.in-Ok.opened c.if-data-gt-MAX_LEN.false opens c.args.i c.requires.1 _ c.line.ensures
+    is_line c.args.«data».now c.in-Ok.opened c.if-data-gt-MAX_LEN.false opens c.args.i c.requires.1 _ c.line.ensures.same
 
 pub returns-in-Err : goal.returns-in-Err
 returns-in-Err c =

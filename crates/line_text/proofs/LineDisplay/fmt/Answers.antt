@@ -14,7 +14,8 @@ returns-clause-writes g c plain ok =
     (Fmt.decimal line.id
     ++ (32 ∷ (Fmt.decimal line.block.start
     ++ (32 ∷ (Fmt.decimal line.block.end
-    ++ (32 ∷ (Fmt.decimal line.block.first_ordinal ++ (32 ∷ (separator_text line.separator.bytes.now ++ (10 ∷ [])))))))))) c.write.new.self =
+    ++ (32 ∷ (Fmt.decimal line.block.first_ordinal
+    ++ (32 ∷ (separator_text line.separator.bytes.now ++ (10 ∷ [])))))))))) c.write.new.self =
     c.write.ensures.writes plain ok in
     rw (
       decimal_shown line.id (omega arith),

@@ -8,5 +8,5 @@ returns-in-Ok c = λ S es x.
 
 pub returns-in-Err : goal.returns-in-Err
 returns-in-Err c = λ S es x.
-    rw (c.number.ensures, c.from.ensures)
+    rw c.from.ensures
     (unlisted_answer x _ _ _ _ _ c.get_block_for_automaton.ensures (zeros-long 65536) _ c.in-Err.is)
