@@ -4,6 +4,7 @@ ghost use Rattle.std.specs.Prelude.{◌≤◌, ◌<◌};
 use crate::lent::Lent;
 use group::BlockAddr;
 use std::alloc::{AllocError, Global};
+use vectors::area::remainder;
 use vectors::told::is_told;
 
 const MOST_BLOCKS: u64 = 65536;
@@ -15,7 +16,7 @@ const KEY_ROOM: usize = 262148;
 
 const LONGEST_INDEX: u64 = 1100000;
 
-// The prime 2^56 - 5.
+// The prime 2^56 - 5, by which the number that an index's bytes spell is divided.
 const MODULUS: u64 = 72057594037927931;
 
 // Where block i starts, and its ordinal: both rise unevenly, so that the fields of a group differ.
@@ -37,17 +38,11 @@ fn filled(alloc: Global, count: u64) -> Result<Option<Lent>, AllocError> {
         return Ok(None);
     }
     let mut lent = Lent::new(alloc, ROOM, KEY_ROOM)?;
-    for i in 0..count {
-        let block = BlockAddr {
-            start: start_of(i),
-            end: start_of(i + 1),
-            first_ordinal: ordinal_of(i),
-        };
-        if lent.add(&(i as u32).to_be_bytes(), block).is_err() || lent.count() != i + 1 {
-            return Ok(None);
-        }
-    }
-    Ok(Some(lent))
+    let all_taken = (0..count).all(|i| {
+        let block = BlockAddr::from([start_of(i), start_of(i + 1), ordinal_of(i)]);
+        lent.add(&(i as u32).to_be_bytes(), block).is_ok() && lent.count() == i + 1
+    });
+    Ok(all_taken.then_some(lent))
 }
 
 // COUNT START END ORD NO, and the key: the blocks of the rule are taken, and one more add gets this number
@@ -58,21 +53,8 @@ pub fn adds(alloc: Global, given: &[u64], key: &[u8]) -> Result<bool, AllocError
     let Some(mut lent) = filled(alloc, *count)? else {
         return Ok(false);
     };
-    let block = BlockAddr {
-        start: *start,
-        end: *end,
-        first_ordinal: *first_ordinal,
-    };
+    let block = BlockAddr::from([*start, *end, *first_ordinal]);
     Ok(is_told(due, lent.add(key, block).map(|()| [])))
-}
-
-// The remainder of the number that the bytes spell, the first one highest.
-fn remainder(bytes: &[u8]) -> u64 {
-    let mut h: u64 = 0;
-    for byte in bytes {
-        h = (256 * h + u64::from(*byte)) % MODULUS;
-    }
-    h
 }
 
 // COUNT ROOM NO TOTAL DIRECTORY REMAINDER: the blocks of the rule are taken, and a finish into ROOM bytes answers this
@@ -83,8 +65,6 @@ pub fn finishes(alloc: Global, given: &[u64]) -> Result<bool, AllocError> {
     let Some(lent) = filled(alloc, *count)? else {
         return Ok(false);
     };
-    match lent.finished(alloc, due, LONGEST_INDEX)? {
-        Some(index) => Ok(remainder(&index) == *expected),
-        None => Ok(false),
-    }
+    let index = lent.finished(alloc, due, LONGEST_INDEX)?;
+    Ok(index.is_some_and(|index| remainder(&index, 256, MODULUS) == *expected))
 }

@@ -7,6 +7,7 @@ use group::BlockAddr;
 use layout::MAX_BLOCKS;
 use layout::refusals::Refusal;
 use std::alloc::{AllocError, Global};
+use vectors::area::front;
 use vectors::told::is_told;
 
 // No area of a line is longer.
@@ -61,11 +62,7 @@ impl Lent {
         };
         let before = self.areas.clone()?;
         let n = self.builder.n;
-        let block = BlockAddr {
-            start: *start,
-            end: *end,
-            first_ordinal: *first_ordinal,
-        };
+        let block = BlockAddr::from([*start, *end, *first_ordinal]);
         let answer = self.add(key, block);
         Ok(
             is_told(due, answer.map(|()| []))
@@ -134,10 +131,8 @@ impl Lent {
 
     // ROOM NO TOTAL DIRECTORY, and the index: a finish into ROOM bytes
     pub fn finishes(&self, alloc: Global, given: &[u64], index: &[u8]) -> Result<bool, AllocError> {
-        match self.finished(alloc, given, MOST_BYTES)? {
-            Some(written) => Ok(written.as_slice() == index),
-            None => Ok(false),
-        }
+        let written = self.finished(alloc, given, MOST_BYTES)?;
+        Ok(written.is_some_and(|written| written.as_slice() == index))
     }
 
     // The index that a finish into ROOM bytes writes, if it answers NO TOTAL DIRECTORY and leaves the other bytes.
@@ -163,16 +158,13 @@ impl Lent {
         };
         let mut out = vec![in alloc; MARK; *room as usize]?;
         let answer = finish(self.builder, &areas.blocks, &areas.keys, &mut out);
-        let handed_back = match answer {
-            Ok(written) => written.builder,
-            Err(refused) => refused.builder,
-        };
+        let handed_back = answer.map_or_else(|refused| refused.builder, |written| written.builder);
         let lens = answer
             .map(|written| [written.total as u64, written.directory_len as u64])
             .map_err(|refused| refused.refusal);
         let is_due = handed_back.n == self.builder.n && is_told(due, lens);
         let end = total as usize;
-        if is_length && is_due && end <= out.len() && out[end..].iter().all(|byte| *byte == MARK) {
+        if is_length && is_due && front(&out, end, MARK).is_some() {
             out.truncate(end);
             return Ok(Some(out));
         }
@@ -189,8 +181,8 @@ fn is_added(n: usize, block: BlockAddr, key: &[u8], before: &Areas, after: &Area
     let Some(to) = from.checked_add(key.len()) else {
         return false;
     };
-    let len = key.len() as u64;
-    let record = [block.start, block.end, block.first_ordinal, offset, len];
+    let [start, end, first_ordinal] = <[u64; 3]>::from(block);
+    let record = [start, end, first_ordinal, offset, key.len() as u64];
     n <= MAX_BLOCKS
         && after.record(n) == Some(record)
         && are_same_but(&before.blocks, &after.blocks, 5 * n, 5 * n + 5)

@@ -7,15 +7,15 @@ use line_text::Refused;
 use std::alloc::{AllocError, Global};
 use std::rt::Files;
 
-// The lines of the blocks.
+// The lines of the blocks. Record and bytes come apart, as index_load answers them; that they belong together is asked for.
 fn lines(alloc: Global, opened: SSTableIndexV3, data: &[u8]) -> Result<String, AllocError>
     requires { Opens «data».now opened }
 {
     let mut text = String::new(alloc);
-    for id in 0..opened.n {
+    (0..opened.n).try_for_each(|id| {
         let line = block_lines::line(opened, data, id);
-        write!(text, "{line}")?;
-    }
+        write!(text, "{line}")
+    })?;
     Ok(text)
 }
 
@@ -32,11 +32,10 @@ fn is_text(alloc: Global, data: &[u8], expected: &[u8]) -> Result<bool, AllocErr
 
 // Whether STEM.index opens as STEM.expected says.
 pub fn is_same(rt: &(impl Files + AllocGlobal), stem: &str) -> Result<bool, AllocError> {
-    match (
-        files::read(rt, stem, "index")?,
-        files::read(rt, stem, "expected")?,
-    ) {
-        (Some(file), Some(expected)) => is_text(rt.alloc(), &file, &expected),
-        _ => Ok(false),
-    }
+    let file = files::read(rt, stem, "index")?;
+    let expected = files::read(rt, stem, "expected")?;
+    let (Some(file), Some(expected)) = (file, expected) else {
+        return Ok(false);
+    };
+    is_text(rt.alloc(), &file, &expected)
 }

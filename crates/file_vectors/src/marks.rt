@@ -15,10 +15,7 @@ fn digit(mark: u8) -> char {
 
 // The marks' digits, and how many are 1.
 fn line(alloc: Global, marks: &[u8], count: usize) -> Result<String, AllocError> {
-    let mut line = String::new(alloc);
-    for mark in marks {
-        line.push(digit(*mark))?;
-    }
+    let mut line: String = marks.iter().map(|mark| digit(*mark)).collect(alloc)?;
     writeln!(line, " {count}")?;
     Ok(line)
 }
@@ -40,10 +37,9 @@ fn is_text(alloc: Global, data: &[u8], table: &[u8], expected: &[u8]) -> Result<
 pub fn is_same(rt: &(impl Files + AllocGlobal), stem: &str) -> Result<bool, AllocError> {
     let file = files::read(rt, "worked", "index")?;
     let table = files::read(rt, stem, "automaton")?;
-    match (file, table, files::read(rt, stem, "expected")?) {
-        (Some(file), Some(table), Some(expected)) => {
-            is_text(rt.alloc(), &file, &table, &expected)
-        }
-        _ => Ok(false),
-    }
+    let expected = files::read(rt, stem, "expected")?;
+    let (Some(file), Some(table), Some(expected)) = (file, table, expected) else {
+        return Ok(false);
+    };
+    is_text(rt.alloc(), &file, &table, &expected)
 }

@@ -3,59 +3,70 @@ use crate::{ROW_OF_QUESTIONS, files};
 use index::SSTableIndexV3;
 use std::io;
 use std::rt::Files;
-use vectors::driver::Kind;
+use vectors::driver::Letter;
 use vectors::tally::Tallies;
 use vectors::told::is_told;
 use vectors::{Case, driver};
 
 const ROW: Option<usize> = Some(ROW_OF_QUESTIONS);
 
-const KINDS: [Kind; 4] = [
-    Kind {
+// What a line asks.
+#[derive(Clone, Copy)]
+enum Kind {
+    ById,
+    ByOrdinal,
+    ByKey,
+    IsCanonical,
+}
+
+// The letter of each kind, with the row of its tally and how many byte strings its lines have.
+const LETTERS: [Letter<Kind>; 4] = [
+    Letter {
         letter: b'i',
+        kind: Kind::ById,
         row: ROW,
         strings: 0,
     },
-    Kind {
+    Letter {
         letter: b'o',
+        kind: Kind::ByOrdinal,
         row: ROW,
         strings: 0,
     },
-    Kind {
+    Letter {
         letter: b'k',
+        kind: Kind::ByKey,
         row: ROW,
         strings: 1,
     },
-    Kind {
+    Letter {
         letter: b'c',
+        kind: Kind::IsCanonical,
         row: ROW,
         strings: 0,
     },
 ];
 
 // Whether the answer to a line's question is the line's own.
-fn is_answered(case: &Case, opened: SSTableIndexV3, data: &[u8]) -> bool {
-    match (case.kind, case.numbers.as_slice()) {
+fn is_answered(kind: Kind, case: Case<'_>, opened: SSTableIndexV3, data: &[u8]) -> bool {
+    match (kind, case.numbers) {
         // ID NO START END ORDINAL
-        (b'i', [id, due @ ..]) => {
+        (Kind::ById, [id, due @ ..]) => {
             let answer = index_lookup::get_block(opened, data, *id);
-            is_told(
-                due,
-                answer.map(|addr| [addr.start, addr.end, addr.first_ordinal]),
-            )
+            is_told(due, answer.map(|addr| <[u64; 3]>::from(addr)))
         }
         // ORDINAL NO ID
-        (b'o', [ord, due @ ..]) => {
+        (Kind::ByOrdinal, [ord, due @ ..]) => {
             let answer = index_lookup::locate_with_ord(opened, data, *ord);
             is_told(due, answer.map(|found| [found.block_id as u64]))
         }
         // NO ID
-        (b'k', due) => {
+        (Kind::ByKey, due) => {
             let answer = index_lookup::locate_with_key(opened, data, case.string(0));
             is_told(due, answer.map(|id| [id as u64]))
         }
         // NO
-        (b'c', due) => is_told(due, canonical::check_canonical(data).map(|()| [])),
+        (Kind::IsCanonical, due) => { is_told(due, canonical::check_canonical(data).map(|()| [])) }
         _ => false,
     }
 }
@@ -70,8 +81,8 @@ pub fn count(rt: &(impl Files + AllocGlobal), stem: &str, tallies: &mut Tallies)
     };
     match index_load::load(&file) {
         Ok(opened) if !text.is_empty() => {
-            driver::compare(rt.alloc(), &text, &KINDS, tallies, |case| {
-                Ok(is_answered(case, opened, &file))
+            driver::compare(rt.alloc(), &text, &LETTERS, tallies, |kind, case| {
+                Ok(is_answered(kind, case, opened, &file))
             })
         }
         _ => {

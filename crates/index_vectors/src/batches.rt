@@ -1,7 +1,8 @@
 // Lookups of several keys at once: whether number and id area are those of the list, or allowed.
-use crate::opened::Opened;
+use crate::lookup::Lookup;
 use layout::refusals::Refusal;
 use std::alloc::{AllocError, Global};
+use vectors::area::front;
 use vectors::told::is_told;
 
 // The longest id area of a line.
@@ -17,73 +18,47 @@ struct Asked {
     ids: Vec<u64>,
 }
 
-impl Asked {
-    fn new(
-        alloc: Global,
-        opened: &Opened,
-        room: usize,
-        words: &[u64],
-        keys: &[u8],
-    ) -> Result<Asked, AllocError> {
-        let mut ids = vec![in alloc; JUNK; room]?;
-        let answer = batch::locate_with_keys(opened.record, &opened.file, words, keys, &mut ids);
-        Ok(Asked { answer, ids })
-    }
-
-    // The first `count` ids, if nobody wrote the others.
-    fn front(&self, count: usize) -> Option<&[u64]> {
-        let (front, others) = self.ids.split_at_checked(count)?;
-        if others.iter().all(|id| *id == JUNK) {
-            Some(front)
-        } else {
-            None
-        }
-    }
-}
-
 // ROOM WORDS W ..: the ids' room, the words, and what follows them in the line
 fn parts(given: &[u64]) -> Option<(usize, &[u64], &[u64])> {
-    let [room, count, others @ ..] = given else {
+    let [room @ ..=MOST_ROOM, count, others @ ..] = given else {
         return None;
     };
-    if *room > MOST_ROOM {
-        return None;
-    }
     let (words, behind) = others.split_at_checked(*count as usize)?;
     Some((*room as usize, words, behind))
 }
 
-// ROOM WORDS W .. NO ID ..
-pub fn exact(
-    alloc: Global,
-    opened: &Opened,
-    keys: &[u8],
-    given: &[u64],
-) -> Result<bool, AllocError> {
-    let Some((room, words, [no, due @ ..])) = parts(given) else {
-        return Ok(false);
-    };
-    let asked = Asked::new(alloc, opened, room, words, keys)?;
-    Ok(is_told(&[*no], asked.answer.map(|()| [])) && asked.front(due.len()) == Some(due))
-}
+impl Lookup<'_> {
+    fn ask(self, alloc: Global, room: usize, words: &[u64]) -> Result<Asked, AllocError> {
+        let mut ids = vec![in alloc; JUNK; room]?;
+        let answer = self.opened.locate_with_keys(words, self.key, &mut ids);
+        Ok(Asked { answer, ids })
+    }
 
-// ROOM WORDS W ..: with a record that may not belong to the bytes.
-pub fn left_free(
-    alloc: Global,
-    opened: &Opened,
-    keys: &[u8],
-    given: &[u64],
-) -> Result<bool, AllocError> {
-    let Some((room, words, [])) = parts(given) else {
-        return Ok(false);
-    };
-    let asked = Asked::new(alloc, opened, room, words, keys)?;
-    let n = opened.record.n as u64;
-    Ok(match asked.answer {
-        Ok(()) => asked
-            .front(words.len() / 2)
-            .is_some_and(|ids| ids.iter().all(|id| *id < n || *id == u64::MAX)),
-        Err(Refusal::Unfit | Refusal::KeyListBad) => asked.front(0).is_some(),
-        Err(_) => false,
-    })
+    // ROOM WORDS W .. NO ID ..
+    pub fn finds_batch(self, alloc: Global) -> Result<bool, AllocError> {
+        let Some((room, words, [no, due @ ..])) = parts(self.given) else {
+            return Ok(false);
+        };
+        let asked = self.ask(alloc, room, words)?;
+        Ok(
+            is_told(&[*no], asked.answer.map(|()| []))
+                && front(&asked.ids, due.len(), JUNK) == Some(due),
+        )
+    }
+
+    // ROOM WORDS W ..: with a record that may not belong to the bytes.
+    pub fn may_find_batch(self, alloc: Global) -> Result<bool, AllocError> {
+        let Some((room, words, [])) = parts(self.given) else {
+            return Ok(false);
+        };
+        let asked = self.ask(alloc, room, words)?;
+        let n = self.opened.block_count() as u64;
+        Ok(match asked.answer {
+            Ok(()) => front(&asked.ids, words.len() / 2, JUNK).is_some_and(|ids| ids
+                .iter()
+                .all(|id| *id < n || *id == u64::MAX)),
+            Err(Refusal::Unfit | Refusal::KeyListBad) => front(&asked.ids, 0, JUNK).is_some(),
+            Err(_) => false,
+        })
+    }
 }

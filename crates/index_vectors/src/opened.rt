@@ -1,20 +1,23 @@
 // The file that the lines are about, and the record that lookups use: its own, or one that may not belong to it.
 use crate::rule;
+use group::BlockAddr;
 use index::SSTableIndexV3;
+use layout::refusals::Refusal;
 use std::alloc::{AllocError, Global};
+use store::Located;
 use vectors::told::is_told;
 
 #[derive(Drop)]
 pub struct Opened {
-    pub file: Vec<u8>,
-    pub record: SSTableIndexV3,
+    file: Vec<u8>,
+    record: Option<SSTableIndexV3>,
 }
 
 impl Opened {
     pub fn new(alloc: Global) -> Opened {
         Opened {
             file: Vec::new(alloc),
-            record: record([0; 7]),
+            record: None,
         }
     }
 
@@ -22,8 +25,8 @@ impl Opened {
     fn opens(&mut self, file: Vec<u8>, given: &[u64]) -> bool {
         let answer = index_load::load(&file);
         self.file = file;
-        self.record = answer.unwrap_or(record([0; 7]));
-        is_told(given, answer.map(|opened| places(opened)))
+        self.record = answer.ok();
+        is_told(given, answer.map(|opened| <[u64; 7]>::from(opened)))
     }
 
     // NO N .., and the file
@@ -38,13 +41,10 @@ impl Opened {
 
     // COUNT NO N ..: the file by the rule
     pub fn opens_by_rule(&mut self, alloc: Global, given: &[u64]) -> Result<bool, AllocError> {
-        match given {
-            [count, due @ ..] if *count <= u64::from(rule::MOST) => {
-                let file = rule::file(alloc, *count as u32)?;
-                Ok(self.opens(file, due))
-            }
-            _ => Ok(false),
-        }
+        let [count, due @ ..] = given else {
+            return Ok(false);
+        };
+        Ok(self.opens(rule::file(alloc, *count)?, due))
     }
 
     // AT NO N .., and the bytes in place of the file's own from AT on
@@ -60,7 +60,10 @@ impl Opened {
             return Ok(false);
         };
         own.copy_from_slice(part);
-        Ok(is_told(due, index_load::load(&file).map(|opened| places(opened))))
+        Ok(is_told(
+            due,
+            index_load::load(&file).map(|opened| <[u64; 7]>::from(opened)),
+        ))
     }
 
     // N DIRECTORY LEN RECORDS LEN ADDRESSES LEN: this record from here on
@@ -68,53 +71,59 @@ impl Opened {
         let Some(numbers) = given.first_chunk::<7>() else {
             return false;
         };
-        self.record = record(*numbers);
+        self.record = Some(SSTableIndexV3::from(*numbers));
         given.len() == 7
+    }
+
+    // How many blocks the record says; 0 where there is none, so that no id is below it.
+    pub fn block_count(&self) -> usize {
+        self.record.map_or(0, |record| record.n)
+    }
+
+    // The record. A file that was refused has none, and belongs to no record, as row 20 says.
+    fn record(&self) -> Result<SSTableIndexV3, Refusal> {
+        self.record.ok_or(Refusal::Unfit)
+    }
+
+    pub fn get_block(&self, id: u64) -> Result<BlockAddr, Refusal> {
+        index_lookup::get_block(self.record()?, &self.file, id)
+    }
+
+    pub fn locate_with_ord(&self, ord: u64) -> Result<Located, Refusal> {
+        index_lookup::locate_with_ord(self.record()?, &self.file, ord)
+    }
+
+    pub fn locate_with_key(&self, key: &[u8]) -> Result<usize, Refusal> {
+        index_lookup::locate_with_key(self.record()?, &self.file, key)
+    }
+
+    pub fn get_block_with_key(&self, key: &[u8]) -> Result<Located, Refusal> {
+        index_lookup::get_block_with_key(self.record()?, &self.file, key)
+    }
+
+    pub fn locate_with_keys(
+        &self,
+        words: &[u64],
+        keys: &[u8],
+        ids: &mut [u64],
+    ) -> Result<(), Refusal> {
+        batch::locate_with_keys(self.record()?, &self.file, words, keys, ids)
+    }
+
+    pub fn separator_place(&self, id: u64) -> Option<(usize, usize)> {
+        index_lookup::separator_place(self.record?, &self.file, id)
+    }
+
+    fn separator(&self, id: u64) -> Option<&[u8]> {
+        Some(index_lookup::separator(self.record?, &self.file, id))
     }
 
     // Whether a block's separator is the part of the file at this place; an empty one where it has none.
     pub fn has_separator(&self, id: u64, place: Option<(usize, usize)>) -> bool {
-        let part = index_lookup::separator(self.record, &self.file, id);
-        match place {
-            Some((offset, len)) => {
-                let front = self.file.get(offset..).and_then(|rest| rest.get(..len));
-                front == Some(part)
-            }
-            None => part.is_empty(),
-        }
+        let part = self.separator(id);
+        place.map_or(
+            part.is_none_or(|part| part.is_empty()),
+            |(offset, len)| self.file.get(offset..).and_then(|rest| rest.get(..len)) == part,
+        )
     }
-}
-
-// The record of these numbers, in the list's order.
-fn record(numbers: [u64; 7]) -> SSTableIndexV3 {
-    let [
-        n,
-        directory,
-        directory_len,
-        metas,
-        metas_len,
-        addrs,
-        addrs_len,
-    ] = numbers;
-    SSTableIndexV3 {
-        n: n as usize,
-        directory: directory as usize,
-        directory_len: directory_len as usize,
-        metas: metas as usize,
-        metas_len: metas_len as usize,
-        addrs: addrs as usize,
-        addrs_len: addrs_len as usize,
-    }
-}
-
-fn places(opened: SSTableIndexV3) -> [u64; 7] {
-    [
-        opened.n as u64,
-        opened.directory as u64,
-        opened.directory_len as u64,
-        opened.metas as u64,
-        opened.metas_len as u64,
-        opened.addrs as u64,
-        opened.addrs_len as u64,
-    ]
 }

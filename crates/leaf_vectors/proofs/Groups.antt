@@ -12,7 +12,8 @@ use Rattle.bitpacker.specs.Bits.{bytes_of}
 use Rattle.bitpacker.specs.Fields.{group_val, range_bit, ordinal_bit, group_bits}
 use Rattle.bitpacker.specs.Packer.{Waiting, leaving, packed_with}
 use Rattle.bitpacker.proofs.Packed.{Packed, packed_new, packed-wrote, packed-flushed, packed-room-write}
-use Rattle.bitpacker.proofs.Fields.{group-none, group-range, group-ordinal, group-bits-none, group-bits-ordinal, range-within, ordinal-within}
+use Rattle.bitpacker.proofs.Fields.{group-none, group-range, group-ordinal, group-bits-none, group-bits-ordinal}
+use Rattle.bitpacker.proofs.Fields.{range-within, ordinal-within}
 use Rattle.leaf_vectors.specs.Fields.{ranges, ordinals}
 use Rattle.leaf_vectors.proofs.Turns.{range_at, ordinal-at, ranges-length, ordinals-length}
 
@@ -58,7 +59,8 @@ module _ {r o : ℕ} {fs : List ℕ} (small : Small r o fs) where
 
     pub range-wrote : {p' : BitPacker} {l' : List ℕ} → Wrote p l (get_or fs (2 * i) 0) r p' l' → PairsRange r o fs d l' p' i
     range-wrote e =
-        let v : get_or fs (2 * i) 0 * 2 ^ range_bit r o i + group_val r o (take i (ranges fs)) (take i (ordinals fs)) ≡ group_val r o (take (suc i) (ranges fs)) (take i (ordinals fs)) =
+        let v : get_or fs (2 * i) 0 * 2 ^ range_bit r o i + group_val r o (take i (ranges fs)) (take i (ordinals fs))
+        ≡ group_val r o (take (suc i) (ranges fs)) (take i (ordinals fs)) =
         rw (← (range_at fs i)) (group-range r o i (ranges fs) (take i (ordinals fs))) in
         rw v at (packed-wrote k (get_or fs (2 * i) 0) r (range_small i) e)
 
@@ -71,14 +73,17 @@ module _ {r o : ℕ} {fs : List ℕ} (small : Small r o fs) where
 
     pub ordinal-wrote : {p' : BitPacker} {l' : List ℕ} → Wrote p l (get_or fs (2 * i + 1) 0) o p' l' → Pairs r o fs d l' p' (i + 1)
     ordinal-wrote e =
-        let v : get_or fs (2 * i + 1) 0 * 2 ^ ordinal_bit r o i + group_val r o (take (suc i) (ranges fs)) (take i (ordinals fs)) ≡ group_val r o (take (suc i) (ranges fs)) (take (suc i) (ordinals fs)) =
+        let v : get_or fs (2 * i + 1) 0 * 2 ^ ordinal_bit r o i + group_val r o (take (suc i) (ranges fs)) (take i (ordinals fs))
+        ≡ group_val r o (take (suc i) (ranges fs)) (take (suc i) (ordinals fs)) =
         rw (← (ordinal-at fs i)) (group-ordinal r o i (take (suc i) (ranges fs)) (ordinals fs)) in
         rw (add-one i) (rw (v, group-bits-ordinal r o i) at (packed-wrote k (get_or fs (2 * i + 1) 0) o (ordinal-small i) e))
 
     -- at the end
     module _ (size : length fs ≡ 2 * i + 1) where
-      pub group-flushed : {n : ℕ} {l' : List ℕ} → (n ≡ p.written + bytes_of p.filled) × (l' ≡ sets l p.written (le_bytes (bytes_of p.filled) p.buffer))
-          → (n ≡ bytes_of (group_bits r o i)) × (l' ≡ sets d 0 (le_bytes (bytes_of (group_bits r o i)) (group_val r o (ranges fs) (ordinals fs))))
+      pub group-flushed : {n : ℕ} {l' : List ℕ}
+          → (n ≡ p.written + bytes_of p.filled) × (l' ≡ sets l p.written (le_bytes (bytes_of p.filled) p.buffer))
+          → (n ≡ bytes_of (group_bits r o i))
+          × (l' ≡ sets d 0 (le_bytes (bytes_of (group_bits r o i)) (group_val r o (ranges fs) (ordinals fs))))
       group-flushed e =
           let all-ranges : take (suc i) (ranges fs) ≡ ranges fs = take_all (suc i) (ranges fs) (omega (arith, ranges-length fs)) in
           let all-ordinals : take i (ordinals fs) ≡ ordinals fs = take_all i (ordinals fs) (omega (arith, ordinals-length fs)) in

@@ -1,7 +1,5 @@
-pub mod Tests
 pub mod Parts
 pub mod Turns
 pub mod Widths
 pub mod Runs
 pub mod Groups
-pub mod Columns

@@ -33,6 +33,7 @@ module _ (w : ℕ) (fs : List ℕ) (small : DigitsBelow w fs) {d l : List ℕ} {
       let e = mul-suc w i in
       packed-room-write k (get_or fs i 0) w few (small i) (omega arith)
 
-  pub run-wrote : {p' : BitPacker} {l' : List ℕ} → (p' ≡ packed_with p (get_or fs i 0) w) × (l' ≡ sets l p.written (leaving p (get_or fs i 0) w))
+  pub run-wrote : {p' : BitPacker} {l' : List ℕ}
+      → (p' ≡ packed_with p (get_or fs i 0) w) × (l' ≡ sets l p.written (leaving p (get_or fs i 0) w))
       → Run w fs d l' p' (i + 1)
   run-wrote e = rw (add-one i, mul-suc w i, of_digits-suc w fs i) (packed-wrote k (get_or fs i 0) w (small i) e)

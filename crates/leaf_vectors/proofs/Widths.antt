@@ -1,7 +1,7 @@
 -- Fields that fit their widths, from a test of each.
-use Prim.Native.Nat.{ℕ, zero, suc, ◌+◌, ◌*◌, ◌/◌, ◌%◌, ◌^◌, ◌≤◌, ◌<◌}
+use Prim.Native.Nat.{ℕ, zero, suc, ◌+◌, ◌*◌, ◌/◌, ◌%◌, ◌^◌, ◌<◌}
 use mathlib.Core.Path.{◌≡◌}
-use mathlib.Core.Bool.{Bool, true, false, cond}
+use mathlib.Core.Bool.{cond}
 use mathlib.Core.List.{List, [], ◌∷◌}
 use native.Mathlib.Nat.{div-lt_iff_lt-mul, one-mul}
 use native.Mathlib.Omega.{arith}
@@ -16,10 +16,6 @@ use Rattle.leaf_vectors.proofs.Turns.{range_at, ordinal-at}
 -- the width of field k of fields in turn
 abbrev pub width : ℕ → ℕ → ℕ → ℕ
 width r o k = cond (eqb (k % 2) 0) r o
-
-pub cond-le : (b : Bool) (r o m : ℕ) → r ≤ m → o ≤ m → cond b r o ≤ m
-cond-le true r o m hr ho = hr
-cond-le false r o m hr ho = ho
 
 -- a number whose bits from k on are 0
 pub low_bits : (x k : ℕ) → x / 2 ^ k ≡ 0 → x < 2 ^ k

@@ -1,11 +1,15 @@
-// One function for each kind of case: whether the proved functions give the answers of the list. `area` is filled with MARK.
+// One function for each kind of case: whether the proved functions give the answers of the list. The area is filled with MARK.
 ghost use Rattle.std.specs.Prelude.{◌≡◌, true, ◌+◌, ◌*◌, ◌≤◌, length};
 ghost use Rattle.slope.specs.Column.{ColumnOk};
 
 use crate::pack;
+use crate::pack::Widths;
 use slope::Column;
 
 pub const MARK: u8 = 0xa5;
+
+// What a case is tried in. Fixed: its length is a fact of the type, where each function would ask it of a Vec.
+pub type Area = [u8; 8192];
 
 // Where what is tried begins in an area of bytes.
 const PLACE: usize = 16;
@@ -22,9 +26,7 @@ fn marks(area: &[u8]) -> bool {
 }
 
 // Whether `area` has `front` at PLACE, behind it what `whole` has behind as many bytes, and MARK everywhere else.
-fn holds(area: &[u8], front: &[u8], whole: &[u8]) -> bool
-    requires { 16 ≤ length area.now }
-{
+fn holds(area: &Area, front: &[u8], whole: &[u8]) -> bool {
     let len = whole.len();
     if front.len() > len || len > area.len() - PLACE {
         return false;
@@ -38,16 +40,14 @@ fn holds(area: &[u8], front: &[u8], whole: &[u8]) -> bool
 }
 
 pub fn same_width(numbers: &[u64]) -> bool {
-    if numbers.len() != 2 {
+    let [number, width] = *numbers else {
         return false;
-    }
-    bitpacker::compute_num_bits(numbers[0]) as u64 == numbers[1]
+    };
+    u64::from(bitpacker::compute_num_bits(number)) == width
 }
 
 // Writes `value` at PLACE. False where no such width has a writer, or the value is too large for it.
-fn write_number(out: &mut [u8], width: u64, value: u64) -> bool
-    requires { 24 ≤ length out.old }
-{
+fn write_number(out: &mut Area, width: u64, value: u64) -> bool {
     match (width, u16::try_from(value), u32::try_from(value)) {
         (8, _, _) => serialize::serialize_u64(out, PLACE, value),
         (4, _, Ok(value)) => serialize::serialize_u32(out, PLACE, value),
@@ -57,9 +57,7 @@ fn write_number(out: &mut [u8], width: u64, value: u64) -> bool
     true
 }
 
-fn read_number(bytes: &[u8], width: u64) -> u64
-    requires { 24 ≤ length bytes.now }
-{
+fn read_number(bytes: &Area, width: u64) -> u64 {
     match width {
         8 => serialize::deserialize_u64(bytes, PLACE),
         4 => u64::from(serialize::deserialize_u32(bytes, PLACE)),
@@ -67,24 +65,14 @@ fn read_number(bytes: &[u8], width: u64) -> u64
     }
 }
 
-pub fn same_number(numbers: &[u64], bytes: &[u8], area: &mut [u8]) -> bool
-    requires { 24 ≤ length area.old }
-{
-    if numbers.len() != 2 {
+pub fn same_number(numbers: &[u64], bytes: &[u8], area: &mut Area) -> bool {
+    let [width, value] = *numbers else {
         return false;
-    }
-    let width = numbers[0];
-    let value = numbers[1];
-    if bytes.len() as u64 != width {
-        return false;
-    }
-    if !write_number(area, width, value) {
-        return false;
-    }
-    if !holds(area, bytes, bytes) {
-        return false;
-    }
-    read_number(area, width) == value
+    };
+    bytes.len() as u64 == width
+        && write_number(area, width, value)
+        && holds(area, bytes, bytes)
+        && read_number(area, width) == value
 }
 
 // Puts the values, plus BASE, a STRIDE apart from FIRST on. False where one is 2^61 or more, or they don't fit.
@@ -95,6 +83,7 @@ fn spread(area: &mut [u64], values: &[u64]) -> bool
     if values.len() > 170 {
         return false;
     }
+    // By place, since std says nothing of what an area holds that was written by chunks.
     for (j, value) in values.iter().enumerate() {
         if *value >= 0x2000_0000_0000_0000 {
             return false;
@@ -105,17 +94,12 @@ fn spread(area: &mut [u64], values: &[u64]) -> bool
 }
 
 pub fn same_slope(numbers: &[u64]) -> bool {
-    let n = numbers.len();
-    if n < 3 {
+    let [count, values @ .., slope, nbits] = numbers else {
         return false;
-    }
-    let count = n - 3;
-    if numbers[0] != count as u64 {
-        return false;
-    }
-    let end = n - 2;
+    };
+    // An array: a Vec would need an allocator here, and could run out of memory.
     let mut area = [u64::MAX; 512];
-    if !spread(&mut area, &numbers[1..end]) {
+    if *count != values.len() as u64 || !spread(&mut area, values) {
         return false;
     }
     let column = Column {
@@ -123,13 +107,10 @@ pub fn same_slope(numbers: &[u64]) -> bool {
         at: FIRST,
         stride: STRIDE,
         base: BASE,
-        count,
+        count: values.len(),
     };
     let found = column.find_best_slope();
-    if found.slope as u64 != numbers[end] {
-        return false;
-    }
-    found.nbits as u64 == numbers[end + 1]
+    u64::from(found.slope) == *slope && u64::from(found.nbits) == *nbits
 }
 
 fn product(a: usize, b: usize) -> usize
@@ -140,101 +121,68 @@ fn product(a: usize, b: usize) -> usize
 }
 
 // Whether the bytes stand at PLACE and read as the fields in turn.
-fn is_packed(area: &[u8], bytes: &[u8], fields: &[u64], r: u8, o: u8) -> bool
-    requires { (16 ≤ length area.now) × (length fields.now ≤ 512) }
-{
-    if !holds(area, bytes, bytes) {
-        return false;
-    }
-    pack::read_back(bytes, fields, r, o)
+fn is_packed(area: &Area, bytes: &[u8], fields: &[u64], widths: Widths) -> bool {
+    holds(area, bytes, bytes) && widths.read_back(bytes, fields)
 }
 
-fn packs_fields(width: u8, fields: &[u64], bytes: &[u8], area: &mut [u8]) -> bool
-    requires { (width ≤ 56) × (length fields.now ≤ 512) × (8192 ≤ length area.old) }
+fn packs_fields(width: u8, fields: &[u64], bytes: &[u8], area: &mut Area) -> bool
+    requires { (width ≤ 56) × (length fields.now ≤ 512) }
 {
-    if !pack::fit(fields, width, width) {
+    let widths = Widths {
+        range: width,
+        ordinal: width,
+    };
+    if !widths.fit(fields) {
         return false;
     }
-    let len = (product(width as usize, fields.len()) + 7) / 8;
+    let len = product(usize::from(width), fields.len()).div_ceil(8);
     let end = PLACE + len;
-    if pack::pack_fields(&mut area[PLACE..end], fields, width) != len {
-        return false;
-    }
-    is_packed(area, bytes, fields, width, width)
+    pack::pack_fields(&mut area[PLACE..end], fields, width) == len
+        && is_packed(area, bytes, fields, widths)
 }
 
-pub fn same_fields(numbers: &[u64], bytes: &[u8], area: &mut [u8]) -> bool
-    requires { 8192 ≤ length area.old }
-{
-    let n = numbers.len();
-    if n < 2 {
-        return false;
+pub fn same_fields(numbers: &[u64], bytes: &[u8], area: &mut Area) -> bool {
+    match numbers {
+        [width @ ..=56, count @ ..=512, fields @ ..] if *count == fields.len() as u64 => {
+            packs_fields(*width as u8, fields, bytes, area)
+        }
+        _ => false,
     }
-    if n > 514 {
-        return false;
-    }
-    if numbers[0] > 56 {
-        return false;
-    }
-    if numbers[1] != (n - 2) as u64 {
-        return false;
-    }
-    packs_fields(numbers[0] as u8, &numbers[2..], bytes, area)
 }
 
 pub fn same_read(numbers: &[u64], bytes: &[u8]) -> bool {
-    if numbers.len() != 3 {
-        return false;
+    match *numbers {
+        [at, width @ ..=56, value] => pack::reads(bytes, at as usize, width as u8, value),
+        _ => false,
     }
-    if numbers[1] > 56 {
-        return false;
-    }
-    pack::reads(bytes, numbers[0] as usize, numbers[1] as u8, numbers[2])
 }
 
-fn packs_group(r: u8, o: u8, count: usize, fields: &[u64], bytes: &[u8], area: &mut [u8]) -> bool
-    requires r_bound { (r ≤ 56) × (o ≤ 56) × (count ≤ 255) }
-    requires fields_len { (length fields.now ≡ 2 * count + 1) × (8192 ≤ length area.old) }
+fn packs_group(widths: Widths, count: usize, fields: &[u64], bytes: &[u8], area: &mut Area) -> bool
+    requires { (count ≤ 255) × (length fields.now ≡ 2 * count + 1) }
 {
-    if !pack::fit(fields, r, o) {
+    if !widths.fit(fields) {
         return false;
     }
-    let len = (product(r as usize + o as usize, count) + r as usize + 7) / 8;
+    let range = usize::from(widths.range);
+    let ordinal = usize::from(widths.ordinal);
+    let len = (product(range + ordinal, count) + range).div_ceil(8);
     let end = PLACE + len;
-    if pack::pack_group(&mut area[PLACE..end], fields, r, o, count) != len {
-        return false;
-    }
-    is_packed(area, bytes, fields, r, o)
+    widths.pack_group(&mut area[PLACE..end], fields, count) == len
+        && is_packed(area, bytes, fields, widths)
 }
 
-pub fn same_group(numbers: &[u64], bytes: &[u8], area: &mut [u8]) -> bool
-    requires { 8192 ≤ length area.old }
-{
-    let n = numbers.len();
-    if n < 4 {
-        return false;
+pub fn same_group(numbers: &[u64], bytes: &[u8], area: &mut Area) -> bool {
+    match numbers {
+        [range @ ..=56, ordinal @ ..=56, count @ ..=255, fields @ ..]
+            if fields.len() as u64 == 2 * *count + 1 => {
+            let widths = Widths {
+                range: *range as u8,
+                ordinal: *ordinal as u8,
+            };
+            packs_group(widths, *count as usize, fields, bytes, area)
+        }
+        _ => false,
     }
-    if numbers[0] > 56 {
-        return false;
-    }
-    if numbers[1] > 56 {
-        return false;
-    }
-    if numbers[2] > 255 {
-        return false;
-    }
-    let count = numbers[2] as usize;
-    if n - 3 != 2 * count + 1 {
-        return false;
-    }
-    packs_group(
-        numbers[0] as u8,
-        numbers[1] as u8,
-        count,
-        &numbers[3..],
-        bytes,
-        area,
-    )
 }
 
 // How many bytes of `short` differ from those of `long`.
@@ -242,43 +190,19 @@ fn changes(short: &[u8], long: &[u8]) -> usize {
     short.iter().zip(long).filter(|(x, y)| *x != *y).count()
 }
 
-pub fn same_shortened(left: &[u8], right: &[u8], short: &[u8], area: &mut [u8]) -> bool
-    requires { 8192 ≤ length area.old }
-{
+pub fn same_shortened(left: &[u8], right: &[u8], short: &[u8], area: &mut Area) -> bool {
     let len = left.len();
-    if len > 4096 {
+    if len > 4096 || !keys::lt(left, right) || keys::lt(right, left) {
         return false;
     }
-    if short.len() > len {
-        return false;
-    }
-    if !keys::lt(left, right) {
-        return false;
-    }
-    if keys::lt(right, left) {
-        return false;
-    }
-    area[PLACE..PLACE + len].copy_from_slice(left);
-    if keys::find_shorter_str_in_between(&mut area[PLACE..PLACE + len], right) != short.len() {
-        return false;
-    }
-    if !holds(area, short, left) {
-        return false;
-    }
-    changes(short, left) <= 1
+    let key = &mut area[PLACE..PLACE + len];
+    key.copy_from_slice(left);
+    keys::find_shorter_str_in_between(key, right) == short.len()
+        && holds(area, short, left)
+        && changes(short, left) <= 1
 }
 
 pub fn same_prefix(numbers: &[u64], left: &[u8], right: &[u8]) -> bool {
-    if numbers.len() != 1 {
-        return false;
-    }
     let len = keys::common_prefix_len(left, right);
-    if len as u64 != numbers[0] {
-        return false;
-    }
-    if len > left.len() {
-        return false;
-    }
-    let prefix = keys::common_prefix(left, right);
-    prefix == &left[..len]
+    numbers == [len as u64].as_slice() && left.get(..len) == Some(keys::common_prefix(left, right))
 }

@@ -4,49 +4,71 @@
 mod cases;
 mod pack;
 
+use cases::Area;
 use std::io;
-use vectors::driver::Kind;
+use vectors::driver::Letter;
 use vectors::{Case, driver};
 
-// Each kind with its letter, the row of its tally and how many byte strings its lines have.
-const KINDS: [Kind; 8] = [
-    Kind {
+// What a line is about.
+#[derive(Clone, Copy)]
+enum Kind {
+    Width,
+    Number,
+    Slope,
+    Fields,
+    Read,
+    Group,
+    Shortened,
+    Prefix,
+}
+
+// The letter of each kind, with the row of its tally and how many byte strings its lines have.
+const LETTERS: [Letter<Kind>; 8] = [
+    Letter {
         letter: b'n',
+        kind: Kind::Width,
         row: Some(0),
         strings: 0,
     },
-    Kind {
+    Letter {
         letter: b'l',
+        kind: Kind::Number,
         row: Some(1),
         strings: 1,
     },
-    Kind {
+    Letter {
         letter: b'p',
+        kind: Kind::Slope,
         row: Some(2),
         strings: 0,
     },
-    Kind {
+    Letter {
         letter: b'b',
+        kind: Kind::Fields,
         row: Some(3),
         strings: 1,
     },
-    Kind {
+    Letter {
         letter: b'x',
+        kind: Kind::Read,
         row: Some(4),
         strings: 1,
     },
-    Kind {
+    Letter {
         letter: b'g',
+        kind: Kind::Group,
         row: Some(5),
         strings: 1,
     },
-    Kind {
+    Letter {
         letter: b's',
+        kind: Kind::Shortened,
         row: Some(6),
         strings: 3,
     },
-    Kind {
+    Letter {
         letter: b'c',
+        kind: Kind::Prefix,
         row: Some(7),
         strings: 2,
     },
@@ -64,24 +86,23 @@ const ROWS: [&str; 8] = [
 ];
 
 // Whether a case's answers are those of the proved functions.
-fn is_same(case: &Case) -> bool {
-    let mut area = [cases::MARK; 8192];
-    let numbers = case.numbers.as_slice();
+fn is_same(kind: Kind, case: Case<'_>) -> bool {
+    let mut area: Area = [cases::MARK; 8192];
+    let numbers = case.numbers;
     let first = case.string(0);
     let second = case.string(1);
-    match case.kind {
-        b'n' => cases::same_width(numbers),
-        b'l' => cases::same_number(numbers, first, &mut area),
-        b'p' => cases::same_slope(numbers),
-        b'b' => cases::same_fields(numbers, first, &mut area),
-        b'x' => cases::same_read(numbers, first),
-        b'g' => cases::same_group(numbers, first, &mut area),
-        b's' => cases::same_shortened(first, second, case.string(2), &mut area),
-        b'c' => cases::same_prefix(numbers, first, second),
-        _ => false,
+    match kind {
+        Kind::Width => cases::same_width(numbers),
+        Kind::Number => cases::same_number(numbers, first, &mut area),
+        Kind::Slope => cases::same_slope(numbers),
+        Kind::Fields => cases::same_fields(numbers, first, &mut area),
+        Kind::Read => cases::same_read(numbers, first),
+        Kind::Group => cases::same_group(numbers, first, &mut area),
+        Kind::Shortened => cases::same_shortened(first, second, case.string(2), &mut area),
+        Kind::Prefix => cases::same_prefix(numbers, first, second),
     }
 }
 
 fn main(rt: HostRuntime) -> io::Result<()> {
-    driver::replay(&rt, &KINDS, &ROWS, |case| Ok(is_same(case)))
+    driver::replay(&rt, &LETTERS, &ROWS, |kind, case| Ok(is_same(kind, case)))
 }

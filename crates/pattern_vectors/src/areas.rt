@@ -13,12 +13,7 @@ pub struct Area {
 impl Area {
     // The first n bytes, if all others are as they were.
     pub fn front(&self, n: usize) -> Option<&[u8]> {
-        let (front, others) = self.bytes.split_at_checked(n)?;
-        if others.iter().all(|byte| *byte == self.fill) {
-            Some(front)
-        } else {
-            None
-        }
+        vectors::area::front(&self.bytes, n, self.fill)
     }
 }
 
@@ -30,6 +25,7 @@ pub fn holds_over_both<F: Fn(&mut Area) -> bool>(
 ) -> Result<bool, AllocError>
     requires { F.IsAlwaysCallable holds }
 {
+    // A loop, since the closure of `all` may not run out of memory.
     for fill in [165, 90] {
         let bytes = vec![in alloc; fill; room]?;
         let mut area = Area { bytes, fill };

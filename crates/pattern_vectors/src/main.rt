@@ -10,68 +10,93 @@ mod tables;
 use std::alloc::{AllocError, Global};
 use std::io;
 use subject::Subject;
-use vectors::driver::Kind;
+use tables::Table;
+use vectors::driver::Letter;
 use vectors::{Case, driver};
 
-// Each kind of line with the row of its tally and how many byte strings its lines have.
-const KINDS: [Kind; 12] = [
-    Kind {
+// What a line does or asks.
+#[derive(Clone, Copy)]
+enum Kind {
+    Mark,
+    Example,
+    OpenFile,
+    List,
+    ListFree,
+    SetRecord,
+    Table(Table),
+}
+
+// The letter of each kind, with the row of its tally and how many byte strings its lines have.
+const LETTERS: [Letter<Kind>; 12] = [
+    Letter {
         letter: b'b',
+        kind: Kind::Mark,
         row: Some(0),
         strings: 2,
     },
-    Kind {
+    Letter {
         letter: b'e',
+        kind: Kind::Example,
         row: Some(1),
         strings: 2,
     },
-    Kind {
+    Letter {
         letter: b'f',
+        kind: Kind::OpenFile,
         row: Some(2),
         strings: 1,
     },
-    Kind {
+    Letter {
         letter: b'l',
+        kind: Kind::List,
         row: Some(3),
         strings: 1,
     },
-    Kind {
+    Letter {
         letter: b'L',
+        kind: Kind::ListFree,
         row: Some(4),
         strings: 0,
     },
-    Kind {
+    Letter {
         letter: b't',
+        kind: Kind::Table(Table::Whole),
         row: None,
         strings: 1,
     },
-    Kind {
+    Letter {
         letter: b'w',
+        kind: Kind::Table(Table::Runs),
         row: None,
         strings: 2,
     },
-    Kind {
+    Letter {
         letter: b'r',
+        kind: Kind::Table(Table::Rule),
         row: None,
         strings: 1,
     },
-    Kind {
+    Letter {
         letter: b'd',
+        kind: Kind::Table(Table::Draws),
         row: None,
         strings: 1,
     },
-    Kind {
+    Letter {
         letter: b'c',
+        kind: Kind::Table(Table::Part),
         row: None,
         strings: 1,
     },
-    Kind {
+    Letter {
         letter: b'n',
+        kind: Kind::Table(Table::Front),
         row: None,
         strings: 0,
     },
-    Kind {
+    Letter {
         letter: b'm',
+        kind: Kind::SetRecord,
         row: None,
         strings: 0,
     },
@@ -85,19 +110,24 @@ const ROWS: [&str; 5] = [
     "listings left free",
 ];
 
-// Whether a line's answers are those of the proved functions.
-fn is_same(alloc: Global, case: &Case, subject: &mut Subject) -> Result<bool, AllocError> {
-    let given = case.numbers.as_slice();
+// Whether a line's answers are those of the proved functions. `alloc` goes along to where a Vec is made, which asks for it.
+fn is_same(
+    alloc: Global,
+    kind: Kind,
+    case: Case<'_>,
+    subject: &mut Subject,
+) -> Result<bool, AllocError> {
+    let given = case.numbers;
     let one = case.string(0);
     let other = case.string(1);
-    match case.kind {
-        b'f' => subject.opens(alloc, given, one),
-        b'm' => Ok(subject.sets_record(given)),
-        b'b' => Ok(subject.marks(given, one, other)),
-        b'e' => subject.gives_example(alloc, given, one, other),
-        b'l' => subject.lists(alloc, given, one),
-        b'L' => subject.may_list(alloc, given),
-        _ => subject.sets_table(alloc, case),
+    match kind {
+        Kind::OpenFile => subject.opens(alloc, given, one),
+        Kind::SetRecord => Ok(subject.sets_record(given)),
+        Kind::Table(how) => subject.sets_table(alloc, how, case),
+        Kind::Mark => Ok(subject.marks(given, one, other)),
+        Kind::Example => subject.gives_example(alloc, given, one, other),
+        Kind::List => subject.lists(alloc, given, one),
+        Kind::ListFree => subject.may_list(alloc, given),
     }
 }
 
@@ -105,8 +135,8 @@ fn main(rt: HostRuntime) -> io::Result<()> {
     let mut subject = Subject::new(rt.alloc());
     driver::replay(
         &rt,
-        &KINDS,
+        &LETTERS,
         &ROWS,
-        |case| Ok(is_same(rt.alloc(), case, &mut subject)?),
+        |kind, case| Ok(is_same(rt.alloc(), kind, case, &mut subject)?),
     )
 }

@@ -1,7 +1,8 @@
 // What the calls are about: an automaton, an index file and its record, or one that may not belong to it.
+use crate::areas;
 use crate::areas::holds_over_both;
 use crate::examples::is_example;
-use crate::{areas, tables};
+use crate::tables::Table;
 use index::SSTableIndexV3;
 use layout::refusals::Refusal;
 use std::alloc::{AllocError, Global};
@@ -12,7 +13,7 @@ use vectors::told::is_told;
 pub struct Subject {
     table: Vec<u8>,
     file: Vec<u8>,
-    record: SSTableIndexV3,
+    record: Option<SSTableIndexV3>,
 }
 
 impl Subject {
@@ -20,19 +21,23 @@ impl Subject {
         Subject {
             table: Vec::new(alloc),
             file: Vec::new(alloc),
-            record: record([0; 7]),
+            record: None,
         }
     }
 
-    // Another automaton, by a line of this kind. False where the line is bad.
-    pub fn sets_table(&mut self, alloc: Global, case: &Case) -> Result<bool, AllocError> {
-        match tables::made(alloc, case, &self.table)? {
-            Some(table) => {
-                self.table = table;
-                Ok(true)
-            }
-            None => Ok(false),
+    // Another automaton, made as the line says. False where the line is bad.
+    pub fn sets_table(
+        &mut self,
+        alloc: Global,
+        how: Table,
+        case: Case<'_>,
+    ) -> Result<bool, AllocError> {
+        let made = how.made(alloc, case, &self.table)?;
+        let is_good = made.is_some();
+        if let Some(table) = made {
+            self.table = table;
         }
+        Ok(is_good)
     }
 
     // N, and the file: its count of blocks, 0 where it is refused
@@ -43,8 +48,8 @@ impl Subject {
         content: &[u8],
     ) -> Result<bool, AllocError> {
         self.file = content.to_vec(alloc)?;
-        self.record = index_load::load(&self.file).unwrap_or(record([0; 7]));
-        Ok(given == [self.record.n as u64].as_slice())
+        self.record = index_load::load(&self.file).ok();
+        Ok(given == [self.block_count() as u64].as_slice())
     }
 
     // N DIRECTORY LEN RECORDS LEN ADDRESSES LEN: this record from here on
@@ -52,8 +57,19 @@ impl Subject {
         let Some(numbers) = given.first_chunk::<7>() else {
             return false;
         };
-        self.record = record(*numbers);
+        self.record = Some(SSTableIndexV3::from(*numbers));
         given.len() == 7
+    }
+
+    // How many blocks the record says; 0 where there is none, as the lists have it.
+    fn block_count(&self) -> usize {
+        self.record.map_or(0, |record| record.n)
+    }
+
+    // The listing. A file that was refused has no record, and belongs to none, as row 20 says.
+    fn list(&self, marks: &mut [u8]) -> Result<usize, Refusal> {
+        let record = self.record.ok_or(Refusal::Unfit)?;
+        listing::get_block_for_automaton(record, &self.file, &self.table, marks)
     }
 
     // HAS NO MARK, and the interval
@@ -96,13 +112,7 @@ impl Subject {
             return Ok(false);
         };
         holds_over_both(alloc, *room as usize, |area| {
-            let answer = listing::get_block_for_automaton(
-                self.record,
-                &self.file,
-                &self.table,
-                &mut area.bytes,
-            );
-            is_told(due, answer.map(|count| [count as u64]))
+            is_told(due, self.list(&mut area.bytes).map(|count| [count as u64]))
                 && area.front(marks.len()) == Some(marks)
         })
     }
@@ -113,14 +123,9 @@ impl Subject {
             return Ok(false);
         };
         holds_over_both(alloc, room as usize, |area| {
-            match listing::get_block_for_automaton(
-                self.record,
-                &self.file,
-                &self.table,
-                &mut area.bytes,
-            ) {
+            match self.list(&mut area.bytes) {
                 Ok(count) => area
-                    .front(self.record.n)
+                    .front(self.block_count())
                     .is_some_and(|marks| are_marks(marks, count)),
                 Err(
                     Refusal::Unfit
@@ -138,26 +143,4 @@ impl Subject {
 // Whether the bytes are marks of 0 and 1, so many of them 1.
 fn are_marks(bytes: &[u8], count: usize) -> bool {
     bytes.iter().all(|mark| *mark <= 1) && bytes.iter().filter(|mark| **mark == 1).count() == count
-}
-
-// The record of these numbers, in the list's order. index_vectors has the same lines: a crate for them alone is no plainer.
-fn record(numbers: [u64; 7]) -> SSTableIndexV3 {
-    let [
-        n,
-        directory,
-        directory_len,
-        metas,
-        metas_len,
-        addrs,
-        addrs_len,
-    ] = numbers;
-    SSTableIndexV3 {
-        n: n as usize,
-        directory: directory as usize,
-        directory_len: directory_len as usize,
-        metas: metas as usize,
-        metas_len: metas_len as usize,
-        addrs: addrs as usize,
-        addrs_len: addrs_len as usize,
-    }
 }

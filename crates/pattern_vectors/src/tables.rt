@@ -4,6 +4,23 @@ ghost use Rattle.std.specs.Prelude.{◌<◌, IfOk, IfSome};
 use std::alloc::{AllocError, Global};
 use vectors::Case;
 
+// How a line makes a table.
+#[derive(Clone, Copy)]
+pub enum Table {
+    // Its bytes.
+    Whole,
+    // Flags, and next states as runs.
+    Runs,
+    // Flags, and next states by the rule.
+    Rule,
+    // Flags, and next states by the generator.
+    Draws,
+    // The old one with a part in place of its own.
+    Part,
+    // The front of the old one.
+    Front,
+}
+
 // The front of a table with these flags, and how many states that are: its count, and the flags. None where there can't be so many.
 fn front(alloc: Global, flags: &[u8]) -> Result<Option<(Vec<u8>, u8)>, AllocError>
     ensures { IfOk result (λ found. IfSome found (λ p. 0 < p.1)) }
@@ -24,15 +41,10 @@ fn by_runs(alloc: Global, flags: &[u8], runs: &[u8]) -> Result<Option<Vec<u8>>, 
     let len = table.len() + 256 * usize::from(m);
     let (runs, others) = runs.as_chunks::<2>();
     for [more, state] in runs {
-        for _ in 0..=*more {
-            table.push(*state)?;
-        }
+        let behind = table.len() + 1 + usize::from(*more);
+        table.resize(behind, *state)?;
     }
-    if others.is_empty() && table.len() == len {
-        Ok(Some(table))
-    } else {
-        Ok(None)
-    }
+    Ok((others.is_empty() && table.len() == len).then_some(table))
 }
 
 // The next state of s with byte b is (s * a + c + b / d) modulo the count of states.
@@ -49,11 +61,10 @@ fn by_rule(
         return Ok(None);
     };
     let m = u64::from(m);
+    // A `for` over the states: one chain of all rows would be a flat_map of chains.
     for s in 0..m {
         let row = s * u64::from(a) + u64::from(c);
-        for b in 0..=255 {
-            table.push(((row + b / d) % m) as u8)?;
-        }
+        table.extend((0..256).map(|b| ((row + b / d) % m) as u8))?;
     }
     Ok(Some(table))
 }
@@ -74,13 +85,15 @@ fn by_draws(alloc: Global, flags: &[u8], seed: u64, k: u64) -> Result<Option<Vec
     };
     let m = u64::from(m);
     let mut x = seed;
-    for _ in 0..256 * (m - 1) {
-        x = x.wrapping_mul(1103515245).wrapping_add(12345) % (1 << 31);
-        table.push(drawn(x, m, k))?;
-    }
-    for _ in 0..256 {
-        table.push((m - 1) as u8)?;
-    }
+    table.extend((0..256 * (m - 1)).map(
+        |_|
+            requires { (0 < m) × (m < 256) }
+        {
+            x = x.wrapping_mul(1103515245).wrapping_add(12345) % (1 << 31);
+            drawn(x, m, k)
+        },
+    ))?;
+    table.resize(table.len() + 256, (m - 1) as u8)?;
     Ok(Some(table))
 }
 
@@ -102,22 +115,28 @@ fn changed(
     Ok(Some(table))
 }
 
-// What a line makes of the table `old`; nothing where the line is bad.
-pub fn made(alloc: Global, case: &Case, old: &[u8]) -> Result<Option<Vec<u8>>, AllocError> {
-    let one = case.string(0);
-    let other = case.string(1);
-    match (case.kind, case.numbers.as_slice()) {
-        (b't', []) => Ok(Some(one.to_vec(alloc)?)),
-        (b'w', []) => by_runs(alloc, one, other),
-        (b'r', [a @ ..=0xffff, c @ ..=0xffff, d @ 1..]) => {
-            by_rule(alloc, one, *a as u16, *c as u16, *d)
+impl Table {
+    // What a line makes of the table `old`; nothing where the line is bad.
+    pub fn made(
+        self,
+        alloc: Global,
+        case: Case<'_>,
+        old: &[u8],
+    ) -> Result<Option<Vec<u8>>, AllocError> {
+        let one = case.string(0);
+        match (self, case.numbers) {
+            (Table::Whole, []) => Ok(Some(one.to_vec(alloc)?)),
+            (Table::Runs, []) => by_runs(alloc, one, case.string(1)),
+            (Table::Rule, [a @ ..=0xffff, c @ ..=0xffff, d @ 1..]) => {
+                by_rule(alloc, one, *a as u16, *c as u16, *d)
+            }
+            (Table::Draws, [seed, k]) if *seed < 1 << 31 => by_draws(alloc, one, *seed, *k),
+            (Table::Part, [at]) => changed(alloc, old, *at, one),
+            (Table::Front, [len]) => {
+                let front = old.get(..*len as usize);
+                Ok(front.map(|front| front.to_vec(alloc)).transpose()?)
+            }
+            _ => Ok(None),
         }
-        (b'd', [seed, k]) if *seed < 1 << 31 => by_draws(alloc, one, *seed, *k),
-        (b'c', [at]) => changed(alloc, old, *at, one),
-        (b'n', [len]) => match old.get(..*len as usize) {
-            Some(front) => Ok(Some(front.to_vec(alloc)?)),
-            None => Ok(None),
-        },
-        _ => Ok(None),
     }
 }

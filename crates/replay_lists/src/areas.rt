@@ -1,28 +1,48 @@
 // The areas that a list is replayed in.
-ghost use Rattle.std.specs.Prelude.{◌<◌};
-
 use replay::ReplayError;
 use std::alloc::{AllocError, Global};
 use std::fmt;
+use vectors::area::remainder;
 
 // What they hold before.
 const MARK: u8 = 0xa5;
 
 const NUMBER_MARK: u64 = 0xa5a5_a5a5_a5a5_a5a5;
 
-// How long they may be.
-const BLOCKS: u64 = 1300;
-
-const KEYS: u64 = 4096;
-
-const OUT: u64 = 4096;
-
-const ANSWERS: u64 = 2048;
-
 // The base and the modulus of an area's remainder.
 const BASE: u64 = 65599;
 
 const MODULUS: u64 = 4294967291;
+
+// How long the areas are: at most as long as they may be.
+#[derive(Clone, Copy)]
+pub struct Lens {
+    blocks: usize,
+    keys: usize,
+    out: usize,
+    answers: usize,
+}
+
+impl Lens {
+    // The four lengths of a line, if none is too long.
+    pub fn new(lens: [u64; 4]) -> Option<Lens> {
+        let [
+            blocks @ ..=1300,
+            keys @ ..=4096,
+            out @ ..=4096,
+            answers @ ..=2048,
+        ] = lens
+        else {
+            return None;
+        };
+        Some(Lens {
+            blocks: blocks as usize,
+            keys: keys as usize,
+            out: out as usize,
+            answers: answers as usize,
+        })
+    }
+}
 
 #[derive(Drop)]
 pub struct Areas {
@@ -33,23 +53,14 @@ pub struct Areas {
 }
 
 impl Areas {
-    // Areas of these lengths, full of marks; none where one is too long.
-    pub fn new(
-        alloc: Global,
-        blocks: u64,
-        keys: u64,
-        out: u64,
-        answers: u64,
-    ) -> Result<Option<Areas>, AllocError> {
-        if blocks > BLOCKS || keys > KEYS || out > OUT || answers > ANSWERS {
-            return Ok(None);
-        }
-        Ok(Some(Areas {
-            blocks: vec![in alloc; NUMBER_MARK; blocks as usize]?,
-            keys: vec![in alloc; MARK; keys as usize]?,
-            out: vec![in alloc; MARK; out as usize]?,
-            answers: vec![in alloc; NUMBER_MARK; answers as usize]?,
-        }))
+    // Areas of these lengths, full of marks.
+    pub fn new(alloc: Global, lens: Lens) -> Result<Areas, AllocError> {
+        Ok(Areas {
+            blocks: vec![in alloc; NUMBER_MARK; lens.blocks]?,
+            keys: vec![in alloc; MARK; lens.keys]?,
+            out: vec![in alloc; MARK; lens.out]?,
+            answers: vec![in alloc; NUMBER_MARK; lens.answers]?,
+        })
     }
 
     pub fn replay(&mut self, list: &[u8]) -> Result<(), ReplayError> {
@@ -63,23 +74,13 @@ impl Areas {
     }
 }
 
-// The remainder of the number that the items spell, the first one highest.
-fn remainder<T: Copy + Into<u64>>(items: &[T]) -> u64 {
-    let mut h: u64 = 0;
-    for item in items {
-        let digit: u64 = (*item).into();
-        h = (BASE * h + digit % MODULUS) % MODULUS;
-    }
-    h
-}
-
 // A remainder of each area, so that any other byte shows.
 impl fmt::Display for Areas {
     fn fmt<W: fmt::Write>(&self, f: &mut fmt::Formatter<W>) -> fmt::Result {
-        let blocks = remainder(&self.blocks);
-        let keys = remainder(&self.keys);
-        let out = remainder(&self.out);
-        let answers = remainder(&self.answers);
+        let blocks = remainder(&self.blocks, BASE, MODULUS);
+        let keys = remainder(&self.keys, BASE, MODULUS);
+        let out = remainder(&self.out, BASE, MODULUS);
+        let answers = remainder(&self.answers, BASE, MODULUS);
         write!(f, "areas {blocks} {keys} {out} {answers}")
     }
 }

@@ -1,17 +1,16 @@
 // A list put together from the parts of a line.
 use std::alloc::{AllocError, Global};
+use vectors::Case;
 
 // One byte more than the longest list.
 const LIST_LEN: usize = 32768;
 
 // Each part as often as its count says; none where that is too long.
-pub fn join(
-    alloc: Global,
-    counts: &[u64],
-    parts: &[Vec<u8>],
-) -> Result<Option<Vec<u8>>, AllocError> {
+pub fn join(alloc: Global, counts: &[u64], case: Case<'_>) -> Result<Option<Vec<u8>>, AllocError> {
     let mut list = Vec::new(alloc);
-    for (count, part) in counts.iter().zip(parts) {
+    // Loops, which stop once the list is too long: a count may be any number.
+    for (k, count) in counts.iter().enumerate() {
+        let part = case.string(k);
         for _ in 0..*count {
             list.extend_from_slice(part)?;
             if list.len() >= LIST_LEN {

@@ -5,59 +5,63 @@ mod areas;
 mod list;
 mod prints;
 
-use areas::Areas;
-use std::alloc::{AllocError, Global};
+use areas::{Areas, Lens};
 use std::io;
-use vectors::{Case, Line, driver};
+use vectors::{Case, Line, Room, driver};
 
-// The list of a line, and the areas that it is replayed in. Its first four numbers are the areas' lengths, the others say how often
-// each part stands there. None where the line isn't so.
-fn parts(alloc: Global, case: &Case) -> Result<Option<(Vec<u8>, Areas)>, AllocError> {
-    let [blocks, keys, out, answers, counts @ ..] = case.numbers.as_slice() else {
-        return Ok(None);
-    };
-    if case.kind != b'l'
-        || counts.len() != case.strings.len()
-        || !case.is_within(260, 256, 16_384)
-    {
-        return Ok(None);
-    }
-    let Some(areas) = Areas::new(alloc, *blocks, *keys, *out, *answers)? else {
-        return Ok(None);
-    };
-    match list::join(alloc, counts, &case.strings)? {
-        Some(list) => Ok(Some((list, areas))),
-        None => Ok(None),
+// What a line asks to be replayed: the parts of a list, how often each stands in it, and the lengths of the areas.
+#[derive(Clone, Copy)]
+struct Asked<'a> {
+    case: Case<'a>,
+    lens: Lens,
+    counts: &'a [u64],
+}
+
+impl<'a> Asked<'a> {
+    // What a line asks, if it is one of its kind: the letter `l`, four lengths, and a count for each part.
+    fn read(line: Line<'a>) -> Option<Asked<'a>> {
+        let Line::Case(case) = line else {
+            return None;
+        };
+        let [blocks, keys, out, answers, counts @ ..] = case.numbers else {
+            return None;
+        };
+        let lens = Lens::new([*blocks, *keys, *out, *answers])?;
+        let is_whole = case.kind == b'l' && counts.len() == case.spans.len();
+        is_whole.then_some(Asked { case, lens, counts })
     }
 }
 
 // Replays the list of a line.
-fn replay(rt: &(impl AllocGlobal + Print), line: &Line) -> io::Result<()> {
-    if let Line::Case(case) = line {
-        if let Some((list, mut areas)) = parts(rt.alloc(), case)? {
-            return prints::replayed(rt, &list, &mut areas);
-        }
+fn replay(rt: &(impl AllocGlobal + Print), line: Line<'_>) -> io::Result<()> {
+    let Some(asked) = Asked::read(line) else {
+        return prints::bad_line(rt);
+    };
+    match list::join(rt.alloc(), asked.counts, asked.case)? {
+        Some(list) => prints::replayed(rt, &list, &mut Areas::new(rt.alloc(), asked.lens)?),
+        None => prints::bad_line(rt),
     }
-    prints::bad_line(rt)
 }
 
 // Replays all lists of the text.
 fn replay_all(rt: &(impl AllocGlobal + Print), text: &[u8]) -> io::Result<()> {
+    let mut room = Room::new(rt.alloc(), 260, 256, 16_384)?;
     let mut place: u64 = 0;
     for line in text.split_inclusive(|byte| *byte == b'\n') {
-        let line = vectors::parse(rt.alloc(), line.strip_suffix(b"\n").unwrap_or(line))?;
+        let line = room.parse(line);
         if !matches!(line, Line::Comment) {
             place = place.saturating_add(1);
             print!(rt; "list {place}: ")?;
-            replay(rt, &line)?;
+            replay(rt, line)?;
         }
     }
     Ok(())
 }
 
 fn main(rt: HostRuntime) -> io::Result<()> {
-    match driver::read(&rt)? {
-        Some(text) => replay_all(&rt, &text),
-        None => Ok(()),
+    let mut area = vec![in rt.alloc(); 0u8; driver::TEXT_LEN]?;
+    if let Some(text) = driver::read(&rt, &mut area)? {
+        replay_all(&rt, text)?;
     }
+    Ok(())
 }

@@ -2,27 +2,14 @@
 use crate::areas::Areas;
 use replay::cells::WIDTH;
 use replay::format::Head;
-use std::{fmt, io};
-
-// Bytes as lower-case hex.
-#[derive(Clone, Copy)]
-struct Hex<'a>(&'a [u8]);
-
-impl fmt::Display for Hex<'_> {
-    fn fmt<W: fmt::Write>(&self, f: &mut fmt::Formatter<W>) -> fmt::Result {
-        for byte in self.0 {
-            write!(f, "{byte:02x}")?;
-        }
-        Ok(())
-    }
-}
+use std::io;
 
 pub fn bad_line(rt: &impl Print) -> io::Result<()> {
     rt.println("bad line")
 }
 
 // The answers to a list, five numbers each, and its index.
-fn answers(rt: &impl Print, list: &[u8], areas: &Areas) -> io::Result<()> {
+fn answers(rt: &(impl AllocGlobal + Print), list: &[u8], areas: &Areas) -> io::Result<()> {
     let Some(head) = Head::read(list) else {
         return bad_line(rt);
     };
@@ -34,14 +21,17 @@ fn answers(rt: &impl Print, list: &[u8], areas: &Areas) -> io::Result<()> {
     for [no, a, b, c, d] in rows {
         println!(rt; "{no} {a} {b} {c} {d}")?;
     }
-    // finish's answer stands behind the calls', its total behind its number
-    let total = rows.get(calls).map_or(0, |row| row[1]);
-    let index = areas.out.get(..total as usize).unwrap_or(&[]);
-    println!(rt; "x{}", Hex(index))
+    // finish's answer stands behind the calls', its total behind its number: 0 where it is refused, and has no index
+    let index = rows
+        .get(calls)
+        .and_then(|[_, total, ..]| areas.out.get(..*total as usize))
+        .unwrap_or(&[]);
+    let index = hex::encode(rt.alloc(), index)?;
+    println!(rt; "x{index}")
 }
 
 // Replays the list, and prints its number; where that is 0 its answers too; and what it leaves.
-pub fn replayed(rt: &impl Print, list: &[u8], areas: &mut Areas) -> io::Result<()> {
+pub fn replayed(rt: &(impl AllocGlobal + Print), list: &[u8], areas: &mut Areas) -> io::Result<()> {
     match areas.replay(list) {
         Ok(()) => {
             rt.println(0)?;

@@ -1,5 +1,5 @@
 // Blocks in an area of numbers, three a block.
-ghost use Rattle.std.specs.Prelude.{◌≡◌, true, ℕ, suc, ◌*◌, ◌≤◌, ◌<◌, length};
+ghost use Rattle.std.specs.Prelude.{◌≡◌, true, ℕ, suc, ◌+◌, ◌*◌, ◌≤◌, ◌<◌, length};
 ghost use Rattle.group.specs.Blocks.{block_at};
 ghost use Rattle.group.specs.Legal.{NumbersOk, Follows};
 
@@ -10,17 +10,30 @@ use store_write::AreaStore;
 
 pub const STRIDE: usize = 3;
 
+// Whether block i's numbers keep their limits.
+fn is_legal(area: &[u64], i: usize) -> bool
+    requires { 3 * i + 3 ≤ length area.now }
+    ensures { result ≡ true → NumbersOk (block_at area.now 3 i) }
+{
+    !block_at(area, STRIDE * i).numbers_bad()
+}
+
+// Whether the block behind block i follows it.
+fn is_followed(area: &[u64], i: usize) -> bool
+    requires { 3 * i + 6 ≤ length area.now }
+    ensures { result ≡ true → Follows (block_at area.now 3 i) (block_at area.now 3 (suc i)) }
+{
+    let before = block_at(area, STRIDE * i);
+    let block = block_at(area, STRIDE * (i + 1));
+    !block.join_bad(before) && !block.ordinal_bad(before)
+}
+
 // Whether the numbers of n blocks keep their limits.
 fn have_legal_numbers(area: &[u64], n: usize) -> bool
     requires { 3 * n ≤ length area.now }
     ensures { result ≡ true → (i : ℕ) → i < n → NumbersOk (block_at area.now 3 i) }
 {
-    for i in 0..n {
-        if block_at(area, STRIDE * i).numbers_bad() {
-            return false;
-        }
-    }
-    true
+    (0..n).all(|i| is_legal(area, i))
 }
 
 // Whether each of n blocks follows the one before it.
@@ -29,14 +42,7 @@ fn follow(area: &[u64], n: usize) -> bool
     ensures { result ≡ true → (i : ℕ) → suc i < n
         → Follows (block_at area.now 3 i) (block_at area.now 3 (suc i)) }
 {
-    for i in 0..n.saturating_sub(1) {
-        let before = block_at(area, STRIDE * i);
-        let block = block_at(area, STRIDE * (i + 1));
-        if block.join_bad(before) || block.ordinal_bad(before) {
-            return false;
-        }
-    }
-    true
+    (0..n.saturating_sub(1)).all(|i| is_followed(area, i))
 }
 
 // The blocks in an area of just their numbers, if they are legal.
@@ -84,6 +90,7 @@ pub fn generate(alloc: Global, seed: u64, count: usize) -> Result<Vec<u64>, Allo
     let mut area = Vec::new(alloc);
     let mut start = draws.next() << k;
     let mut ordinal = draws.next();
+    // A `for`, since a fold's closure may not run out of memory, as pushing may.
     for _ in 0..count {
         let end = start.saturating_add(size(draws.next(), k));
         area.extend_from_slice(&[start, end, ordinal])?;

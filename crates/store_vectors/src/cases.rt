@@ -52,11 +52,7 @@ pub fn is_block(given: &[u64], store: &[u8]) -> bool {
     let [n, id, start, end, first_ordinal] = *given else {
         return false;
     };
-    let block = BlockAddr {
-        start,
-        end,
-        first_ordinal,
-    };
+    let block = BlockAddr::from([start, end, first_ordinal]);
     stores::get(store, n as usize, id as usize) == Some(block)
 }
 
@@ -73,11 +69,7 @@ pub fn is_located(given: &[u64], store: &[u8]) -> bool {
     let [n, ord, id, start, end, first_ordinal] = *given else {
         return false;
     };
-    let block = BlockAddr {
-        start,
-        end,
-        first_ordinal,
-    };
+    let block = BlockAddr::from([start, end, first_ordinal]);
     stores::locate(store, n as usize, ord).is_some_and(|found| found.block_id as u64 == id
         && found.addr == block)
 }

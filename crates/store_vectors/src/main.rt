@@ -8,33 +8,48 @@ mod stores;
 
 use std::alloc::{AllocError, Global};
 use std::io;
-use vectors::driver::Kind;
+use vectors::driver::Letter;
 use vectors::{Case, driver};
 
-// Each kind of line with the row of its tally and how many byte strings its lines have.
-const KINDS: [Kind; 5] = [
-    Kind {
+// What a line is about.
+#[derive(Clone, Copy)]
+enum Kind {
+    Store,
+    Large,
+    Block,
+    Unknown,
+    Located,
+}
+
+// The letter of each kind, with the row of its tally and how many byte strings its lines have.
+const LETTERS: [Letter<Kind>; 5] = [
+    Letter {
         letter: b's',
+        kind: Kind::Store,
         row: Some(0),
         strings: 1,
     },
-    Kind {
+    Letter {
         letter: b'h',
+        kind: Kind::Large,
         row: Some(1),
         strings: 0,
     },
-    Kind {
+    Letter {
         letter: b'i',
+        kind: Kind::Block,
         row: Some(2),
         strings: 1,
     },
-    Kind {
+    Letter {
         letter: b'u',
+        kind: Kind::Unknown,
         row: Some(3),
         strings: 1,
     },
-    Kind {
+    Letter {
         letter: b'o',
+        kind: Kind::Located,
         row: Some(4),
         strings: 1,
     },
@@ -42,20 +57,24 @@ const KINDS: [Kind; 5] = [
 
 const ROWS: [&str; 5] = ["stores", "large stores", "ids", "unknown ids", "ordinals"];
 
-// Whether a case's answers are those of the proved functions.
-fn is_same(alloc: Global, case: &Case) -> Result<bool, AllocError> {
-    let given = case.numbers.as_slice();
+// Whether a case's answers are those of the proved functions. `alloc` goes along to where a Vec is made, which asks for it.
+fn is_same(alloc: Global, kind: Kind, case: Case<'_>) -> Result<bool, AllocError> {
+    let given = case.numbers;
     let store = case.string(0);
-    match case.kind {
-        b's' => cases::is_store(alloc, given, store),
-        b'h' => cases::is_large(alloc, given),
-        b'i' => Ok(cases::is_block(given, store)),
-        b'u' => Ok(cases::is_unknown(given)),
-        b'o' => Ok(cases::is_located(given, store)),
-        _ => Ok(false),
+    match kind {
+        Kind::Store => cases::is_store(alloc, given, store),
+        Kind::Large => cases::is_large(alloc, given),
+        Kind::Block => Ok(cases::is_block(given, store)),
+        Kind::Unknown => Ok(cases::is_unknown(given)),
+        Kind::Located => Ok(cases::is_located(given, store)),
     }
 }
 
 fn main(rt: HostRuntime) -> io::Result<()> {
-    driver::replay(&rt, &KINDS, &ROWS, |case| Ok(is_same(rt.alloc(), case)?))
+    driver::replay(
+        &rt,
+        &LETTERS,
+        &ROWS,
+        |kind, case| Ok(is_same(rt.alloc(), kind, case)?),
+    )
 }

@@ -11,6 +11,7 @@ use store::Located;
 use store::grouping::Grouping;
 use store_read::BlockAddrStore;
 use store_write::AreaStore;
+use vectors::area::front;
 
 // What fills an area before a store is written into it.
 const MARK: u8 = 0xa5;
@@ -35,7 +36,7 @@ fn write(blocks: &AreaStore, kept: &mut [u64], out: &mut [u8]) -> Option<usize>
         return None;
     }
     let written = blocks.serialize(kept, &mut out[PLACE..]);
-    if written == len { Some(len) } else { None }
+    (written == len).then_some(len)
 }
 
 // The blocks' store, if no other bytes are written.
@@ -47,10 +48,10 @@ pub fn written(alloc: Global, blocks: &AreaStore) -> Result<Option<Vec<u8>>, All
     let mut kept = vec![in alloc; 0u64; PLAN_LEN * grouping.group_count()]?;
     let mut out = vec![in alloc; MARK; AREA_LEN]?;
     let len = write(blocks, &mut kept, &mut out);
-    match len.and_then(|len| framed(&out, len)) {
-        Some(store) => Ok(Some(store.to_vec(alloc)?)),
-        None => Ok(None),
-    }
+    let Some(store) = len.and_then(|len| framed(&out, len)) else {
+        return Ok(None);
+    };
+    Ok(Some(store.to_vec(alloc)?))
 }
 
 // Whether the blocks' store, written from a slice of structs, is this one.
@@ -59,10 +60,9 @@ pub fn is_written_from_slice(
     blocks: &AreaStore,
     store: &[u8],
 ) -> Result<bool, AllocError> {
-    let mut records = Vec::new(alloc);
-    for i in 0..blocks.n {
-        records.push(block_at(blocks.area, STRIDE * i))?;
-    }
+    let records: Vec<BlockAddr> = (0..blocks.n)
+        .map(|id| block_at(blocks.area, STRIDE * id))
+        .collect(alloc)?;
     let mut out = vec![in alloc; MARK; AREA_LEN]?;
     let written = store_slice::serialize(&records, &mut out[PLACE..]);
     Ok(written.is_ok_and(|len| framed(&out, len) == Some(store)))
@@ -75,18 +75,14 @@ pub fn are_found(blocks: &AreaStore, store: &[u8]) -> bool {
 
 // The `len` bytes from PLACE on, if all others are as they were.
 fn framed(area: &[u8], len: usize) -> Option<&[u8]> {
-    let (front, rest) = area.split_at_checked(PLACE)?;
-    let (store, behind) = rest.split_at_checked(len)?;
-    if front.iter().chain(behind).all(|byte| *byte == MARK) {
-        Some(store)
-    } else {
-        None
-    }
+    let (before, rest) = area.split_at_checked(PLACE)?;
+    let store = front(rest, len, MARK)?;
+    before.iter().all(|byte| *byte == MARK).then_some(store)
 }
 
 // The store in these bytes, if it has records for n blocks.
 fn open(store: &[u8], n: usize) -> Option<BlockAddrStore<'_>> {
-    if n < 1 || n > MAX_BLOCKS {
+    if !(1..=MAX_BLOCKS).contains(&n) {
         return None;
     }
     let (head, rest) = store.split_at_checked(LENGTH)?;

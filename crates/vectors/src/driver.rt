@@ -1,10 +1,10 @@
 // What the programs that replay a list share: its text, a case from each line, and the count of the cases that differ.
-ghost use Rattle.std.specs.Prelude.{◌≡◌, ◌<◌, IfOk, IfSome, length, take, vec_len};
+ghost use Rattle.std.specs.Prelude.{◌≡◌, ◌≤◌, ◌<◌, IfOk, IfSome, length, take, vec_len};
 ghost use Rattle.std.specs.Io.{ReadsAtMost};
 ghost use Rattle.std.specs.Io.KnownBytes.{Consumes, IsAtEnd};
 
 use crate::tally::Tallies;
-use crate::{Case, Line};
+use crate::{Case, Line, Room};
 use std::alloc::{AllocError, Global};
 use std::io;
 use std::io::Read;
@@ -12,16 +12,18 @@ use std::io::Read;
 // One byte more than the longest text.
 pub const TEXT_LEN: usize = 327680;
 
-// A kind of line: its letter, the row of its tally, and how many byte strings it has. One without a row only sets something, and is
-// counted where it differs.
+// A letter that lines begin with: the kind of these, the row of their tally, and how many byte strings they have. One without a
+// row only sets something, and is counted where it differs. A row is its place in the list of names: several letters share one.
 #[derive(Clone, Copy, Debug)]
-pub struct Kind {
+pub struct Letter<K> {
     pub letter: u8,
+    pub kind: K,
     pub row: Option<usize>,
     pub strings: usize,
 }
 
-// Reads until the area is full or the input ends, and returns how many bytes were read to the front of the area.
+// Reads until the area is full or the input ends, and returns how many bytes were read to the front of the area. std's read_to_end
+// fills no lent area, and its read_exact doesn't say how many bytes came before the end.
 pub fn fill<R: Read>(reader: &mut R, area: &mut [u8]) -> io::Result<usize>
     ensures bound { ReadsAtMost result area.new }
     ensures bytes { IfOk result (λ n. Consumes (R.remaining reader.old) (R.remaining reader.new) (take n area.new)) }
@@ -39,65 +41,75 @@ pub fn fill<R: Read>(reader: &mut R, area: &mut [u8]) -> io::Result<usize>
     Ok(done)
 }
 
-// Reads the text. One that fills its area is too long, and said to be.
-pub fn read(rt: &(impl Input + Print + AllocGlobal)) -> io::Result<Option<Vec<u8>>>
-    ensures { IfOk result (λ text. IfSome text (λ bytes. vec_len bytes < TEXT_LEN)) }
+// The first n bytes, if they don't fill the area.
+fn text_in(area: &[u8], n: usize) -> Option<&[u8]>
+    requires { n ≤ length area.now }
+    ensures { IfSome result (λ text. length text.now < length area.now) }
 {
-    let mut text = vec![in rt.alloc(); 0u8; TEXT_LEN]?;
-    let n = fill(&mut rt.reader(), &mut text)?;
-    if n == TEXT_LEN {
+    (n < area.len()).then_some(&area[..n])
+}
+
+// Reads the text to the front of the area. One that fills it is too long, and said to be. The area is lent, so that reading
+// allocates nothing.
+pub fn read<'a>(rt: &(impl Input + Print), area: &'a mut [u8]) -> io::Result<Option<&'a [u8]>>
+    ensures { IfOk result (λ read. IfSome read (λ text. length text.now < length area.old)) }
+{
+    let n = fill(&mut rt.reader(), area)?;
+    let text = text_in(area, n);
+    if text.is_none() {
         println!(rt; "too long")?;
-        return Ok(None);
     }
-    text.truncate(n);
-    Ok(Some(text))
+    Ok(text)
 }
 
-// The kind of a line, by its first byte.
-fn kind_of(kinds: &[Kind], line: &[u8]) -> Option<Kind> {
-    let letter = *line.first()?;
-    kinds.iter().copied().find(|kind| kind.letter == letter)
-}
-
-// A line holds no more than so many numbers, byte strings, and bytes of these.
+// A line of these programs holds no more than so many numbers, byte strings, and bytes of these.
 const MOST_NUMBERS: usize = 520;
 
 const MOST_STRINGS: usize = 3;
 
 const MOST_BYTES: usize = 8_192;
 
-// Whether a case has as many byte strings as its kind, and no more than a line may hold.
-fn fits(kind: Option<Kind>, case: &Case) -> bool {
-    case.is_within(MOST_NUMBERS, MOST_STRINGS, MOST_BYTES)
-        && kind.is_some_and(|kind| kind.strings == case.strings.len())
+// What a line begins with.
+fn letter_of<'a, K>(letters: &'a [Letter<K>], line: &[u8]) -> Option<&'a Letter<K>> {
+    let first = *line.first()?;
+    letters.iter().find(|letter| letter.letter == first)
 }
 
-// The lines of a text, each without the byte that ends it.
+// The kind of a case, if it has as many byte strings as its letter says.
+fn fitting<K: Copy>(letter: Option<&Letter<K>>, case: Case<'_>) -> Option<K> {
+    let letter = letter?;
+    (letter.strings == case.spans.len()).then_some(letter.kind)
+}
+
+// The lines of a text, each with the byte that ends it. A Vec, since a `for` over the split itself gets no proof beside a closure
+// that is called each turn.
 fn lines(alloc: Global, text: &[u8]) -> Result<Vec<&[u8]>, AllocError> {
-    text.split_inclusive(|byte| *byte == b'\n')
-        .map(|line| line.strip_suffix(b"\n").unwrap_or(line))
-        .collect(alloc)
+    text.split_inclusive(|byte| *byte == b'\n').collect(alloc)
 }
 
-// Counts the case of each line. A bad line differs, and so does one with another number of byte strings than its kind.
-pub fn compare<F: FnMut(&Case) -> io::Result<bool>>(
+// Counts the case of each line. A bad line differs, and so does one with another number of byte strings than its letter's.
+pub fn compare<K: Copy, F: FnMut(K, Case<'_>) -> io::Result<bool>>(
     alloc: Global,
     text: &[u8],
-    kinds: &[Kind],
+    letters: &[Letter<K>],
     tallies: &mut Tallies,
     mut same: F,
 ) -> io::Result<()>
     requires { F.IsAlwaysCallable same }
     ensures { vec_len tallies.new.rows ≡ vec_len tallies.old.rows }
 {
+    let mut room = Room::new(alloc, MOST_NUMBERS, MOST_STRINGS, MOST_BYTES)?;
     for line in &lines(alloc, text)? {
-        let kind = kind_of(kinds, line);
-        let is_same = match crate::parse(alloc, line)? {
+        let letter = letter_of(letters, line);
+        let is_same = match room.parse(line) {
             Line::Comment => continue,
             Line::Bad => false,
-            Line::Case(case) => fits(kind, &case) && same(&case)?,
+            Line::Case(case) => match fitting(letter, case) {
+                Some(kind) => same(kind, case)?,
+                None => false,
+            },
         };
-        let row = kind.and_then(|kind| kind.row);
+        let row = letter.and_then(|letter| letter.row);
         if row.is_some() || !is_same {
             tallies.count(row, is_same);
         }
@@ -106,17 +118,18 @@ pub fn compare<F: FnMut(&Case) -> io::Result<bool>>(
 }
 
 // Compares the cases of the text on the input, and prints for each row and for all cases how many were compared, and how many differ.
-pub fn replay<F: FnMut(&Case) -> io::Result<bool>>(
+pub fn replay<K: Copy, F: FnMut(K, Case<'_>) -> io::Result<bool>>(
     rt: &(impl Input + Print + AllocGlobal),
-    kinds: &[Kind],
+    letters: &[Letter<K>],
     rows: &[&str],
     same: F,
 ) -> io::Result<()>
     requires { F.IsAlwaysCallable same }
 {
-    if let Some(text) = read(rt)? {
+    let mut area = vec![in rt.alloc(); 0u8; TEXT_LEN]?;
+    if let Some(text) = read(rt, &mut area)? {
         let mut tallies = Tallies::new(rt.alloc(), rows)?;
-        compare(rt.alloc(), &text, kinds, &mut tallies, same)?;
+        compare(rt.alloc(), text, letters, &mut tallies, same)?;
         tallies.print(rt)?;
     }
     Ok(())

@@ -2,62 +2,72 @@
 // byte string in lower-case hex, any other a decimal number. A line that begins with `#` is a comment.
 #![tactic(auto)]
 
+pub mod area;
 pub mod driver;
 pub mod tally;
 pub mod told;
 
-ghost use Rattle.std.specs.Prelude.{◌≡◌, ◌≤◌, ◌<◌, true, [], length, IfOk, IfSome, MatchOption, get_or, slice_get};
-ghost use Rattle.vectors.specs.Cases.{BeginsWith};
+ghost use Rattle.std.specs.Prelude.{◌≡◌, ◌≤◌, ◌<◌, ◌-◌, true, [], length, take, drop};
+ghost use Rattle.std.specs.Prelude.{IfOk, IfSome, MatchOption, get_or, slice_get, vec_len};
+ghost use Rattle.vectors.specs.Cases.{BeginsWith, FitsInto};
 
 use std::alloc::{AllocError, Global};
 
-// What a line holds, in the order of its tokens.
-#[derive(Debug, Drop)]
-pub struct Case {
+// Where a byte string stands among the bytes of a line.
+#[derive(Clone, Copy, Debug, Default)]
+pub struct Span {
+    pub from: usize,
+    pub end: usize,
+}
+
+// What a line holds, in the order of its tokens: its numbers, and the bytes of its byte strings with the places of each, since
+// they lie in lent areas, so that reading a line can't run out of memory.
+#[derive(Clone, Copy, Debug)]
+pub struct Case<'a> {
     pub kind: u8,
-    pub numbers: Vec<u64>,
-    pub strings: Vec<Vec<u8>>,
+    pub numbers: &'a [u64],
+    pub bytes: &'a [u8],
+    pub spans: &'a [Span],
 }
 
 // A line: one that isn't of the form above is bad.
-#[derive(Debug, Drop)]
-pub enum Line {
+#[derive(Clone, Copy, Debug)]
+pub enum Line<'a> {
     Comment,
-    Case(Case),
+    Case(Case<'a>),
     Bad,
 }
 
-impl Case {
-    // Number k; 0 where there is none.
-    pub fn number(&self, k: usize) -> u64
-        ensures { result ≡ get_or self.now.numbers.items k 0 }
+impl<'a> Case<'a> {
+    // Number k; 0 where there is none. Who wants an Option has the `get` of `numbers`.
+    pub fn number(self, k: usize) -> u64
+        ensures { result ≡ get_or self.entry.numbers.now k 0 }
     {
         self.numbers.get(k).copied().unwrap_or(0)
     }
 
-    // Byte string k; the empty one where there is none.
-    pub fn string(&self, k: usize) -> &[u8]
-        ensures { MatchOption (slice_get self.now.strings.items k) (result.now ≡ []) (λ bytes. result.now ≡ bytes.items) }
+    // Byte string k; the empty one where there is none, so that a program can take it before it asks how many the kind has.
+    pub fn string(self, k: usize) -> &'a [u8]
+        ensures { MatchOption (slice_get self.entry.spans.now k) (result.now ≡ [])
+            (λ span. span.from ≤ span.end → span.end ≤ length self.entry.bytes.now
+            → result.now ≡ take (span.end - span.from) (drop span.from self.entry.bytes.now)) }
     {
-        match self.strings.get(k) {
-            Some(bytes) => bytes,
-            None => &[],
-        }
+        self.spans
+            .get(k)
+            .and_then(|span| self.bytes.get(span.from..span.end))
+            .unwrap_or(&[])
     }
 
     // Whether it holds no more than so many numbers, byte strings, and bytes of these.
-    pub fn is_within(&self, numbers: usize, strings: usize, bytes: usize) -> bool
-        ensures { result ≡ true → (length self.now.numbers.items ≤ numbers) × (length self.now.strings.items ≤ strings) }
+    pub fn is_within(self, numbers: usize, strings: usize, bytes: usize) -> bool
+        ensures { result ≡ true → (length self.entry.numbers.now ≤ numbers)
+            × (length self.entry.spans.now ≤ strings) × (length self.entry.bytes.now ≤ bytes) }
     {
-        let mut held: usize = 0;
-        for string in &self.strings {
-            held = held.saturating_add(string.len());
-        }
-        self.numbers.len() <= numbers && self.strings.len() <= strings && held <= bytes
+        self.numbers.len() <= numbers && self.spans.len() <= strings && self.bytes.len() <= bytes
     }
 }
 
-// The value of a lower-case hex digit.
+// The value of a lower-case hex digit. std's to_digit and from_str_radix take upper case, too.
 fn hex_digit(byte: u8) -> Option<u8>
     ensures { IfSome result (λ digit. digit < 16) }
 {
@@ -70,80 +80,136 @@ fn hex_digit(byte: u8) -> Option<u8>
 
 // The decimal number that a token spells, if it is one of at most 2^64 - 1.
 fn decimal(token: &[u8]) -> Option<u64> {
-    if token.is_empty() {
+    // std's parse takes a sign, too.
+    if !token.iter().all(|byte| byte.is_ascii_digit()) {
         return None;
     }
-    let mut value: u64 = 0;
-    for byte in token {
-        if !byte.is_ascii_digit() {
-            return None;
-        }
-        value = value.checked_mul(10)?.checked_add(u64::from(*byte - b'0'))?;
-    }
-    Some(value)
+    std::str::from_utf8(token).ok()?.parse().ok()
 }
 
-// The bytes that hex digits spell, two each.
-fn hex(alloc: Global, digits: &[u8]) -> Result<Option<Vec<u8>>, AllocError> {
-    let mut bytes = Vec::new(alloc);
-    for pair in digits.chunks(2) {
-        let [high, low] = pair else {
-            return Ok(None);
-        };
-        let (Some(high), Some(low)) = (hex_digit(*high), hex_digit(*low)) else {
-            return Ok(None);
-        };
-        bytes.push(16 * high + low)?;
-    }
-    Ok(Some(bytes))
-}
-
-// Takes a token into the case. False where it is none.
-fn take_token(alloc: Global, token: &[u8], case: &mut Case) -> Result<bool, AllocError>
-    ensures { case.new.kind ≡ case.old.kind }
+// Puts the bytes that hex digits spell, two each, to the front of the area. How many, if they are digits and have room.
+fn hex(digits: &[u8], area: &mut [u8]) -> Option<usize>
+    ensures { (length area.new ≡ length area.old) × IfSome result (λ n. n ≤ length area.new) }
 {
-    if let Some(digits) = token.strip_prefix(b"x") {
-        let Some(bytes) = hex(alloc, digits)? else {
-            return Ok(false);
-        };
-        case.strings.push(bytes)?;
-    } else {
-        let Some(number) = decimal(token) else {
-            return Ok(false);
-        };
-        case.numbers.push(number)?;
+    let (pairs, []) = digits.as_chunks::<2>() else {
+        return None;
+    };
+    let front = area.get_mut(..pairs.len())?;
+    for (byte, [high, low]) in front.iter_mut().zip(pairs) {
+        *byte = 16 * hex_digit(*high)? + hex_digit(*low)?;
     }
-    Ok(true)
+    Some(pairs.len())
 }
 
-// Reads a line, without the byte that ends it.
-pub fn parse(alloc: Global, line: &[u8]) -> Result<Line, AllocError>
-    ensures { IfOk result (λ read. BeginsWith line.now read) }
+// Reads a line, with or without the byte that ends it. Its numbers go to the front of `numbers`, the bytes of its byte strings and
+// their places to the front of `bytes` and `spans`. A line that has more than fits there is bad. The areas are lent, so that reading
+// a line can't run out of memory.
+pub fn parse<'a>(
+    line: &[u8],
+    numbers: &'a mut [u64],
+    bytes: &'a mut [u8],
+    spans: &'a mut [Span],
+) -> Line<'a>
+    ensures kind { BeginsWith line.now result }
+    ensures fits { FitsInto (length numbers.old) (length bytes.old) (length spans.old) result }
 {
-    let Some((kind, rest)) = line.split_first() else {
-        return Ok(Line::Bad);
+    let Some((kind, tokens)) = line.strip_suffix(b"\n").unwrap_or(line).split_first() else {
+        return Line::Bad;
     };
     if *kind == b'#' {
-        return Ok(Line::Comment);
+        return Line::Comment;
     }
     if !kind.is_ascii_alphabetic() {
-        return Ok(Line::Bad);
+        return Line::Bad;
     }
-    let mut case = Case {
-        kind: *kind,
-        numbers: Vec::new(alloc),
-        strings: Vec::new(alloc),
+    let Some(held) = take_tokens(tokens, numbers, bytes, spans) else {
+        return Line::Bad;
     };
-    let Some((space, tokens)) = rest.split_first() else {
-        return Ok(Line::Case(case));
+    Line::Case(Case {
+        kind: *kind,
+        numbers: &numbers[..held.numbers],
+        bytes: &bytes[..held.bytes],
+        spans: &spans[..held.strings],
+    })
+}
+
+// How much of the areas the tokens so far fill: they are lent, and their lengths stay.
+#[derive(Clone, Copy, Default)]
+struct Held {
+    numbers: usize,
+    bytes: usize,
+    strings: usize,
+}
+
+// Takes tokens, each behind a space, to the front of the areas, if all are good and have room.
+fn take_tokens(
+    tokens: &[u8],
+    numbers: &mut [u64],
+    bytes: &mut [u8],
+    spans: &mut [Span],
+) -> Option<Held>
+    ensures lengths { (length numbers.new ≡ length numbers.old) × (length bytes.new ≡ length bytes.old)
+        × (length spans.new ≡ length spans.old) }
+    ensures held { IfSome result (λ held. (held.numbers ≤ length numbers.new) × (held.bytes ≤ length bytes.new)
+        × (held.strings ≤ length spans.new)) }
+{
+    let mut held = Held::default();
+    let Some((space, tokens)) = tokens.split_first() else {
+        return Some(held);
     };
     if *space != b' ' {
-        return Ok(Line::Bad);
+        return None;
     }
     for token in tokens.split(|byte| *byte == b' ') {
-        if !take_token(alloc, token, &mut case)? {
-            return Ok(Line::Bad);
+        match token.strip_prefix(b"x") {
+            Some(digits) => {
+                let from = held.bytes;
+                held.bytes += hex(digits, &mut bytes[from..])?;
+                *spans.get_mut(held.strings)? = Span {
+                    from,
+                    end: held.bytes,
+                };
+                held.strings += 1;
+            }
+            None => {
+                *numbers.get_mut(held.numbers)? = decimal(token)?;
+                held.numbers += 1;
+            }
         }
     }
-    Ok(Line::Case(case))
+    Some(held)
+}
+
+// Areas for what one line of a list holds.
+#[derive(Drop)]
+pub struct Room {
+    numbers: Vec<u64>,
+    bytes: Vec<u8>,
+    spans: Vec<Span>,
+}
+
+impl Room {
+    // Room for so many numbers, byte strings, and bytes of these.
+    pub fn new(
+        alloc: Global,
+        numbers: usize,
+        strings: usize,
+        bytes: usize,
+    ) -> Result<Room, AllocError>
+        ensures { IfOk result (λ room. (vec_len room.numbers ≡ numbers) × (vec_len room.spans ≡ strings)
+            × (vec_len room.bytes ≡ bytes)) }
+    {
+        Ok(Room {
+            numbers: vec![in alloc; 0u64; numbers]?,
+            bytes: vec![in alloc; 0u8; bytes]?,
+            spans: vec![in alloc; Span::default(); strings]?,
+        })
+    }
+
+    // Reads a line.
+    pub fn parse(&mut self, line: &[u8]) -> Line<'_>
+        ensures { BeginsWith line.now result }
+    {
+        parse(line, &mut self.numbers, &mut self.bytes, &mut self.spans)
+    }
 }

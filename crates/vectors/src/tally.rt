@@ -12,7 +12,7 @@ pub struct Tally {
 
 impl Tally {
     // One case more, up to the largest number.
-    fn count(&mut self, is_same: bool)
+    pub fn count(&mut self, is_same: bool)
         ensures { (self.new.compared ≡ min (self.old.compared + 1) u64.MAX)
             × (self.new.differ ≡ cond is_same self.old.differ (min (self.old.differ + 1) u64.MAX)) }
     {
@@ -31,11 +31,33 @@ impl fmt::Display for Tally {
     }
 }
 
-// A tally for each row of a list, beside its name, and that of all cases.
+// A row of a list with its tally.
+#[derive(Clone, Copy, Debug)]
+pub struct Row<'a> {
+    pub name: &'a str,
+    pub tally: Tally,
+}
+
+impl<'a> Row<'a> {
+    fn new(name: &'a str) -> Row<'a> {
+        let tally = Tally::default();
+        Row { name, tally }
+    }
+}
+
+impl fmt::Display for Row<'_> {
+    fn fmt<W: fmt::Write>(&self, f: &mut fmt::Formatter<W>) -> fmt::Result {
+        let name = self.name;
+        let tally = self.tally;
+        write!(f, "{name}: {tally}")
+    }
+}
+
+// A tally for each row of a list, and that of all cases. The rows are a Vec: the borrow checker covers neither an array of rows
+// whose length is a parameter, since they hold references, nor counting in rows that are lent.
 #[derive(Debug, Drop)]
 pub struct Tallies<'a> {
-    pub names: &'a [&'a str],
-    pub rows: Vec<Tally>,
+    pub rows: Vec<Row<'a>>,
     pub all: Tally,
 }
 
@@ -45,8 +67,7 @@ impl<'a> Tallies<'a> {
             × (tallies.all.compared ≡ 0) × (tallies.all.differ ≡ 0)) }
     {
         Ok(Tallies {
-            names,
-            rows: vec![in alloc; Tally::default(); names.len()]?,
+            rows: names.iter().map(|name| Row::new(*name)).collect(alloc)?,
             all: Tally::default(),
         })
     }
@@ -57,18 +78,18 @@ impl<'a> Tallies<'a> {
         ensures all { (self.new.all.compared ≡ min (self.old.all.compared + 1) u64.MAX)
             × (self.new.all.differ ≡ cond is_same self.old.all.differ (min (self.old.all.differ + 1) u64.MAX)) }
     {
-        if let Some(row) = row {
-            if let Some(tally) = self.rows.get_mut(row) {
-                tally.count(is_same);
-            }
+        if let Some(place) = row
+            && let Some(row) = self.rows.get_mut(place)
+        {
+            row.tally.count(is_same);
         }
         self.all.count(is_same);
     }
 
     // A line for each row, and the line of all cases.
     pub fn print(&self, rt: &impl Print) -> io::Result<()> {
-        for (name, tally) in self.names.iter().zip(&self.rows) {
-            println!(rt; "{name}: {tally}")?;
+        for row in &self.rows {
+            rt.println(row)?;
         }
         rt.println(self.all)
     }

@@ -8,10 +8,9 @@ use layout::refusals::Refusal;
 fn are(given: &[u64], no: u32, others: &[u64]) -> bool
     ensures { (result ≡ true) ↔ (given.now ≡ no ∷ others.now) }
 {
-    match given.split_first() {
-        Some((first, rest)) => *first == u64::from(no) && rest == others,
-        None => false,
-    }
+    given
+        .split_first()
+        .is_some_and(|(first, rest)| *first == u64::from(no) && rest == others)
 }
 
 // Whether the numbers are those of an answer: 0 and its own, or a refusal's number and zeros.

@@ -6,7 +6,8 @@ use Rattle.store_vectors.proofs.stores.write.Goals as goal
 
 pub serialize-written-requires : goal.serialize-written-requires
 serialize-written-requires c = (
-  plans-stand _ (search rules) c.args.blocks.now.area.now c.args.blocks.now.stride c.args.blocks.now.n _ _ c.requires.0 c.plan-len.ensures.1,
+  plans-stand _ (search rules) c.args.blocks.now.area.now c.args.blocks.now.stride c.args.blocks.now.n _ _ c.requires.0
+      c.plan-len.ensures.1,
   omega (
     arith,
     c.plan-len.ensures.0,

@@ -1,5 +1,6 @@
 -- A read goes behind what was read before, which stays.
-use Rattle.std.proofs.Common.{◌≡◌, ℕ, ◌+◌, ◌-◌, ◌≤◌, List, ◌++◌, rules, length, take, drop, sym, ap, ◌∙◌, subst, le_refl, drop_at, length-take-le}
+use Rattle.std.proofs.Common.{◌≡◌, ℕ, ◌+◌, ◌-◌, ◌≤◌, List, ◌++◌, rules, length, take, drop, sym, ap, ◌∙◌, subst}
+use Rattle.std.proofs.Common.{le_refl, drop_at, length-take-le}
 use Rattle.std.proofs.lemmas.Slice.{take-put_mid_below}
 use Rattle.std.specs.Io.KnownBytes.{Consumes}
 use Rattle.std.proofs.KnownBytes.{Consumes-trans}
@@ -14,7 +15,8 @@ take_further a k n xs ys within fits =
     let after = post_of a k xs in
     let part : take n (drop a put) ≡ take n ys
     = ap (take n) (drop_at (take a xs) (ys ++ after) a (length-take-le a xs within)) ∙ take-append-le n ys after fits in
-    sym (take-add a n put ∙ ap (λ l. l ++ take n (drop a put)) (take-put_mid_below a k xs ys a (le_refl a) within) ∙ ap (λ l. take a xs ++ l) part)
+    let front : take a put ≡ take a xs = take-put_mid_below a k xs ys a (le_refl a) within in
+    sym (take-add a n put ∙ ap (λ l. l ++ take n (drop a put)) front ∙ ap (λ l. take a xs ++ l) part)
 
 pub loop-done-preserved : goal.loop-done-preserved
 loop-done-preserved g c =

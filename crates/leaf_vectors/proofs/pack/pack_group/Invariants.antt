@@ -1,6 +1,0 @@
--- The packer took the pairs passed.
-use Rattle.leaf_vectors.proofs.Groups.{Pairs}
-use Rattle.leaf_vectors.proofs.pack.pack_group.Given as goal
-
-abbrev pub invariant-loop-i : goal.invariant-loop-i
-invariant-loop-i l = Pairs l.r l.o l.fields l.initial.out l.out l.packer l.i
