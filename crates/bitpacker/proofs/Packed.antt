@@ -16,6 +16,10 @@ use Rattle.bitpacker.specs.Bits.{bytes_of}
 use Rattle.bitpacker.specs.Packer.{Waiting, joined_to, words_of, leaving, packed_with}
 use Rattle.bitpacker.proofs.Words.{low-digits_of, joined-lt}
 
+-- what `write` ensures of a value of w bits
+abbrev pub Wrote : BitPacker → List ℕ → ℕ → ℕ → BitPacker → List ℕ → Type 0
+Wrote p l v w p' l' = (p' ≡ packed_with p v w) × (l' ≡ sets l p.written (leaving p v w))
+
 -- p took b bits that spell N; d is the output as it was, and l as it is
 pub record Packed (d l : List ℕ) (p : BitPacker) (b N : ℕ) : Type 0 where
   pub waiting : Waiting p

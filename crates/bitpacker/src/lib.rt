@@ -15,37 +15,37 @@ pub fn compute_num_bits(value: u64) -> u8
     if amplitude <= 56 { amplitude as u8 } else { 64 }
 }
 
-// The number that the last bytes spell, fewer than four. Each count has its own loads: with one loop over `left` bytes a field at the end
-// of the bytes takes 77 instructions in place of 51, and one elsewhere 60 in place of 47 (callgrind). Place and length go beside the slice
-// in all three functions: over `&data[at..]` a field at the end takes 51.3 in place of 50.9, and one elsewhere no fewer.
-fn load_few(data: &[u8], at: usize, left: usize) -> u64
-    requires { (left < 4) × (at + left ≤ length «data».now) }
-    ensures value { result ≡ number_at «data».now at left }
+// The number that the last bytes spell, fewer than four. Each count has its own loads: with one loop over the bytes a field at the end
+// takes 77 instructions in place of 51, and one elsewhere 60 in place of 47 (callgrind).
+fn load_few(rest: &[u8]) -> u64
+    requires { length rest.now < 4 }
+    ensures value { result ≡ le_val rest.now }
     ensures upper_bound { result < 2 ^ 24 }
 {
+    let left = rest.len();
     if left >= 3 {
-        return serialize::deserialize_le(data, at, 3);
+        return serialize::deserialize_le(rest, 0, 3);
     }
     if left >= 2 {
-        return serialize::deserialize_le(data, at, 2);
+        return serialize::deserialize_le(rest, 0, 2);
     }
     if left >= 1 {
-        return serialize::deserialize_le(data, at, 1);
+        return serialize::deserialize_le(rest, 0, 1);
     }
     0
 }
 
 // The number that the last bytes spell, fewer than eight: four at once, then the rest. It is short, so that it can be copied to
 // where a field is read.
-fn load_tail(data: &[u8], at: usize, left: usize) -> u64
-    requires { (left < 8) × (at + left ≤ length «data».now) }
-    ensures { result ≡ number_at «data».now at left }
+fn load_tail(rest: &[u8]) -> u64
+    requires { length rest.now < 8 }
+    ensures { result ≡ le_val rest.now }
 {
-    if left < 4 {
-        return load_few(data, at, left);
+    if rest.len() < 4 {
+        return load_few(rest);
     }
-    let low = serialize::deserialize_le(data, at, 4);
-    low + 0x1_0000_0000 * load_few(data, at + 4, left - 4)
+    let low = serialize::deserialize_le(rest, 0, 4);
+    low + 0x1_0000_0000 * load_few(&rest[4..])
 }
 
 // The number that the eight bytes from `at` on spell, or those that are left.
@@ -53,11 +53,11 @@ fn load(data: &[u8], at: usize) -> u64
     requires { at ≤ length «data».now }
     ensures { result ≡ number_at «data».now at 8 }
 {
-    let left = data.len() - at;
-    if left >= 8 {
-        serialize::deserialize_u64(data, at)
+    let rest = &data[at..];
+    if rest.len() >= 8 {
+        serialize::deserialize_u64(rest, 0)
     } else {
-        load_tail(data, at, left)
+        load_tail(rest)
     }
 }
 

@@ -1,5 +1,4 @@
 pub mod Limit
-pub mod Shift
 pub mod Legal
 pub mod RowOrder
 pub mod Blocks

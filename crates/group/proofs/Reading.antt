@@ -1,6 +1,6 @@
 -- Laws of a group read: row 15 as plain facts, and a value in range as a sum.
 use mathlib.Core.Path.{◌≡◌, refl, sym, ap₂}
-use mathlib.Core.Bool.{Bool, true, false, ◌||◌, true≢false}
+use mathlib.Core.Bool.{Bool, true, false, ◌||◌}
 use Prim.Native.Nat.{zero, ℕ, suc, ◌+◌, ◌-◌, ◌*◌, ◌/◌, ◌%◌, ◌^◌, ◌≤◌, ◌<◌}
 use native.Mathlib.Nat.{mod-lt, lt_of_lt_of_le, lt_of_not-le, le_of_suc-le-suc}
 use native.Mathlib.Numerals.{sub-one}
@@ -26,13 +26,6 @@ width-ok w e = let t = or_parts (ltb w 1) (ltb 56 w) e in (ltb-false w 1 t.0, lt
 pub width-not-bad : (w : ℕ) → 1 ≤ w → w ≤ 56 → width_bad w ≡ false
 unfolding width_bad
 width-not-bad w l h = ap₂ ◌||◌ (le-ltb w 1 l) (le-ltb 56 w h)
-
--- two tests that are false together
-same : (a b : Bool) → (a ≡ false → b ≡ false) → (b ≡ false → a ≡ false) → a ≡ b
-same true true f g = refl
-same true false f g = g refl
-same false true f g = sym (f refl)
-same false false f g = refl
 
 -- what row 15 asks of a group that is to have `count` blocks, in a store with `len` address bytes
 pub record GroupOk (m : BlockAddrBlockMetadata) (count len : ℕ) : Type 0 where
@@ -70,13 +63,6 @@ module _ (m : BlockAddrBlockMetadata) (count len : ℕ) where
         eq-eqb (m.block_len + 1) count k.blocks,
         le-ltb len _ k.inside,
       )
-
-  -- a test is the row's exactly if it is false where the row's facts hold
-  pub group-bad-is : (t : Bool) → (t ≡ false → GroupOk m count len) → (GroupOk m count len → t ≡ false) → t ≡ group_bad m count len
-  group-bad-is t f g = same t (group_bad m count len) (λ e. group-not-bad (f e)) (λ e. g (group-ok e))
-
-  pub group-refused : (GroupOk m count len → ⊥) → true ≡ group_bad m count len
-  group-refused h = group-bad-is true (λ e. absurd (true≢false e)) (λ k. absurd (h k))
 
   pub readable : GroupOk m count len → count ≤ max_group_len → m.range_start < limit → m.first_ordinal < limit → Readable m (len - m.offset)
   readable k few s o = record {

@@ -12,7 +12,7 @@ pub mod rows;
 
 // A block: where it starts and ends in the file, and its first term's ordinal.
 #[repr(C)]
-#[derive(Clone, Copy, Debug, PartialEq, Eq)]
+#[derive(Clone, Copy, Debug, Default, PartialEq, Eq)]
 pub struct BlockAddr {
     pub start: u64,
     pub end: u64,

@@ -9,8 +9,9 @@ use Rattle.serialize.specs.Digits.{le_bytes}
 use Rattle.bitpacker.specs.declared.BitPacker.{BitPacker}
 use Rattle.bitpacker.specs.Bits.{bytes_of}
 use Rattle.bitpacker.specs.Fields.{group_val, range_bit, ordinal_bit, group_bits}
-use Rattle.bitpacker.specs.Packer.{Waiting, leaving, packed_with}
-use Rattle.bitpacker.proofs.Packed.{Packed, packed_new, packed-wrote, packed-flushed, packed-room-write, packed-room-flush}
+use Rattle.bitpacker.specs.Packer.{Waiting}
+use Rattle.bitpacker.proofs.Packed.{Packed, packed_new, packed-length, packed-wrote, packed-flushed, packed-room-write}
+use Rattle.bitpacker.proofs.Packed.{packed-room-flush, Wrote}
 use Rattle.bitpacker.proofs.Fields.{group-none, group-range, group-ordinal, group-bits-none, group-bits-ordinal, range-within}
 use Rattle.bitpacker.proofs.Fields.{ordinal-within}
 use Rattle.slope.specs.Slope.{stored_of}
@@ -30,12 +31,9 @@ use Rattle.group_write.specs.declared.AreaGroup.{AreaGroup}
 
 -- ---- the packer
 
--- what `write` requires and ensures of a value of w bits, and what `flush` ensures
+-- what `write` requires of a value of w bits, and what `flush` ensures
 abbrev pub Room : BitPacker → List ℕ → ℕ → ℕ → Type 0
 Room p l v w = Waiting p × (w ≤ 56) × (v < 2 ^ w) × (8 * p.written + p.filled + w ≤ 8 * length l)
-
-abbrev pub Wrote : BitPacker → List ℕ → ℕ → ℕ → BitPacker → List ℕ → Type 0
-Wrote p l v w p' l' = (p' ≡ packed_with p v w) × (l' ≡ sets l p.written (leaving p v w))
 
 abbrev pub Flushed : BitPacker → List ℕ → ℕ → List ℕ → Type 0
 Flushed p l r l' = (r ≡ p.written + bytes_of p.filled) × (l' ≡ sets l p.written (le_bytes (bytes_of p.filled) p.buffer))
@@ -53,6 +51,21 @@ module _ (r o : ℕ) (rs os : List ℕ) (n v : ℕ) {d l l' : List ℕ} {p p' : 
 
   ordinal-wrote : Half r o rs os d l p n → (v ≡ get_or os n 0) × (v < 2 ^ o) → Wrote p l v o p' l' → Pairs r o rs os d l' p' (suc n)
   ordinal-wrote k is e = rw (is.0, group-ordinal r o n (take (suc n) rs) os, group-bits-ordinal r o n) at (packed-wrote k v o is.1 e)
+
+-- behind any field that was written
+pub written-on : {d l l' : List ℕ} {p p' : BitPacker} {b N : ℕ} (v w : ℕ) → Packed d l p b N → Wrote p l v w p' l' → v < 2 ^ w
+    → Waiting p' × (8 * p'.written + p'.filled ≡ 8 * p.written + p.filled + w) × (length l' ≡ length l)
+written-on v w k e small =
+    let k' = packed-wrote k v w small e in
+    (k'.waiting, omega (arith, k'.count, k.count), packed-length k' ∙ sym (packed-length k))
+
+-- a range of r bits and an ordinal of o bits fit, in whatever order
+pub record BothFit (p : BitPacker) (l : List ℕ) (v r v' o : ℕ) : Type 0 where
+  pub range-few : r ≤ 56
+  pub ordinal-few : o ≤ 56
+  pub range-small : v < 2 ^ r
+  pub ordinal-small : v' < 2 ^ o
+  pub room : 8 * p.written + p.filled + r + o ≤ 8 * length l
 
 -- ---- a value and its line
 
@@ -198,23 +211,24 @@ module _ (g : AreaGroup) (m : BlockAddrBlockMetadata) (ranges ordinals : Line) (
     pub ordinal-asked : Asked ordinals b.first_ordinal i
     ordinal-asked = asked (ordinal-turn lines i k.0 there is)
 
-    module _ {v : ℕ} (e : v ≡ stored_of ranges.slope ranges.nbits i (b.start - ranges.first)) where
-      pub range-room : Room p l v ranges.nbits
-      range-room =
-          packed-room-write k.2 v ranges.nbits ranges.ok.2 (result (range-turn lines i k.0 there is) e).1
-          (omega (arith, bits_fit, range-within ranges.nbits ordinals.nbits (i - 1) (g.count - 1) (omega arith)))
+    module _ {v : ℕ} (e : v ≡ stored_of ranges.slope ranges.nbits i (b.start - ranges.first))
+        {v' : ℕ} (e' : v' ≡ stored_of ordinals.slope ordinals.nbits i (b.first_ordinal - ordinals.first)) where
+      pub both-fit : BothFit p l v ranges.nbits v' ordinals.nbits
+      both-fit = record {
+        range-few = ranges.ok.2;
+        ordinal-few = ordinals.ok.2;
+        range-small = (result (range-turn lines i k.0 there is) e).1;
+        ordinal-small = (result (ordinal-turn lines i k.0 there is) e').1;
+        room =
+            let within = ordinal-within ranges.nbits ordinals.nbits (i - 1) (g.count - 1) (omega (arith, k.0)) in
+            omega (arith, bits_fit, within, packed-length k.2, k.2.count);
+      }
 
-      module _ {p' : BitPacker} {l' : List ℕ} (w : Wrote p l v ranges.nbits p' l')
-          {v' : ℕ} (e' : v' ≡ stored_of ordinals.slope ordinals.nbits i (b.first_ordinal - ordinals.first)) where
+      module _ {p' : BitPacker} {l' : List ℕ} (w : Wrote p l v ranges.nbits p' l') where
         within : Within g ranges ordinals d l' p' i
         within =
             range-wrote ranges.nbits ordinals.nbits (range_fields g ranges) (ordinal_fields g ordinals) (i - 1) v k.2
             (result (range-turn lines i k.0 there is) e) w
-
-        pub ordinal-room : Room p' l' v' ordinals.nbits
-        ordinal-room =
-            packed-room-write within v' ordinals.nbits ordinals.ok.2 (result (ordinal-turn lines i k.0 there is) e').1
-            (omega (arith, bits_fit, ordinal-within ranges.nbits ordinals.nbits (i - 1) (g.count - 1) (omega (arith, k.0))))
 
         pub turn-done : {p″ : BitPacker} {l″ : List ℕ} → Wrote p' l' v' ordinals.nbits p″ l″ → Before g ranges ordinals d l″ p″ (i + 1)
         turn-done w' =

@@ -86,7 +86,7 @@ impl<'a> AreaGroup<'a> {
     }
 
     // The record that `plan_block` gave, from what was kept of it: two numbers. With a struct of two slopes in their place the loop of
-    // `flush_block` takes two instructions more a block: the store of 60,000 blocks took 940 us in place of 867.
+    // `flush_block`, as it is inlined now, takes two instructions more a block: the store of 60,000 blocks took 940 us in place of 867.
     pub fn planned_block(&self, range: u64, ordinal: u64, offset: u64) -> BlockAddrBlockMetadata
         requires { range ∷ ordinal ∷ [] ≡ plan_of (meta_of best_slope 0 (first_of self.now) (rest_of self.now)) }
         ensures { result ≡ meta_of best_slope offset (first_of self.now) (rest_of self.now) }

@@ -1,31 +1,25 @@
 -- Laws of the order of byte strings and of their common prefix.
 use Prim.Native.Nat.{ℕ, suc, ◌+◌, ◌≤◌, ◌<◌, min}
-use mathlib.Core.Path.{◌≡◌, refl, sym, ap}
+use mathlib.Core.Path.{◌≡◌, refl, sym, ap, subst}
 use mathlib.Core.Logic.{◌⊎◌, inl, inr, ⊎_elim}
 use mathlib.Core.List.{List, [], ◌∷◌, ◌++◌}
-use mathlib.Core.Bool.{Bool, true, false}
+use mathlib.Core.Bool.{true, false}
 use native.Mathlib.Omega.{arith}
 use native.Mathlib.Numerals.{add-one}
+use lib.Arith.{lt_of_le-ne}
 use lib.Dec.{eqb, ltb}
 use lib.ListN.{length, take, drop, get_or}
 use lib.Seq.{drop-cons}
 use borrow.Author.Tests.{eq-eqb, ne_eqb, eqb-true, eqb-false, lt-ltb, ltb-true, ltb-false}
+use borrow.Table.Steps.{cases}
 use Rattle.keys.specs.Order.{less, ◌≺◌, ◌≼◌, common_prefix_len}
-
--- a test, by its two outcomes
-pub by-test : {P : Type 0} (b : Bool) → (b ≡ true → P) → (b ≡ false → P) → P
-by-test true f g = f refl
-by-test false f g = g refl
-
-pub eqb_same : (x : ℕ) → eqb x x ≡ true
-eqb_same x = eq-eqb x x refl
 
 -- ---- a total order
 
 pub less-irrefl : (a : List ℕ) → less a a ≡ false
 unfolding less
 less-irrefl [] = refl
-less-irrefl (x ∷ xs) = simp eqb_same (less-irrefl xs)
+less-irrefl (x ∷ xs) = simp (eq-eqb x x refl) (less-irrefl xs)
 
 pub less-trans : (a b c : List ℕ) → a ≺ b → b ≺ c → a ≺ c
 unfolding less
@@ -37,15 +31,15 @@ less-trans (x ∷ xs) [] [] p q = p
 less-trans (x ∷ xs) [] (z ∷ zs) p q = cc
 less-trans (x ∷ xs) (y ∷ ys) [] p q = q
 less-trans (x ∷ xs) (y ∷ ys) (z ∷ zs) p q =
-    by-test (eqb x y)
-    (λ e. by-test (eqb y z)
+    cases (eqb x y)
+    (λ e. cases (eqb y z)
     (λ f. simp (eq-eqb x z (omega (arith, eqb-true))) (less-trans xs ys zs (simp e at p) (simp f at q)))
     (λ f.
     let l : ltb y z ≡ true = simp f at q in
     simp (ne_eqb x z (omega (arith, eqb-true, ltb-true)), lt-ltb x z (omega (arith, eqb-true, ltb-true)))))
     (λ e.
     let l : ltb x y ≡ true = simp e at p in
-    by-test (eqb y z)
+    cases (eqb y z)
     (λ f. simp (ne_eqb x z (omega (arith, eqb-true, ltb-true)), lt-ltb x z (omega (arith, eqb-true, ltb-true))))
     (λ f.
     let m : ltb y z ≡ true = simp f at q in
@@ -57,7 +51,7 @@ less-total [] [] p q = refl
 less-total [] (y ∷ ys) p q = cc
 less-total (x ∷ xs) [] p q = cc
 less-total (x ∷ xs) (y ∷ ys) p q =
-    by-test (eqb x y)
+    cases (eqb x y)
     (λ e.
     let f : x ≡ y = eqb-true x y e in
     let g : eqb y x ≡ true = eq-eqb y x (sym f) in
@@ -72,23 +66,23 @@ less-total (x ∷ xs) (y ∷ ys) p q =
 
 pub less-asym : (a b : List ℕ) → a ≺ b → a ≼ b
 less-asym a b p =
-    by-test (less b a)
+    cases (less b a)
     (λ e. let q : less a a ≡ true = less-trans a b a p e in cc (less-irrefl a))
     (λ e. e)
 
 -- of two byte strings one is below the other, or they are equal
 pub less-trichotomy : (a b : List ℕ) → (a ≺ b) ⊎ ((a ≡ b) ⊎ (b ≺ a))
 less-trichotomy a b =
-    by-test (less a b)
+    cases (less a b)
     (λ e. inl e)
-    (λ e. by-test (less b a) (λ f. inr (inr f)) (λ f. inr (inl (less-total a b e f))))
+    (λ e. cases (less b a) (λ f. inr (inr f)) (λ f. inr (inl (less-total a b e f))))
 
 pub ≼_refl : (a : List ℕ) → a ≼ a
 ≼_refl a = less-irrefl a
 
 -- what isn't above is below or equal
 pub ≼-cases : (a b : List ℕ) → a ≼ b → (a ≺ b) ⊎ (a ≡ b)
-≼-cases a b p = by-test (less a b) (λ e. inl e) (λ e. inr (less-total a b e p))
+≼-cases a b p = cases (less a b) (λ e. inl e) (λ e. inr (less-total a b e p))
 
 pub ≺-≼-trans : (a b c : List ℕ) → a ≺ b → b ≼ c → a ≺ c
 ≺-≼-trans a b c p q = ⊎_elim (λ h. less-trans a b c p h) (λ h. rw h at p) (≼-cases b c q)
@@ -101,38 +95,19 @@ pub ≼_trans : (a b c : List ℕ) → a ≼ b → b ≼ c → a ≼ c
 pub less-append : (p a b : List ℕ) → less (p ++ a) (p ++ b) ≡ less a b
 unfolding less
 less-append [] a b = refl
-less-append (x ∷ p) a b = simp eqb_same (less-append p a b)
+less-append (x ∷ p) a b = simp (eq-eqb x x refl) (less-append p a b)
 
 -- "a prefix being smaller": never above, and below where a byte follows
 pub prefix-≼ : (a b : List ℕ) → a ≼ (a ++ b)
 unfolding less
 prefix-≼ [] [] = refl
 prefix-≼ [] (y ∷ b) = refl
-prefix-≼ (x ∷ a) b = simp eqb_same (prefix-≼ a b)
+prefix-≼ (x ∷ a) b = simp (eq-eqb x x refl) (prefix-≼ a b)
 
 pub prefix-≺ : (a : List ℕ) (x : ℕ) (b : List ℕ) → a ≺ (a ++ (x ∷ b))
 unfolding less
 prefix-≺ [] x b = refl
-prefix-≺ (y ∷ a) x b = simp eqb_same (prefix-≺ a x b)
-
--- what lies between two byte strings that begin with p begins with p
-pub between-prefix : (p a b s : List ℕ) → (p ++ a) ≼ s → s ≼ (p ++ b) → (t : List ℕ) × (s ≡ p ++ t)
-unfolding less
-between-prefix [] a b s l r = (s, refl)
-between-prefix (x ∷ p) a b [] l r = absurd (let z : ◌≡◌ {A = ℕ} 0 1 = cc in omega arith)
-between-prefix (x ∷ p) a b (y ∷ s) l r =
-    by-test (eqb x y)
-    (λ e.
-    let f : x ≡ y = eqb-true x y e in
-    let g : eqb y x ≡ true = eq-eqb y x (sym f) in
-    let h : (t : List ℕ) × (s ≡ p ++ t) = between-prefix p a b s (simp g at l) (simp e at r) in
-    (h.0, cc h.1))
-    (λ e.
-    let g : eqb y x ≡ false = ne_eqb y x (λ h. eqb-false x y e (sym h)) in
-    let m : ltb y x ≡ false = simp g at l in
-    let n : ltb x y ≡ false = simp e at r in
-    let f : x ≡ y = omega (arith, ltb-false) in
-    absurd (eqb-false x y e f))
+prefix-≺ (y ∷ a) x b = simp (eq-eqb y y refl) (prefix-≺ a x b)
 
 -- ---- the common prefix
 
@@ -141,7 +116,7 @@ unfolding common_prefix_len
 common_prefix_len-left [] b = omega arith
 common_prefix_len-left (x ∷ xs) [] = omega arith
 common_prefix_len-left (x ∷ xs) (y ∷ ys) =
-    by-test (eqb x y)
+    cases (eqb x y)
     (λ e. simp e (omega (arith, common_prefix_len-left xs ys)))
     (λ e. simp e (omega arith))
 
@@ -150,7 +125,7 @@ unfolding common_prefix_len
 common_prefix_len-right [] b = omega arith
 common_prefix_len-right (x ∷ xs) [] = omega arith
 common_prefix_len-right (x ∷ xs) (y ∷ ys) =
-    by-test (eqb x y)
+    cases (eqb x y)
     (λ e. simp e (omega (arith, common_prefix_len-right xs ys)))
     (λ e. simp e (omega arith))
 
@@ -160,7 +135,7 @@ common_prefix_len-take [] [] = refl
 common_prefix_len-take [] (y ∷ ys) = refl
 common_prefix_len-take (x ∷ xs) [] = refl
 common_prefix_len-take (x ∷ xs) (y ∷ ys) =
-    by-test (eqb x y)
+    cases (eqb x y)
     (λ e. simp e (let f : x ≡ y = eqb-true x y e in cc (common_prefix_len-take xs ys)))
     (λ e. simp e)
 
@@ -171,12 +146,18 @@ unfolding common_prefix_len
 common_prefix_len-differ [] b h k q = omega arith
 common_prefix_len-differ (x ∷ xs) [] h k q = omega arith
 common_prefix_len-differ (x ∷ xs) (y ∷ ys) h k q =
-    by-test (eqb x y)
+    cases (eqb x y)
     (λ e.
     let g : suc (common_prefix_len xs ys) < suc (length xs) = simp e at h in
     let j : suc (common_prefix_len xs ys) < suc (length ys) = simp e at k in
     common_prefix_len-differ xs ys (omega arith) (omega arith) (simp e at q))
     (λ e. eqb-false x y e (simp e at q))
+
+-- so the lower one there is below the other
+pub common-below : (a b : List ℕ) {n : ℕ} → n ≡ common_prefix_len a b → n < length a → n < length b → get_or a n 0 ≤ get_or b n 0
+    → get_or a n 0 < get_or b n 0
+common-below a b {n} e ha hb h =
+    lt_of_le-ne h (subst (λ (k : ℕ). get_or a k 0 ≡ get_or b k 0 → ⊥) (sym e) (common_prefix_len-differ a b (omega arith) (omega arith)))
 
 -- counted from index i on: one common byte more, or none where the bytes differ
 pub common_prefix_len-same : (a b : List ℕ) (i : ℕ) → i < length a → i < length b → get_or a i 0 ≡ get_or b i 0
@@ -195,7 +176,7 @@ common_prefix_len-other a b i h k e =
 pub common_prefix_len-same-key : (a : List ℕ) → common_prefix_len a a ≡ length a
 unfolding common_prefix_len
 common_prefix_len-same-key [] = refl
-common_prefix_len-same-key (x ∷ xs) = simp eqb_same (ap suc (common_prefix_len-same-key xs))
+common_prefix_len-same-key (x ∷ xs) = simp (eq-eqb x x refl) (ap suc (common_prefix_len-same-key xs))
 
 -- what lies between two byte strings has in common with k at least what both have
 pub common_prefix_len-between : (a x b k : List ℕ) → a ≼ x → x ≼ b → min (common_prefix_len a k) (common_prefix_len b k) ≤
@@ -206,9 +187,9 @@ common_prefix_len-between (p ∷ a) x b [] l r = omega arith
 common_prefix_len-between (p ∷ a) x [] (z ∷ k) l r = omega arith
 common_prefix_len-between (p ∷ a) [] (q ∷ b) (z ∷ k) l r = absurd (let z : ◌≡◌ {A = ℕ} 0 1 = cc in omega arith)
 common_prefix_len-between (p ∷ a) (y ∷ x) (q ∷ b) (z ∷ k) l r =
-    by-test (eqb p z)
-    (λ e. by-test (eqb q z)
-    (λ f. by-test (eqb y z)
+    cases (eqb p z)
+    (λ e. cases (eqb q z)
+    (λ f. cases (eqb y z)
     (λ g.
     let h : eqb y p ≡ true = eq-eqb y p (omega (arith, eqb-true)) in
     let j : eqb q y ≡ true = eq-eqb q y (omega (arith, eqb-true)) in
@@ -249,7 +230,7 @@ less-end-right [] [] h = refl
 less-end-right [] (y ∷ ys) h = absurd (omega arith)
 less-end-right (x ∷ xs) [] h = refl
 less-end-right (x ∷ xs) (y ∷ ys) h =
-    by-test (eqb x y)
+    cases (eqb x y)
     (λ e. let g : suc (length ys) ≤ suc (common_prefix_len xs ys) = simp e at h in simp e (less-end-right xs ys (omega arith)))
     (λ e. let g : suc (length ys) ≤ 0 = simp e at h in absurd (omega arith))
 
@@ -260,7 +241,7 @@ unfolding less common_prefix_len
 ≼-whole [] (y ∷ ys) h = refl
 ≼-whole (x ∷ xs) [] h = absurd (omega arith)
 ≼-whole (x ∷ xs) (y ∷ ys) h =
-    by-test (eqb x y)
+    cases (eqb x y)
     (λ e.
     let g : suc (length xs) ≤ suc (common_prefix_len xs ys) = simp e at h in
     let f : eqb y x ≡ true = eq-eqb y x (sym (eqb-true x y e)) in
@@ -273,7 +254,7 @@ less-end-left [] [] h k = absurd (omega arith)
 less-end-left [] (y ∷ ys) h k = refl
 less-end-left (x ∷ xs) [] h k = absurd (omega arith)
 less-end-left (x ∷ xs) (y ∷ ys) h k =
-    by-test (eqb x y)
+    cases (eqb x y)
     (λ e.
     let g : suc (length xs) ≤ suc (common_prefix_len xs ys) = simp e at h in
     let j : suc (common_prefix_len xs ys) < suc (length ys) = simp e at k in
@@ -286,7 +267,7 @@ unfolding less common_prefix_len
 less-at [] b h k = absurd (omega arith)
 less-at (x ∷ xs) [] h k = absurd (omega arith)
 less-at (x ∷ xs) (y ∷ ys) h k =
-    by-test (eqb x y)
+    cases (eqb x y)
     (λ e.
     let g : suc (common_prefix_len xs ys) < suc (length xs) = simp e at h in
     let j : suc (common_prefix_len xs ys) < suc (length ys) = simp e at k in

@@ -7,11 +7,15 @@ use native.Mathlib.Nat.{zero-add}
 use native.Mathlib.Omega.{arith}
 use lib.Dec.{eqb}
 use lib.ListN.{length, take, drop, get_or, set, length-append, length-take, length-drop, take-append-drop}
-use lib.Seq.{take-length, get_or-drop, take-add, set_split, sets, sets-eq}
+use lib.Seq.{take-length, length-take-le, get_or-drop, take-add, set_split, sets, sets-eq}
 use borrow.Author.Tests.{eq-eqb, ne_eqb, eqb-true, eqb-false, le-ltb}
+use borrow.Table.Steps.{cases}
 use Rattle.keys.specs.Order.{less, ◌≺◌, ◌≼◌, common_prefix_len}
 use Rattle.keys.specs.Shorten.{raise, shorten}
-use Rattle.keys.proofs.Order.{by-test, eqb_same}
+
+-- what is left behind a place
+pub length_rest : (s : List ℕ) (n : ℕ) → length (take (length s - n) (drop n s)) ≡ length s - n
+length_rest s n = length-take-le (length s - n) (drop n s) (omega (arith, length-drop n s))
 
 -- ---- which byte is raised (document 01, "Shortening")
 
@@ -38,7 +42,7 @@ shorten-all-ff [] right h = refl
 shorten-all-ff (x ∷ xs) [] h =
     ap (λ (r : List ℕ). x ∷ r) (raise-all-ff xs (λ i l. h (suc i) (omega arith) (omega arith)))
 shorten-all-ff (x ∷ xs) (y ∷ ys) h =
-    by-test (eqb x y)
+    cases (eqb x y)
     (λ e.
     let k = simp e at h in
     simp e (ap (λ (r : List ℕ). x ∷ r) (shorten-all-ff xs ys (λ i m l. k (suc i) (omega arith) (omega arith)))))
@@ -60,7 +64,7 @@ shorten-at (x ∷ xs) right zero m l h n = absurd (omega arith)
 shorten-at (x ∷ xs) [] (suc p) m l h n =
     ap (λ (r : List ℕ). x ∷ r) (raise-at xs p (omega arith) (λ i k. h (suc i) (omega arith) (omega arith)) n)
 shorten-at (x ∷ xs) (y ∷ ys) (suc p) m l h n =
-    by-test (eqb x y)
+    cases (eqb x y)
     (λ e.
     let g : suc (common_prefix_len xs ys) < suc p = simp e at m in
     let k = simp e at h in
@@ -88,7 +92,7 @@ first-below-ff : (s : List ℕ) → ((i : ℕ) → i < length s → get_or s i 0
     ⊎ ((p : ℕ) × (p < length s) × ((i : ℕ) → i < p → get_or s i 0 ≡ 255) × (get_or s p 0 ≡ 255 → ⊥))
 first-below-ff [] = inl (λ i l. absurd (omega arith))
 first-below-ff (x ∷ xs) =
-    by-test (eqb x 255)
+    cases (eqb x 255)
     (λ e. ⊎_elim
     (λ h. inl (cons-ff x xs (length xs) (eqb-true x 255 e) h))
     (λ f. inr (suc f.0, omega arith, cons-ff x xs f.0 (eqb-true x 255 e) f.2, f.3))
@@ -120,19 +124,19 @@ raise-not-below : (s : List ℕ) → s ≼ raise s
 unfolding less raise
 raise-not-below [] = refl
 raise-not-below (x ∷ xs) =
-    by-test (eqb x 255)
-    (λ e. simp (e, eqb_same) (raise-not-below xs))
+    cases (eqb x 255)
+    (λ e. simp (e, eq-eqb x x refl) (raise-not-below xs))
     (λ e. simp (e, ne_eqb (x + 1) x (omega arith), le-ltb (x + 1) x (omega arith)))
 
 -- the shortened left isn't below left
 pub shorten-not-below : (left right : List ℕ) → left ≼ shorten left right
 unfolding less shorten
 shorten-not-below [] right = refl
-shorten-not-below (x ∷ xs) [] = simp eqb_same (raise-not-below xs)
+shorten-not-below (x ∷ xs) [] = simp (eq-eqb x x refl) (raise-not-below xs)
 shorten-not-below (x ∷ xs) (y ∷ ys) =
-    by-test (eqb x y)
-    (λ e. simp (e, eqb_same) (shorten-not-below xs ys))
-    (λ e. simp (e, eqb_same) (raise-not-below xs))
+    cases (eqb x y)
+    (λ e. simp (e, eq-eqb x x refl) (shorten-not-below xs ys))
+    (λ e. simp (e, eq-eqb x x refl) (raise-not-below xs))
 
 -- it is below right if left is
 pub shorten-less : (left right : List ℕ) → left ≺ right → shorten left right ≺ right
@@ -141,7 +145,7 @@ shorten-less [] [] p = p
 shorten-less [] (y ∷ ys) p = p
 shorten-less (x ∷ xs) [] p = p
 shorten-less (x ∷ xs) (y ∷ ys) p =
-    by-test (eqb x y)
+    cases (eqb x y)
     (λ e. simp e (shorten-less xs ys (simp e at p)))
     (λ e. simp e (simp e at p))
 
@@ -149,7 +153,7 @@ raise-length : (s : List ℕ) → length (raise s) ≤ length s
 unfolding raise
 raise-length [] = omega arith
 raise-length (x ∷ xs) =
-    by-test (eqb x 255)
+    cases (eqb x 255)
     (λ e. simp e (omega (arith, raise-length xs)))
     (λ e. simp e (omega arith))
 
@@ -159,7 +163,7 @@ unfolding shorten
 shorten-length [] right = omega arith
 shorten-length (x ∷ xs) [] = omega (arith, raise-length xs)
 shorten-length (x ∷ xs) (y ∷ ys) =
-    by-test (eqb x y)
+    cases (eqb x y)
     (λ e. simp e (omega (arith, shorten-length xs ys)))
     (λ e. simp e (omega (arith, raise-length xs)))
 

@@ -11,10 +11,11 @@ use lib.Count.{count_trailing_zeros, under, trailing_of_zero}
 use lib.ListN.{length, take, drop, get_or, length-drop}
 use lib.Seq.{take-take, get_or-drop}
 use borrow.Author.Tests.{eqb-true, eqb-false, lt-ltb, le-ltb, ltb-true, ltb-false}
+use borrow.Table.Steps.{cases}
 use Rattle.serialize.specs.Digits.{of_digits, le_val, DigitsBelow}
 use Rattle.serialize.proofs.Digits.{below-drop}
 use Rattle.keys.specs.Order.{common_prefix_len}
-use Rattle.keys.proofs.Order.{by-test, common_prefix_len-take, common_prefix_len-same, common_prefix_len-other}
+use Rattle.keys.proofs.Order.{common_prefix_len-take, common_prefix_len-same, common_prefix_len-other}
 
 -- ---- the common prefix of fronts and of what lies behind them
 
@@ -24,7 +25,7 @@ common_prefix_len-fronts zero a b = omega arith
 common_prefix_len-fronts (suc n) [] b = omega arith
 common_prefix_len-fronts (suc n) (x ∷ a) [] = omega arith
 common_prefix_len-fronts (suc n) (x ∷ a) (y ∷ b) =
-    by-test (eqb x y)
+    cases (eqb x y)
     (λ e. let i = common_prefix_len-fronts n a b in simp e (omega arith))
     (λ e. simp e (omega arith))
 
@@ -36,7 +37,7 @@ common_prefix_len-behind zero a b h = omega arith
 common_prefix_len-behind (suc i) [] b h = absurd (omega arith)
 common_prefix_len-behind (suc i) (x ∷ a) [] h = absurd (omega arith)
 common_prefix_len-behind (suc i) (x ∷ a) (y ∷ b) h =
-    by-test (eqb x y)
+    cases (eqb x y)
     (λ e.
     let g : suc i ≤ suc (common_prefix_len a b) = simp e at h in
     let r = common_prefix_len-behind i a b (omega arith) in
@@ -62,11 +63,11 @@ other_byte a b i h k l e = omega (arith, common_prefix_len-behind i a b l, commo
 run_step : (a b : List ℕ) (n : ℕ) → n < length a → n < length b
     → ltb (common_prefix_len a b) n || not (eqb (get_or a n 0) (get_or b n 0)) ≡ ltb (common_prefix_len a b) (n + 1)
 run_step a b n h k =
-    by-test (ltb (common_prefix_len a b) n)
+    cases (ltb (common_prefix_len a b) n)
     (λ e. rw (e, lt-ltb (common_prefix_len a b) (n + 1) (omega (arith, ltb-true))))
     (λ e.
     let l : n ≤ common_prefix_len a b = ltb-false (common_prefix_len a b) n e in
-    by-test (eqb (get_or a n 0) (get_or b n 0))
+    cases (eqb (get_or a n 0) (get_or b n 0))
     (λ f. rw (
       e,
       f,
@@ -153,7 +154,7 @@ common_prefix_len-word zero a b f g h k = unfold count_trailing_zeros in refl
 common_prefix_len-word (suc n) [] b f g h k = absurd (omega arith)
 common_prefix_len-word (suc n) (x ∷ a) [] f g h k = absurd (omega arith)
 common_prefix_len-word (suc n) (x ∷ a) (y ∷ b) f g h k =
-    by-test (eqb x y)
+    cases (eqb x y)
     (λ e.
     simp e
     (lowest-same n (le_val (take n a)) (le_val (take n b)) x y (f 0) (g 0) (eqb-true x y e)

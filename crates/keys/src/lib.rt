@@ -32,7 +32,7 @@ fn common_of_word(left: &[u8], right: &[u8], at: usize) -> usize
 
 // The place of the first word from `from` on that differs, in steps of eight bytes; `last` where none before it does.
 // Nothing is said where not all of the first `from` bytes are in common. The place is counted by hand: a `for` over so many words
-// divides first, which takes a seventh more instructions at opening.
+// divides first, which takes a seventh more instructions at opening, and std's step_by calls `next` for each place between.
 fn first_other_word(left: &[u8], right: &[u8], from: usize, last: usize) -> usize
     requires { last + 8 ≡ min (length left.now) (length right.now) }
     ensures upper_bound { result ≤ last }
@@ -86,8 +86,8 @@ fn differs(left: &[u8], right: &[u8], at: usize) -> bool
 }
 
 // The place of the first 64 bytes from `from` on, in steps of 64, that aren't all in common; the last 64 may overlap those before them.
-// Where all are, the shorter key's length. Counted as the words are; their two loops differ in the step and in the test, and a function
-// of both would be longer than they are, with a law by induction over its steps.
+// Where all are, the shorter key's length. Counted as the words are; the two aren't one function, since step and test differ, and this
+// one tests `last`, too.
 fn first_other_run(left: &[u8], right: &[u8], from: usize, last: usize) -> usize
     requires { last + 64 ≡ min (length left.now) (length right.now) }
     ensures { from ≤ common_prefix_len left.now right.now
@@ -149,12 +149,13 @@ pub fn common_prefix<'a>(left: &'a [u8], right: &[u8]) -> &'a [u8]
     &left[..len]
 }
 
-// Whether left is below right, if `len` is their common prefix's length.
+// Whether left is below right, if `len` is their common prefix's length. By hand: by the order of two Options,
+// `left.get(len) < right.get(len)`, a comparison takes ten instructions more.
 pub fn lt_behind(left: &[u8], right: &[u8], len: usize) -> bool
     ensures { len ≡ common_prefix_len left.now right.now
         → result ≡ less left.now right.now }
 {
-    left.get(len) < right.get(len)
+    len < right.len() && left.get(len).is_none_or(|byte| *byte < right[len])
 }
 
 // Whether left is below right. By words: std's < of slices goes byte by byte, and its cmp takes half as long again for keys of eight

@@ -1,1 +1,5 @@
+pub mod Fronts
 pub mod Numbers
+pub mod Places
+pub mod Rows
+pub mod Turns

@@ -4,8 +4,8 @@ use mathlib.Core.List.{List, [], ◌∷◌, ◌++◌, append_assoc, append-nil}
 use Prim.Native.Nat.{ℕ, suc, ◌+◌, ◌-◌, ◌*◌, ◌^◌, ◌≤◌, ◌<◌}
 use native.Mathlib.Nat.{add-zero, zero-add, add-suc, suc-add}
 use native.Mathlib.Omega.{arith}
-use lib.ListN.{length, take, drop, set, length-set, length-take, length-drop, take-append-drop, drop_of_length-le}
-use lib.Seq.{sets, sets-eq, take-length, take_at, drop_at, length-take-le, take_all, drop-set-add, take-set-le}
+use lib.ListN.{length, take, drop, set, length-set, length-take, length-drop, take-append-drop, drop_of_length-le, get_or}
+use lib.Seq.{sets, sets-eq, take-length, take_at, drop_at, length-take-le, take_all, drop-set-add, take-set-le, get_or-take, get_or-drop}
 use borrow.Rule.Slice.PartMut.{put_mid}
 use Rattle.std.proofs.lemmas.List.{set-append_left}
 use Rattle.serialize.specs.Digits.{le_val, le_bytes}
@@ -29,6 +29,9 @@ sets-part d w at h =
       drop_at (take at d) (w ++ drop (at + length w) d) at (length-take-le at d (omega arith)),
     )
     (take_at w (drop (at + length w) d) (length w) refl)
+
+pub get_or-sets : (d w : List ℕ) (at j : ℕ) → at + length w ≤ length d → j < length w → get_or (sets d at w) (at + j) 0 ≡ get_or w j 0
+get_or-sets d w at j h l = let part = sets-part d w at h in grind (arith, get_or-drop, get_or-take, part)
 
 -- stores behind a front, seen from what lies behind it
 sets_behind : (d w : List ℕ) (a at : ℕ) → take a d ++ sets (drop a d) at w ≡ sets d (a + at) w
@@ -63,6 +66,13 @@ sets_within d w a k h l =
 -- what `copy` leaves is a run of stores at the front
 pub copied : (d w : List ℕ) → length w ≤ length d → take (length w) w ++ drop (length w) d ≡ sets d 0 w
 copied d w h = sym (sets-eq w d 0 (omega arith) ∙ rw (zero-add (length w), take-length w))
+
+-- a copy into the front of the part behind `a` is stores from `a` on
+pub copied-in-part : (d w y : List ℕ) (a : ℕ) → a + length w ≤ length d
+    → y ≡ take (length w) w ++ drop (length w) (take (length d - a) (drop a d)) → put_mid a (length d - a) d y ≡ sets d a w
+copied-in-part d w y a h e =
+    let fits : length w ≤ length (take (length d - a) (drop a d)) = simp (length-take, length-drop) (omega arith) in
+    rw (e, copied (take (length d - a) (drop a d)) w fits) (sets-in-part d w a 0 ∙ rw (add-zero a))
 
 -- a number written and read back
 pub written_read : (d : List ℕ) (at w v : ℕ) → at + w ≤ length d → v < 2 ^ (8 * w)

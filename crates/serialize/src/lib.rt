@@ -19,7 +19,8 @@ pub fn deserialize_le(bytes: &[u8], at: usize, width: usize) -> u64
     value
 }
 
-// Writes the `width` lowest bytes of `value` from `at` on.
+// Writes the `width` lowest bytes of `value` from `at` on. By hand: std's to_le_bytes gives a number's own width, and here it is any,
+// also above 8.
 pub fn serialize_le(out: &mut [u8], at: usize, width: usize, value: u64)
     requires { at + width ≤ length out.old }
     ensures { out.new ≡ sets out.old at (le_bytes width value) }

@@ -2,20 +2,14 @@
 use Prim.Native.Nat.{ℕ, suc, ◌+◌, ◌*◌, ◌/◌, ◌%◌, ◌^◌, ◌≤◌, ◌<◌}
 use mathlib.Core.Path.{◌≡◌}
 use native.Mathlib.Omega.{arith}
-use native.Mathlib.Nat.{div-eq_of_lt-le, div-lt_iff_lt-mul, le-div_iff_mul-le, mod-eq_of_lt, mul-le-mul, suc-mul}
+use native.Mathlib.Nat.{div-eq_of_lt-le, le-div_iff_mul-le, mod-eq_of_lt, suc-mul}
 use native.Mathlib.Numerals.{add-one}
-
--- both ends fit a word
-pub room : (s i : ℕ) → s < 2 ^ 32 → i ≤ 2 ^ 31 → s * i + i < 2 ^ 64
-room s i hs hi = omega (arith, mul-le-mul {n₁ = s} {m₁ = i} {n₂ = 2 ^ 32} {m₂ = 2 ^ 31} (omega arith) hi)
+use Rattle.std.proofs.lemmas.Nat.{div_below}
 
 module _ (s i v : ℕ) (pos : 0 < i) where
-  below-div : v < s * i → v / i < s
-  below-div h = (div-lt_iff_lt-mul {k = i} {x = v} {y = s} pos).1 h
-
   pub below : s < 2 ^ 32 → v < s * i → v / i % 2 ^ 32 < s
   below few h =
-      let d = below-div h in
+      let d = div_below v i s pos h in
       rw (mod-eq_of_lt {n = v / i} {m = 2 ^ 32} (omega arith)) d
 
   pub at_least : v / i < 2 ^ 32 → s * i ≤ v → s ≤ v / i % 2 ^ 32
@@ -28,7 +22,7 @@ module _ (s i v : ℕ) (pos : 0 < i) where
 
 -- a quotient that fits 32 bits
 pub fits : (i v : ℕ) → 0 < i → v / 2 ^ 32 < i → v / i < 2 ^ 32
-fits i v pos h = below-div (2 ^ 32) i v pos (omega arith)
+fits i v pos h = div_below v i (2 ^ 32) pos (omega arith)
 
 module _ (s i v : ℕ) (pos : 0 < i) (few : s < 2 ^ 32) where
   pub above : v / i < 2 ^ 32 → s * i + i ≤ v → s < v / i % 2 ^ 32
@@ -37,5 +31,5 @@ module _ (s i v : ℕ) (pos : 0 < i) (few : s < 2 ^ 32) where
   -- of a slope below one that fits 32 bits
   pub above-below : (t : ℕ) → t < 2 ^ 32 → v < t * i → s * i + i ≤ v → s < v / i % 2 ^ 32
   above-below t small h k =
-      let d = below-div t i v pos h in
+      let d = div_below v i t pos h in
       above (omega arith) k

@@ -31,7 +31,7 @@ impl Point {
         ensures { New i v result }
     {
         let at = s * i;
-        if v >= at && v - at < i {
+        if (at..at + i).contains(&v) {
             return Point { i, v, slope: s };
         }
         Point::new(i, v)
@@ -63,6 +63,7 @@ pub struct Slope {
     pub nbits: u8,
 }
 
+// Methods and no From: the way back asks for a number below 2^40, which a From can't, and `u64::from` wouldn't say which number.
 impl Slope {
     // Both as one number of 40 bits.
     pub fn packed(self) -> u64
@@ -184,14 +185,16 @@ impl<'a> Column<'a> {
         between(all.low, all.high)
     }
 
-    // The largest |v - slope × i|. Not inlined, so that its loop has the registers.
+    // The largest |v - slope × i|. Not inlined, so that its loop has the registers. The larger less the smaller: of abs_diff's two
+    // differences the compiler makes sums that take a third more time a value.
     #[inline(never)]
     pub fn max_derivation(&self, slope: u32) -> u64
         ensures { result ≡ max_derivation slope 1 (values self.now) }
     {
         (0..self.count).fold(0, |largest: u64, j| {
+            let value = self.value(j);
             let predicted = u64::from(slope) * (j as u64 + 1);
-            largest.max(self.value(j).abs_diff(predicted))
+            largest.max(value.max(predicted) - value.min(predicted))
         })
     }
 

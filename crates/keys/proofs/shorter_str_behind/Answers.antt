@@ -1,15 +1,13 @@
 -- What the code leaves in the three ways out is the key with the shortened key stored.
-use Rattle.std.proofs.Common.{◌+◌, ◌-◌, ◌≡◌, ◌≢◌, ◌<◌, ◌≤◌, ℕ, List, length, length-drop, get_or, take, drop, sym, ◌∙◌, ap, arith}
-use Rattle.std.proofs.Math.Seq.{get_or-drop, take_all}
-use Rattle.keys.proofs.Shorten.{shortened-unchanged, shortened-raised, shorten-prefix, shorten-all-ff}
+use Rattle.std.proofs.Common.{◌+◌, ◌-◌, ◌≡◌, ◌≢◌, ◌<◌, ◌≤◌, ℕ, List, length, get_or, take, drop, sym, ◌∙◌, ap, arith}
+use Rattle.std.proofs.Math.Seq.{get_or-drop}
+use Rattle.std.proofs.lemmas.List.{take_rest}
+use Rattle.keys.proofs.Shorten.{length_rest, shortened-unchanged, shortened-raised, shorten-prefix, shorten-all-ff}
 use Rattle.keys.proofs.shorter_str_behind.Goals as goal
 
 -- byte i of the part from n on
 behind : (K : List ℕ) (n i : ℕ) → get_or (take (length K - n) (drop n K)) i 0 ≡ get_or K (n + i) 0
-behind K n i = rw (take_all (length K - n) (drop n K) (omega (arith, length-drop n K))) (get_or-drop n K i 0)
-
-behind_length : (K : List ℕ) (n : ℕ) → length (take (length K - n) (drop n K)) ≡ length K - n
-behind_length K n = rw (take_all (length K - n) (drop n K) (omega (arith, length-drop n K))) (length-drop n K)
+behind K n i = rw (take_rest K n) (get_or-drop n K i 0)
 
 -- what is FF in the part is FF in the whole
 all-ff : (K : List ℕ) (n m : ℕ) → ((k : ℕ) → k < m → get_or (take (length K - n) (drop n K)) k 0 ≡ 255)
@@ -26,7 +24,7 @@ pub returns-in_default : goal.returns-in_default
 returns-in_default c right e =
     let K = c.args.key.now in
     let n = c.args.common_len + 1 in
-    let w = behind_length K n in
+    let w = length_rest K n in
     shortened-unchanged K right
     (shorten-all-ff K right
     (λ i m l. all-ff K n (length K - n) (λ k u. c.in_default.ensures k (omega arith)) i (omega arith) (omega arith)))
@@ -42,7 +40,7 @@ pub returns : goal.returns
 returns c right e =
     let K = c.args.key.now in
     let n = c.args.common_len + 1 in
-    let w = behind_length K n in
+    let w = length_rest K n in
     let within = c.in-Some.ensures.0 in
     shortened-raised K right (n + c.in-Some.passed) (omega arith) (omega arith)
     (λ i m l. all-ff K n c.in-Some.passed c.in-Some.ensures.1 i (omega arith) l)

@@ -1,18 +1,14 @@
 -- Of both fields read at once the low part is the range's and the rest the ordinal's.
 use Rattle.std.proofs.Common.{◌≡◌, ℕ, ◌+◌, ◌-◌, ◌*◌, ◌/◌, ◌%◌, ◌^◌, ◌≤◌, ◌<◌, ◌∙◌, ap, arith, bit_and}
-use native.Mathlib.Nat.{add_comm, one-mul}
+use Rattle.std.proofs.lemmas.Nat.{one_shl}
+use native.Mathlib.Nat.{add_comm}
 use lib.Bits.{and_mask}
-use lib.Dec.{lit<}
-use lib.Pow.{pow_pos, shl_exact, shr-shr, field}
+use lib.Pow.{pow_pos, shr-shr, field}
 use Rattle.serialize.specs.Digits.{le_val}
 use Rattle.serialize.proofs.Digits.{mod-mod-le}
 use Rattle.bitpacker.specs.Fields.{range_bit, ordinal_bit}
 use Rattle.group.proofs.Reading.{field_lt, range_read-suc, ordinal_read-suc}
 use Rattle.group_read.proofs.Group.block_start.Goals as goal
-
--- `1 << n` at 64 bits
-one_shl : (n : ℕ) → n ≤ 56 → 1 * 2 ^ n % 2 ^ 64 ≡ 2 ^ n
-one_shl n h = shl_exact 1 n 64 (lit< tt) (omega arith) ∙ one-mul (2 ^ n)
 
 -- the two parts of both fields
 module _ (N r o j bit both : ℕ) (few : r ≤ 56) (at : bit ≡ range_bit r o j) (read : both ≡ N / 2 ^ bit % 2 ^ (r + o)) where
@@ -21,7 +17,7 @@ module _ (N r o j bit both : ℕ) (few : r ≤ 56) (at : bit ≡ range_bit r o j
 
   range-part : bit_and both (1 * 2 ^ r % 2 ^ 64 - 1) ≡ N / 2 ^ range_bit r o j % 2 ^ r
   range-part =
-      ap (λ (m : ℕ). bit_and both (m - 1)) (one_shl r few)
+      ap (λ (m : ℕ). bit_and both (m - 1)) (one_shl r 64 (omega arith))
       ∙ and_mask both r
       ∙ ap (λ (x : ℕ). x % 2 ^ r) e
       ∙ mod-mod-le (N / 2 ^ range_bit r o j) r (r + o) (omega arith)
@@ -40,7 +36,7 @@ module _ (N r o j bit both : ℕ) (few : r ≤ 56) (at : bit ≡ range_bit r o j
   ordinal-small h = rw ordinal-part (field_lt N (ordinal_bit r o j) o h)
 
 pub overflow_sub-range : goal.overflow_sub-range
-overflow_sub-range c = let w = c.widths-widths.result in rw (one_shl w.range w.fit.0) (pow_pos w.range)
+overflow_sub-range c = let w = c.widths-widths.result in rw (one_shl w.range 64 (omega (arith, w.fit.0))) (pow_pos w.range)
 
 pub value-requires : goal.value-requires
 value-requires c = (range_small _ _ _ _ _ _ c.widths-widths.result.fit.0 c.range_bit-bit.ensures c.extract_bits-both.ensures, omega arith)

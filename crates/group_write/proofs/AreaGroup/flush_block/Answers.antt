@@ -1,5 +1,6 @@
 -- Each turn of the loop stores a range and an ordinal, and behind it the last range is stored and all is flushed.
-use Rattle.group_write.proofs.Flush.{before-none, range-asked, range-room, ordinal-asked, ordinal-room, turn-done, last-asked, last-room}
+use Rattle.std.proofs.Common.{arith}
+use Rattle.group_write.proofs.Flush.{before-none, written-on, range-asked, ordinal-asked, both-fit, turn-done, last-asked, last-room}
 use Rattle.group_write.proofs.Flush.{flush-room, flush-done}
 use Rattle.group_write.proofs.AreaGroup.flush_block.Goals as goal
 
@@ -20,21 +21,31 @@ stored-ordinal-requires c =
     ordinal-asked c.args.self.now _ r.result o.result _ c.requires r.ensures o.ensures
     _ c.loop-i-test.true c.block-block.ensures c.loop-i.invariant
 
+-- What the two writes of a turn ask holds in whatever order they come, so that the order is up to the loop's invariant.
 pub write-packer-requires : goal.write-packer-requires
 write-packer-requires c =
     let r = c.ranges-ranges in
     let o = c.ordinals-ordinals in
-    range-room c.args.self.now _ r.result o.result _ c.requires r.ensures o.ensures
-    _ c.loop-i-test.true c.block-block.ensures c.loop-i.invariant
-    c.stored-range.ensures
+    let fit = both-fit c.args.self.now _ r.result o.result _ c.requires r.ensures o.ensures
+    _ c.loop-i-test.true c.block-block.ensures c.loop-i.invariant c.stored-range.ensures c.stored-ordinal.ensures in (
+      c.loop-i.invariant.2.waiting,
+      omega (arith, fit.range-few, fit.ordinal-few),
+      omega (arith, fit.range-small, fit.ordinal-small),
+      omega (arith, fit.room),
+    )
 
 pub write-packer-requires-in-loop-i : goal.write-packer-requires-in-loop-i
 write-packer-requires-in-loop-i c =
     let r = c.ranges-ranges in
     let o = c.ordinals-ordinals in
-    ordinal-room c.args.self.now _ r.result o.result _ c.requires r.ensures o.ensures
-    _ c.loop-i-test.true c.block-block.ensures c.loop-i.invariant
-    c.stored-range.ensures c.write-packer.ensures c.stored-ordinal.ensures
+    let fit = both-fit c.args.self.now _ r.result o.result _ c.requires r.ensures o.ensures
+    _ c.loop-i-test.true c.block-block.ensures c.loop-i.invariant c.stored-range.ensures c.stored-ordinal.ensures in
+    let on = written-on _ _ c.loop-i.invariant.2 c.write-packer.ensures (omega (arith, fit.range-small, fit.ordinal-small)) in (
+      on.0,
+      omega (arith, fit.range-few, fit.ordinal-few),
+      omega (arith, fit.range-small, fit.ordinal-small),
+      omega (arith, fit.room, on.1, on.2),
+    )
 
 pub loop-i-preserved : goal.loop-i-preserved
 loop-i-preserved c =
@@ -42,7 +53,7 @@ loop-i-preserved c =
     let o = c.ordinals-ordinals in
     turn-done c.args.self.now _ r.result o.result _ c.requires r.ensures o.ensures
     _ c.loop-i-test.true c.block-block.ensures c.loop-i.invariant
-    c.stored-range.ensures c.write-packer.ensures c.stored-ordinal.ensures c.write-packer-in-loop-i.ensures
+    c.stored-range.ensures c.stored-ordinal.ensures c.write-packer.ensures c.write-packer-in-loop-i.ensures
 
 pub stored-range-requires-2 : goal.stored-range-requires-2
 stored-range-requires-2 c =
