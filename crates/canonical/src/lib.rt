@@ -36,7 +36,7 @@ fn check_store(data: &[u8], opened: SSTableIndexV3, group_len: usize) -> Result<
     }
 }
 
-// The same with groups of a given length, of which the C interface asks for one.
+// The same with groups of a given length, of which the C interface asks for one. It goes on bare, as `load` and the store take it.
 fn check_grouped(data: &[u8], group_len: usize) -> Result<(), Refusal>
     requires { GroupLenOk group_len }
     ensures { no_of result ≡ canonical_no (settings_of group_len) «data».now }

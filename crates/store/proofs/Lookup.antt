@@ -11,10 +11,10 @@ use native.Mathlib.Omega.{arith}
 use lib.Dec.{leb}
 use borrow.Author.Tests.{leb-false}
 use lib.ListN.{length, take, drop, length-drop}
-use lib.Seq.{take_all}
 use Rattle.layout.specs.Layout.{max_group_len}
 use Rattle.serialize.specs.Digits.{le_val}
 use Rattle.std.proofs.lemmas.Bool.{or_parts}
+use Rattle.std.proofs.lemmas.List.{take_rest}
 use Rattle.group.specs.declared.BlockAddr.{BlockAddr}
 use Rattle.group.specs.declared.BlockAddrBlockMetadata.{BlockAddrBlockMetadata}
 use Rattle.group.specs.Legal.{limit, Legal}
@@ -77,10 +77,6 @@ read-block L recs addr n i some ok h = rw (ok.groups (i / L) (block-there L n so
 
 -- ---- a group that isn't refused
 
--- all from n on, as a part
-pub rest_part : (s : List ℕ) (n : ℕ) → take (length s - n) (drop n s) ≡ drop n s
-rest_part s n = take_all (length s - n) (drop n s) (omega (arith, length-drop n s))
-
 module _ (m : BlockAddrBlockMetadata) (count : ℕ) (addr : List ℕ)
     (e : (group_bad m count (length addr) || (leb limit m.range_start || leb limit m.first_ordinal)) ≡ false) where
   pub group-kept : GroupOk m count (length addr)
@@ -89,7 +85,7 @@ module _ (m : BlockAddrBlockMetadata) (count : ℕ) (addr : List ℕ)
   pub part-readable : count ≤ max_group_len → Readable m (length (take (length addr - m.offset) (drop m.offset addr)))
   part-readable few =
       let firsts = or_parts (leb limit m.range_start) (leb limit m.first_ordinal) (or_parts (group_bad m count (length addr)) _ e).1 in
-      rw (rest_part addr m.offset, length-drop m.offset addr)
+      rw (take_rest addr m.offset, length-drop m.offset addr)
       (readable m count (length addr) group-kept few (leb-false limit m.range_start firsts.0) (leb-false limit m.first_ordinal firsts.1))
 
 -- the code's own values of group g are the definitions'
@@ -101,7 +97,7 @@ module _ (recs addr : List ℕ) (g : ℕ) (m : BlockAddrBlockMetadata) (e : m �
   bad-is L n count t c h = rw (e, c) at h
 
   pub part-is : take (length addr - m.offset) (drop m.offset addr) ≡ drop (group_meta recs g).offset addr
-  part-is = rest_part addr m.offset ∙ ap (λ (x : BlockAddrBlockMetadata). drop x.offset addr) e
+  part-is = take_rest addr m.offset ∙ ap (λ (x : BlockAddrBlockMetadata). drop x.offset addr) e
 
   pub block-is : (j : ℕ) (b : BlockAddr) → b ≡ block_read m (le_val (take (length addr - m.offset) (drop m.offset addr))) j
       → b ≡ block_read (group_meta recs g) (le_val (drop (group_meta recs g).offset addr)) j

@@ -12,7 +12,8 @@ use lib.Dec.{eqb, ltb, leb}
 use lib.ListN.{length, take, drop}
 use Rattle.layout.specs.Layout.{max_group_len}
 use Rattle.serialize.specs.Digits.{le_val}
-use Rattle.std.proofs.lemmas.Bool.{or_parts}
+use Rattle.std.proofs.lemmas.Bool.{or_parts, true_from_ne_false}
+use Rattle.layout.proofs.Fronts.{each-kept}
 use Rattle.group.specs.declared.BlockAddr.{BlockAddr}
 use Rattle.group.specs.declared.BlockAddrBlockMetadata.{BlockAddrBlockMetadata}
 use Rattle.group.specs.Legal.{limit, Follows, Legal}
@@ -25,7 +26,7 @@ use Rattle.store.specs.Check.{firsts_bad, blocks_bad}
 use Rattle.std.specs.Prelude.{Option, Some, None}
 use Rattle.store.proofs.Groups.{legal-part}
 use Rattle.store.proofs.Lookup.{block-of-group, part-readable, block-is}
-use Rattle.store.proofs.Rows.{refused, firsts-kept, blocks-kept, blocks-keep}
+use Rattle.store.proofs.Rows.{firsts-fronts, blocks-kept, blocks-keep}
 
 -- ---- a group's first values
 
@@ -135,8 +136,9 @@ module _ (L : ℕ) (recs addr : List ℕ) (n : ℕ) where
   row-refused : (k : ℕ) → (firsts_bad recs k ≡ false → Legal (store_block L recs addr) n → ⊥)
       → true ≡ (firsts_bad recs k || blocks_bad (store_block L recs addr) n)
   row-refused k h =
-      refused (firsts_bad recs k || blocks_bad (store_block L recs addr) n)
-      (λ e. let both = or_parts (firsts_bad recs k) _ e in h both.0 (blocks-kept (store_block L recs addr) n both.1))
+      sym
+      (true_from_ne_false (firsts_bad recs k || blocks_bad (store_block L recs addr) n)
+      (λ e. let both = or_parts (firsts_bad recs k) _ e in h both.0 (blocks-kept (store_block L recs addr) n both.1)))
 
 -- a group with blocks before it isn't the first
 later : (L g : ℕ) → 0 < L * g → 0 < g
@@ -195,7 +197,7 @@ module _ {L : ℕ} {recs addr : List ℕ} {n g : ℕ} {m : BlockAddrBlockMetadat
         let e : suc (L * g - 1) ≡ L * g = omega (arith, mul-pos group.some l) in
         rw (before-is l, ← first-is) (rw e at (legal.follows (L * g - 1) (omega (arith, group.there)))) in
         true≢false (sym b ∙ first_good m g before (record {
-          inside = rw group.is (firsts-kept recs k g h firsts);
+          inside = rw group.is (each-kept (firsts-fronts recs) k firsts g h);
           touches = λ l. (next l).touches;
           rises = λ l. (next l).rises;
         })))

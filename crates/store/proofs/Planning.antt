@@ -1,9 +1,8 @@
 -- What is left to plan of a store while its groups are planned one after the other: the plans of the groups left, put behind those
 -- before, give all of them.
 use Prim.Native.Nat.{ℕ, ◌+◌, ◌-◌, ◌*◌, ◌≤◌, ◌<◌, min}
-use mathlib.Core.Path.{◌≡◌, refl, sym, ap, ◌∙◌}
+use mathlib.Core.Path.{◌≡◌, sym, ap, ◌∙◌}
 use mathlib.Core.List.{List}
-use native.Mathlib.Nat.{sub-zero, zero-add}
 use native.Mathlib.Omega.{arith}
 use lib.ListN.{length}
 use lib.Seq.{sets, length-sets}
@@ -31,15 +30,6 @@ pub record Planning (area : List ℕ) (stride n L : ℕ) (kept₀ kept : List �
   pub same : sets kept (2 * g) (plans_from area stride n L first)
       ≡ sets kept₀ 0 (plans best_slope L (group_count L n) (blocks_at area stride 0 n))
 
-pub planning-all : (area : List ℕ) (stride n L : ℕ) (kept : List ℕ) → Planning area stride n L kept kept 0 0 0
-planning-all area stride n L kept = record {
-  within = omega arith;
-  lengths = rw (sub-zero n) (zero-add (length (addrs best_slope L (group_count L n) (blocks_at area stride 0 n))));
-  groups = rw (sub-zero n) (zero-add (group_count L n));
-  long = refl;
-  same = rw (sub-zero n);
-}
-
 module _ {area : List ℕ} {stride n L : ℕ} {kept₀ kept : List ℕ} {len g first : ℕ}
     (planning : Planning area stride n L kept₀ kept len g first) (group : GroupLenOk L) where
   -- behind the last group
@@ -59,10 +49,6 @@ module _ {area : List ℕ} {stride n L : ℕ} {kept₀ kept : List ℕ} {len g f
       )
 
   module _ (count : ℕ) (is : count ≡ min L (n - first)) (more : first < n) where
-    pub plan-bits : length (bits area stride n L first)
-        ≡ length (group_addrs best_slope (blocks_at area stride first count)) + length (bits area stride n L (first + count))
-    plan-bits = length-addrs-turn best_slope group.some area stride n first count is more
-
     pub planning-turn : (r : ℕ) (kept' : List ℕ) → r ≡ length (group_addrs best_slope (blocks_at area stride first count))
         → kept' ≡ sets kept (2 * g) (group_plan best_slope (blocks_at area stride first count))
         → Planning area stride n L kept₀ kept' (len + r) (g + 1) (first + count)
@@ -73,7 +59,7 @@ module _ {area : List ℕ} {stride n L : ℕ} {kept₀ kept : List ℕ} {len g f
         let next : 2 * (g + 1) ≡ 2 * g + length one = omega arith in
         record {
           within = omega arith;
-          lengths = omega (arith, plan-bits, planning.lengths);
+          lengths = omega (arith, length-addrs-turn best_slope group.some area stride n first count is more, planning.lengths);
           groups = omega (arith, planning.groups, group-count-turn group.some n first count is more);
           long = ap length e' ∙ length-sets kept (2 * g) one ∙ planning.long;
           same =

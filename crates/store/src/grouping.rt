@@ -6,9 +6,10 @@ ghost use Rattle.store.specs.Read.{len_of_group};
 ghost use Rattle.store.specs.Facts.{GroupLenOk};
 
 // n blocks in groups of `group_len`; the last may have fewer. No ghost field bounds the two numbers, since blocks_from and
-// blocks_in ask nothing of them. Readers and writers hold the two numbers themselves, since clauses and theorems name them there, and
-// make a Grouping in one line. `GroupLenOk` of a bare length stays a clause, since public functions of several crates take one, any that
-// it holds of: a struct in its place would ask each of their callers to make it first, which is more than they ask now.
+// blocks_in ask nothing of them. Readers and writers hold the two numbers themselves, since clauses and theorems name them there;
+// each store makes one in a function of its own, others where they need it. `GroupLenOk` of a bare length stays a clause, since public
+// functions of several crates take one, any that it holds of: a struct in its place would ask each of their callers to make it first,
+// which is more than they ask now.
 #[derive(Clone, Copy, Debug, PartialEq, Eq)]
 pub struct Grouping {
     pub n: usize,

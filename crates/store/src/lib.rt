@@ -6,7 +6,7 @@ pub mod grouping;
 use group::BlockAddr;
 
 // A block that an ordinal's search found: its place and its address.
-#[derive(Clone, Copy)]
+#[derive(Clone, Copy, Default)]
 pub struct Located {
     pub block_id: usize,
     pub addr: BlockAddr,

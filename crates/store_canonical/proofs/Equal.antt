@@ -1,7 +1,7 @@
 -- The derived test of two group records: true exactly where they are equal.
-use borrow.Author.Tests.{eqb-true, eq-eqb, not-false}
-use mathlib.Core.Path.{◌≡◌, refl, sym, ◌∙◌}
-use mathlib.Core.Bool.{Bool, true, false, not, ◌&&◌, true≢false}
+use borrow.Author.Tests.{eqb-true, eq-eqb}
+use mathlib.Core.Path.{◌≡◌, refl}
+use mathlib.Core.Bool.{Bool, true, false, ◌&&◌, true≢false}
 use lib.Dec.{eqb}
 use Rattle.std.proofs.lemmas.Bool.{and_parts}
 use Rattle.group.specs.declared.BlockAddrBlockMetadata.{BlockAddrBlockMetadata}
@@ -19,9 +19,9 @@ module _ (a b : BlockAddrBlockMetadata) where
       && (eqb a.range_start_nbits b.range_start_nbits
       && eqb a.block_len b.block_len))))))
 
-  pub equal-same : not equal ≡ false → a ≡ b
+  pub equal-same : equal ≡ true → a ≡ b
   equal-same e =
-      let t₀ = and_parts (eqb a.offset b.offset) _ (not-false _ e) in
+      let t₀ = and_parts (eqb a.offset b.offset) _ e in
       let t₁ = and_parts (eqb a.range_start b.range_start) _ t₀.1 in
       let t₂ = and_parts (eqb a.first_ordinal b.first_ordinal) _ t₁.1 in
       let t₃ = and_parts (eqb a.range_start_slope b.range_start_slope) _ t₂.1 in
@@ -44,5 +44,5 @@ equal-self a =
       eq-eqb a.block_len a.block_len refl,
     )
 
-pub same-equal : (a b : BlockAddrBlockMetadata) → a ≡ b → not (equal a b) ≡ true → ⊥
-same-equal a b e t = true≢false (sym t ∙ rw (← e, equal-self a))
+pub same-equal : (a b : BlockAddrBlockMetadata) → a ≡ b → equal a b ≡ false → ⊥
+same-equal a b e t = true≢false (rw (← e, equal-self a) at t)

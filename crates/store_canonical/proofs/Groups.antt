@@ -7,6 +7,7 @@ use native.Mathlib.Omega.{arith}
 use borrow.Author.Tests.{eq-eqb, eqb-true}
 use lib.Dec.{eqb}
 use lib.ListN.{length, drop}
+use Rattle.std.specs.Cmp.{both_ways}
 use Rattle.serialize.specs.Digits.{le_val, DigitsBelow}
 use Rattle.bitpacker.specs.Bits.{bytes_of}
 use Rattle.bitpacker.specs.Fields.{group_bits}
@@ -37,13 +38,6 @@ use Rattle.store_canonical.proofs.Turn.{
   left_end,
   end-left,
 }
-
--- a test that is told both ways
-told : (t r : Bool) → (t ≡ true → r ≡ true) → (r ≡ true → t ≡ true) → r ≡ t
-told true true f g = refl
-told true false f g = f refl
-told false true f g = sym (g refl)
-told false false f g = refl
 
 abbrev pub LeftOf : BlockAddrStore → ℕ → ℕ → Type 0
 LeftOf s g offset = Left best_slope s.group_len s.metas.now s.addrs.now s.n g offset
@@ -98,10 +92,10 @@ module _ (s : BlockAddrStore) where
 
           pub group-refused : t ≡ false → false ≡ is_store_canonical best_slope s.group_len s.metas.now s.addrs.now s.n
           group-refused f =
-              told (is_store_canonical best_slope s.group_len s.metas.now s.addrs.now s.n) false
+              both_ways false (is_store_canonical best_slope s.group_len s.metas.now s.addrs.now s.n)
+              (λ e. absurd (true≢false (sym e)))
               (λ w. absurd (one.1 f (left-group given g there offset passed.0 (passed.1 (left-told best_slope s.group_len s.metas.now
               s.addrs.now s.n w)))))
-              (λ e. absurd (true≢false (sym e)))
 
           pub group-passed : t ≡ true → {r : ℕ} → r ≡ bytes_of (group_bits m.range_start_nbits m.first_ordinal_nbits m.block_len) →
               Passed s (g + 1) (offset + r)
@@ -119,8 +113,8 @@ module _ (s : BlockAddrStore) where
   pub all-passed : CheckedStore s → {g offset : ℕ} → g ≡ group_count s.group_len s.n → Passed s g offset
       → eqb offset (length s.addrs.now) ≡ is_store_canonical best_slope s.group_len s.metas.now s.addrs.now s.n
   all-passed given {g} {offset} all passed =
-      told (is_store_canonical best_slope s.group_len s.metas.now s.addrs.now s.n) (eqb offset (length s.addrs.now))
-      (λ w. eq-eqb offset (length s.addrs.now) (end-left given g offset all passed.0 (passed.1 (left-told best_slope s.group_len
-      s.metas.now s.addrs.now s.n w))))
+      both_ways (eqb offset (length s.addrs.now)) (is_store_canonical best_slope s.group_len s.metas.now s.addrs.now s.n)
       (λ e. told-left best_slope s.group_len s.metas.now s.addrs.now s.n (passed.2 (left_end given g offset all (eqb-true offset (length
       s.addrs.now) e))))
+      (λ w. eq-eqb offset (length s.addrs.now) (end-left given g offset all passed.0 (passed.1 (left-told best_slope s.group_len
+      s.metas.now s.addrs.now s.n w))))

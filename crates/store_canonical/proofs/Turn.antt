@@ -49,13 +49,6 @@ pub record Left (choose : List ℕ → ℕ) (L : ℕ) (recs addr : List ℕ) (n 
   pub records : drop (36 * g) recs ≡ group_records choose L (group_count L n - g) offset (drop (L * g) (store_blocks L recs addr n))
   pub bits : drop offset addr ≡ addrs choose L (group_count L n - g) (drop (L * g) (store_blocks L recs addr n))
 
--- two lists of which the first parts are equally long
-front_same : (l a r : List ℕ) (k : ℕ) → length a ≡ k → l ≡ a ++ r → take k l ≡ a
-front_same l a r k long e = ap (take k) e ∙ take_at a r k long
-
-rest-same : (l a r : List ℕ) (k : ℕ) → length a ≡ k → l ≡ a ++ r → drop k l ≡ r
-rest-same l a r k long e = ap (drop k) e ∙ drop_at a r k long
-
 joined : (l a r : List ℕ) (k : ℕ) → take k l ≡ a → drop k l ≡ r → l ≡ a ++ r
 joined l a r k e f = sym (take-append-drop k l) ∙ ap₂ (λ (x y : List ℕ). x ++ y) e f
 
@@ -216,8 +209,8 @@ module _ {choose : List ℕ → ℕ} {L : ℕ} {recs addr : List ℕ} {n : ℕ} 
             arith,
             given.small,
           )))
-          (front_same (drop (36 * g) recs) _ _ 36 (length-meta_bytes (meta_of choose offset (group_first m own) (group_rest m own)))
-          (left.records ∙ records-split offset))
+          (ap (take 36) (left.records ∙ records-split offset)
+          ∙ take_at _ _ 36 (length-meta_bytes (meta_of choose offset (group_first m own) (group_rest m own))))
 
       pub left-group : GroupCanonical choose offset m own
       unfolding meta_of
@@ -228,8 +221,8 @@ module _ {choose : List ℕ → ℕ} {L : ℕ} {recs addr : List ℕ} {n : ℕ} 
             meta = meta-same;
             bits =
                 ap (λ (x : ℕ). take (length (addr_bytes m (group_first m own) (group_rest m own))) (drop x addr)) at
-                ∙ front_same (drop offset addr) _ _ (length (addr_bytes m (group_first m own) (group_rest m own))) (sym (ap length same))
-                (left.bits ∙ bits-split)
+                ∙ ap (take (length (addr_bytes m (group_first m own) (group_rest m own)))) (left.bits ∙ bits-split)
+                ∙ take_at _ _ (length (addr_bytes m (group_first m own) (group_rest m own))) (sym (ap length same))
                 ∙ sym same;
           }
 
@@ -239,11 +232,9 @@ module _ {choose : List ℕ → ℕ} {L : ℕ} {recs addr : List ℕ} {n : ℕ} 
           record {
             records =
                 sym next-record
-                ∙ rest-same (drop (36 * g) recs) (meta_bytes (meta_of choose offset (group_first m own) (group_rest m own))) (others
-                (offset + k)) 36 (length-meta_bytes (meta_of choose offset (group_first m own) (group_rest m own)))
-                (left.records ∙ (rw long at (records-split offset)));
-            bits = sym (drop-drop k offset addr) ∙ rest-same (drop offset addr) (group_addrs choose (group_first m own ∷ group_rest m
-                own)) other-bits k long (left.bits ∙ bits-split);
+                ∙ ap (drop 36) (left.records ∙ (rw long at (records-split offset)))
+                ∙ drop_at _ _ 36 (length-meta_bytes (meta_of choose offset (group_first m own) (group_rest m own)));
+            bits = sym (drop-drop k offset addr) ∙ ap (drop k) (left.bits ∙ bits-split) ∙ drop_at _ _ k long;
           }
 
 -- ---- all groups

@@ -82,11 +82,7 @@ fn group_canonical(group: &Group, offset: u64, area: &mut [u64]) -> bool
         first: 0,
         count: usize::from(group.meta.block_len) + 1,
     };
-    let planned = blocks.plan_block(offset);
-    if group.meta != planned {
-        return false;
-    }
-    padding(group) == 0
+    group.meta == blocks.plan_block(offset) && padding(group) == 0
 }
 
 // The same of a whole store, with an area of W numbers for a group's blocks, whose length is fixed since the library has no heap. A loop,

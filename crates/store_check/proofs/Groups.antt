@@ -6,10 +6,12 @@ use mathlib.Core.Path.{◌≡◌, refl, sym, ◌∙◌}
 use mathlib.Core.List.{List}
 use mathlib.Core.Bool.{Bool, true, false, not, ◌||◌}
 use lib.Dec.{eqb, leb}
+use Rattle.std.proofs.Math.Bool.{or-false}
 use lib.ListN.{length, take, drop}
 use Rattle.std.specs.Prelude.{Option, Some, None, MatchOption}
 use Rattle.std.specs.Option.{unwrap_or}
 use Rattle.serialize.specs.Digits.{le_val}
+use Rattle.layout.proofs.Fronts.{each-kept}
 use Rattle.group.specs.declared.BlockAddr.{BlockAddr}
 use Rattle.group.specs.Blocks.{no_block}
 use Rattle.group.specs.Legal.{limit}
@@ -20,8 +22,8 @@ use Rattle.store.specs.Store.{group_count}
 use Rattle.store.specs.Read.{group_meta, store_block}
 use Rattle.store.specs.Check.{groups_bad, firsts_bad, blocks_bad}
 use Rattle.store.proofs.Groups.{group-first-lt}
-use Rattle.store.proofs.Rows.{groups-kept}
-use Rattle.store.proofs.Lookup.{rest_part}
+use Rattle.store.proofs.Rows.{groups-fronts}
+use Rattle.std.proofs.lemmas.List.{take_rest}
 use Rattle.store.proofs.Passed.{
   Group,
   Passed,
@@ -49,17 +51,13 @@ pub before-passed : (s : BlockAddrStore) (o : Option BlockAddr) (g : ℕ) → Be
 before-passed s None g e = rw e (passed_none s.group_len s.metas.now s.addrs.now s.n no_block)
 before-passed s (Some b) g e = e.1
 
-or-false : (a : Bool) → a ≡ a || false
-or-false true = refl
-or-false false = refl
-
 -- the code's test of a group's first values
 pub first-tested : (s : BlockAddrStore) (m : BlockAddrBlockMetadata) (o : Option BlockAddr) (g : ℕ) (t : Bool) → Before s o g
     → MatchOption o (t ≡ (leb limit m.range_start || leb limit m.first_ordinal))
     (λ last. t ≡ ((leb limit m.range_start || leb limit m.first_ordinal) || (not (eqb m.range_start last.end) || leb m.first_ordinal
     last.first_ordinal)))
     → t ≡ first_bad m g (block_before o)
-first-tested s m None g t e h = h ∙ rw e (or-false (leb limit m.range_start || leb limit m.first_ordinal))
+first-tested s m None g t e h = h ∙ rw e (sym (or-false (leb limit m.range_start || leb limit m.first_ordinal)))
 first-tested s m (Some b) g t e h = h ∙ rw (lt-ltb 0 g e.0) refl
 
 -- a group that the code goes on to: m is the record of group g of the store's `count`
@@ -75,7 +73,7 @@ module _ (s : BlockAddrStore) {g count : ℕ} {m : BlockAddrBlockMetadata} (coun
     few = s.len.few;
     there = group-first-lt s.len.some s.n g there;
     is = is;
-    keeps = rw is (groups-kept s.group_len s.metas.now s.addrs.now s.n (group_count s.group_len s.n) g there kept);
+    keeps = rw is (each-kept (groups-fronts s.group_len s.metas.now s.addrs.now s.n) (group_count s.group_len s.n) kept g there);
   }
 
   abbrev row_16 : Bool
@@ -86,7 +84,7 @@ module _ (s : BlockAddrStore) {g count : ℕ} {m : BlockAddrBlockMetadata} (coun
   told : {lent : BlockAddrBlockMetadata} {d : List ℕ} → (lent ≡ m) × (d ≡ drop m.offset s.addrs.now) → {r : Option BlockAddr}
       → r ≡ last_of (block_read lent (le_val d)) lent.block_len
       → r ≡ last_of (block_read m (le_val (take (length s.addrs.now - m.offset) (drop m.offset s.addrs.now)))) m.block_len
-  told e h = rw (rest_part s.addrs.now m.offset, ← e.1, ← e.0) h
+  told e h = rw (take_rest s.addrs.now m.offset, ← e.1, ← e.0) h
 
   pub blocks-refused : {lent : BlockAddrBlockMetadata} {d : List ℕ} → (lent ≡ m) × (d ≡ drop m.offset s.addrs.now) → {r : Option BlockAddr}
       → r ≡ last_of (block_read lent (le_val d)) lent.block_len → r ≡ None → true ≡ row_16
@@ -106,7 +104,7 @@ module _ (s : BlockAddrStore) {g count : ℕ} {m : BlockAddrBlockMetadata} (coun
       pub lends : (m.offset ≤ length s.addrs.now) × Readable m (length (drop m.offset s.addrs.now))
       lends = (
         omega (arith, (group-kept group).inside),
-        rw (rest_part s.addrs.now m.offset) at (group-readable group (before-passed s o g before) (sym tested ∙ good)),
+        rw (take_rest s.addrs.now m.offset) at (group-readable group (before-passed s o g before) (sym tested ∙ good)),
       )
 
       pub blocks-passed : {lent : BlockAddrBlockMetadata} {d : List ℕ} → (lent ≡ m) × (d ≡ drop m.offset s.addrs.now)

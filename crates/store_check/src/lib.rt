@@ -56,8 +56,8 @@ fn last_block_by<F: Fn(usize) -> BlockStartAddr>(group: &Group, block_start: F) 
     let last = usize::from(group.meta.block_len);
     let mut start = group.meta.range_start;
     let mut first_ordinal = group.meta.first_ordinal;
-    for i in 0..last {
-        let next = block_start(i + 1);
+    for i in 1..last + 1 {
+        let next = block_start(i);
         if next.range_start < start {
             return None;
         }

@@ -102,7 +102,7 @@ impl<'a> BlockAddrStore<'a> {
     }
 
     // Block `block_id`; where its group can't be read, one whose numbers break row 3. A plain block comes back in less time than an
-    // enum around it, and a closure given to map_or would need clauses of its own.
+    // enum around it. A match: map_or would put the plain block before the case that is meant, and be as long.
     #[tactic(auto, unfolding(store::specs::Read::block_or, store::specs::Read::store_block))]
     #[inline(always)]
     pub fn block(&self, block_id: usize) -> BlockAddr
@@ -151,9 +151,7 @@ impl<'a> BlockAddrStore<'a> {
             → OrdFoundAs (store_block self.now.group_len self.now.metas.now self.now.addrs.now) self.now.n ord result }
     {
         let g = self.bisect_groups(ord);
-        let Some(group) = self.group(g) else {
-            return Err(Refusal::Unfit);
-        };
+        let group = self.group(g).ok_or(Refusal::Unfit)?;
         if group.meta.first_ordinal > ord {
             return Err(Refusal::OrdinalBelow);
         }

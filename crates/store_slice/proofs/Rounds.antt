@@ -20,11 +20,11 @@ use Rattle.store.specs.declared.grouping.Grouping.{Grouping}
 use Rattle.store.specs.Plans.{group_plan, plans, StandsAt}
 use Rattle.store.specs.Read.{len_of_group}
 use Rattle.store.specs.Store.{group_count, group_record, group_addrs, group_records, addrs, store_bytes}
-use Rattle.store.proofs.Groups.{group-count-below, group-first-lt, legal-part}
+use Rattle.store.proofs.Groups.{group-count-le, group-count-below, group-first-lt, legal-part}
 use Rattle.store.proofs.Plans.{plans-add, length-plans, length-group_plan, standing-front, standing-rest}
 use Rattle.store.proofs.Stored.{addrs-le, sets-turn, sets-store, length-record, length-records, length-store_bytes, bits_inside}
 use Rattle.store_slice.specs.Slice.{block_list_no}
-use Rattle.store_slice.proofs.Kept.{records-legal}
+use Rattle.store_slice.proofs.Kept.{records-few, records-legal}
 use Rattle.store_slice.proofs.Taken.{bits-add}
 
 -- ---- what is planned
@@ -62,11 +62,19 @@ module _ {L : ℕ} (len : GroupLenOk L) (bs : List BlockAddr) where
   pub few-bits : block_list_no bs ≡ 0 → (k : ℕ) → length (addrs best_slope L k bs) ≤ 3577 * k
   few-bits rows k = addrs-le best_slope best_slope-lt L k bs len.few (records-legal bs rows)
 
-  -- the length, once the groups are planned
-  pub planned-length : {groups bits : ℕ} → groups ≡ group_count L (length bs)
-      → bits ≡ length (addrs best_slope L (group_count L (length bs)) bs)
-      → 8 + meta_len * groups + bits ≡ length (store_bytes best_slope L bs)
-  planned-length e f = omega (arith, length-store_bytes best_slope L bs len.some)
+  -- as the code counts the groups
+  module _ {groups : ℕ} {grouping : Grouping} (e : (grouping.n ≡ length bs) × (grouping.group_len ≡ L))
+      (counted : groups ≡ group_count grouping.group_len grouping.n) where
+    pub groups-are : groups ≡ group_count L (length bs)
+    groups-are = rw (e.1, e.0) at counted
+
+    pub groups-few : block_list_no bs ≡ 0 → groups ≤ 65536
+    groups-few rows = omega (arith, groups-are, group-count-le len.some (length bs), records-few bs rows)
+
+    -- the length, once the groups are planned
+    pub planned-length : {bits : ℕ} → bits ≡ length (addrs best_slope L (group_count L (length bs)) bs)
+        → 8 + meta_len * groups + bits ≡ length (store_bytes best_slope L bs)
+    planned-length f = omega (arith, groups-are, length-store_bytes best_slope L bs len.some)
 
   pub rest-all : (out₀ out : List ℕ) → out ≡ sets out₀ 0 (le_bytes 8 (meta_len * group_count L (length bs))) → Rest L bs out₀ out 0 0
   unfolding addrs

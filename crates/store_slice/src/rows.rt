@@ -8,7 +8,7 @@ use layout::MAX_BLOCKS;
 use layout::refusals::Refusal;
 
 // The last of the records seen so far, and whether they break rows 3, 4 and 5. A flag for each row and not the first row hit, since
-// row 3 of any record comes before row 4 of an earlier one; the flags are or-ed without a branch a record.
+// row 3 of any record comes before row 4 of an earlier one; the flags are or-ed without a branch on a row.
 #[derive(Clone, Copy, Default)]
 pub struct Seen {
     pub last: Option<BlockAddr>,

@@ -18,7 +18,8 @@ const FEW: usize = 16;
 
 const SOME: usize = 1_024;
 
-// A list of records: start, end and first ordinal of each. It is lent, as C has it.
+// A list of records: start, end and first ordinal of each. It is lent, as C has it. A type of its own beside store_slice's `Structs`: the
+// blocks of its ghost are another function of the records, and `Into`, which both could ask for, names none.
 #[derive(Clone, Copy)]
 pub struct Numbers<'a> {
     pub records: &'a [[u64; 3]],

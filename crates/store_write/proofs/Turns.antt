@@ -2,7 +2,7 @@
 use Prim.Native.Nat.{ℕ, ◌+◌, ◌*◌, ◌^◌, ◌≤◌, ◌<◌, min}
 use mathlib.Core.Path.{◌≡◌, refl}
 use mathlib.Core.List.{List, ◌++◌}
-use native.Mathlib.Nat.{mul-suc, mul-zero, mul-le-mul_left}
+use native.Mathlib.Nat.{mul-suc, mul-le-mul_left}
 use native.Mathlib.Numerals.{add-one}
 use native.Mathlib.Omega.{arith}
 use lib.ListN.{length}
@@ -15,9 +15,9 @@ use Rattle.store.specs.Read.{len_of_group}
 use Rattle.store.specs.Store.{group_count, group_record, group_addrs, store_bytes}
 use Rattle.store.specs.Plans.{group_plan, plans, StandsAt}
 use Rattle.store.proofs.Groups.{group-count-above, group-count-le, group-first-lt}
-use Rattle.store.proofs.Stored.{store-addrs-le}
+use Rattle.store.proofs.Stored.{store-addrs-le, length-addrs-turn}
 use Rattle.store.proofs.Plans.{plans-turn, length-plan, standing-front, standing-rest}
-use Rattle.store.proofs.Planning.{Planning, planning-all, planning-none, planning-turn, plan-bits, plans_from}
+use Rattle.store.proofs.Planning.{Planning, planning-none, planning-turn, plans_from}
 use Rattle.store.proofs.Left.{Left, left-none, bits-turn, bits-room, left-turn, whole}
 use Rattle.store_write.specs.Blocks.{all_of, in_group}
 use Rattle.store_write.specs.declared.AreaStore.{AreaStore}
@@ -34,12 +34,6 @@ abbrev pub Planned : AreaStore → List ℕ → List ℕ → ℕ → ℕ → Typ
 Planned s kept₀ kept len g = Planning s.area.now s.stride s.n s.group_len kept₀ kept len g (first_of s g)
 
 module _ (s : AreaStore) where
-  first-none : first_of s 0 ≡ 0
-  first-none = rw (mul-zero s.group_len) (omega arith)
-
-  pub planned-none : (kept : List ℕ) → Planned s kept kept 0 0
-  planned-none kept = rw first-none (planning-all s.area.now s.stride s.n s.group_len kept)
-
   module _ (g : ℕ) (there : g < groups_of s) where
     pub group-there : s.group_len * g < s.n
     group-there = group-first-lt s.ok.1.some s.n g there
@@ -60,7 +54,8 @@ module _ (s : AreaStore) where
             omega (
               arith,
               here.lengths,
-              plan-bits here s.ok.1 (len_of_group s.group_len s.n g) refl group-there,
+              length-addrs-turn best_slope s.ok.1.some s.area.now s.stride s.n (s.group_len * g) (len_of_group s.group_len s.n g) refl
+                  group-there,
               rw is at bytes,
               store-addrs-le best_slope best_slope-lt s.ok.0 s.ok.1,
             )

@@ -19,25 +19,25 @@ invariant_of-blocks c =
       )) c.requires.0);
     }
 
-pub returns-then-ne : goal.returns-then-ne
-returns-then-ne c =
+pub returns-then-eq : goal.returns-then-eq
+returns-then-eq c =
     let g = c.args.group.now in
-    let planned = planned-is g.meta g.«data».now _ c.read_group.ensures best_slope c.args.offset c.plan_block-planned.result
-    (rw c.from.ensures at c.plan_block-planned.ensures) in (
-      λ e. absurd (true≢false (sym e)),
-      λ e canonical. same-equal _ _ (canonical.meta ∙ sym planned) (sym c.ne.ensures ∙ c.if-ne.true),
-    )
-
-pub returns : goal.returns
-returns c =
-    let g = c.args.group.now in
-    let planned = planned-is g.meta g.«data».now _ c.read_group.ensures best_slope c.args.offset c.plan_block-planned.result
-    (rw c.from.ensures at c.plan_block-planned.ensures) in (
+    let planned = planned-is g.meta g.«data».now _ c.read_group.ensures best_slope c.args.offset c.plan_block.result
+    (rw c.from.ensures at c.plan_block.ensures) in (
       λ e. record {
-        meta = equal-same _ _ (sym c.ne.ensures ∙ c.if-ne.false) ∙ planned;
+        meta = equal-same _ _ (sym c.eq.ensures ∙ c.if-eq.true) ∙ planned;
         bits = bits-exact g.meta g.«data».now c.padding.ensures.1 g.readable c.requires.0 (sym c.padding.ensures.0 ∙ eqb-true
             c.padding.result 0 e);
       },
       λ e canonical. eqb-false c.padding.result 0 e (c.padding.ensures.0 ∙ padding-zero g.meta g.«data».now c.padding.ensures.1 g.readable
           c.requires.0 canonical.bits),
+    )
+
+pub returns-else-eq : goal.returns-else-eq
+returns-else-eq c =
+    let g = c.args.group.now in
+    let planned = planned-is g.meta g.«data».now _ c.read_group.ensures best_slope c.args.offset c.plan_block.result
+    (rw c.from.ensures at c.plan_block.ensures) in (
+      λ e. absurd (true≢false (sym e ∙ c.if-eq.false)),
+      λ e canonical. same-equal _ _ (canonical.meta ∙ sym planned) (sym c.eq.ensures ∙ c.if-eq.false),
     )

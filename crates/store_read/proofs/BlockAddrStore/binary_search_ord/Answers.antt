@@ -37,22 +37,24 @@ module _ (L : ℕ) (recs addr : List ℕ) (some : 1 ≤ L) (ord g : ℕ) where
 pub returns-then-group-ord-clause-ord_found_as : goal.returns-then-group-ord-clause-ord_found_as
 unfolding OrdFoundAs
 returns-then-group-ord-clause-ord_found_as c ok =
-    let s = c.args.self.now in (
+    let s = c.args.self.now in
+    let some = rw c.in_ok-group.ensures.ok_part at c.group.ensures in (
       omega arith,
       below-first s.group_len s.metas.now s.addrs.now s.len.some c.args.ord _ _ refl c.bisect_groups-g.ensures.low
-          (rw c.in-Some.ensures.1 at c.if-group-ord.true),
+          (rw some.1 at c.if-group-ord.true),
     )
 
 pub returns-then-numbers_bad-clause-ord_found_as : goal.returns-then-numbers_bad-clause-ord_found_as
 unfolding OrdFoundAs
 returns-then-numbers_bad-clause-ord_found_as c ok =
     let s = c.args.self.now in
+    let some = rw c.in_ok-group.ensures.ok_part at c.group.ensures in
     let g = c.bisect_groups-g.result in
     let j = c.bisect_for_ord-inner.result in
     let begins : s.group_len * g < s.n = group-first-lt s.len.some s.n g c.bisect_groups-g.ensures.there in
-    let inside : j < len_of_group s.group_len s.n g = omega (arith, c.bisect_for_ord-inner.ensures.0, c.in-Some.ensures.2) in
+    let inside : j < len_of_group s.group_len s.n g = omega (arith, c.bisect_for_ord-inner.ensures.0, some.2) in
     let read =
-    read-as s.group_len s.metas.now s.addrs.now s.len.some c.args.ord g _ _ c.in-Some.ensures.1 c.in-Some.ensures.3 j
+    read-as s.group_len s.metas.now s.addrs.now s.len.some c.args.ord g _ _ some.1 some.3 j
     (omega (arith, inside)) _ c.deserialize_block_addr-addr.ensures in
     absurd (true≢false
     (sym c.if-numbers_bad.true ∙ c.numbers_bad.ensures ∙ ap are_numbers_bad read
@@ -62,9 +64,10 @@ pub returns-clause-ord_found_in : goal.returns-clause-ord_found_in
 unfolding OrdFoundIn
 returns-clause-ord_found_in c =
     let s = c.args.self.now in
+    let some = rw c.in_ok-group.ensures.ok_part at c.group.ensures in
     let g = c.bisect_groups-g.result in
     let begins : s.group_len * g < s.n = group-first-lt s.len.some s.n g c.bisect_groups-g.ensures.there in (
-      omega (arith, begins, c.bisect_for_ord-inner.ensures.0, c.in-Some.ensures.2),
+      omega (arith, begins, c.bisect_for_ord-inner.ensures.0, some.2),
       numbers-ok _ (sym c.numbers_bad.ensures ∙ c.if-numbers_bad.false),
     )
 
@@ -72,11 +75,12 @@ pub returns-clause-ord_found_as : goal.returns-clause-ord_found_as
 unfolding OrdFoundAs
 returns-clause-ord_found_as c ok =
     let s = c.args.self.now in
+    let some = rw c.in_ok-group.ensures.ok_part at c.group.ensures in
     let g = c.bisect_groups-g.result in
     let j = c.bisect_for_ord-inner.result in
     let begins : s.group_len * g < s.n = group-first-lt s.len.some s.n g c.bisect_groups-g.ensures.there in (
-      found s.group_len s.metas.now s.addrs.now s.len.some c.args.ord g _ _ c.in-Some.ensures.1 c.in-Some.ensures.3 s.n j ok begins
-          c.in-Some.ensures.2 c.bisect_for_ord-inner.ensures c.bisect_groups-g.ensures.high,
-      read-as s.group_len s.metas.now s.addrs.now s.len.some c.args.ord g _ _ c.in-Some.ensures.1 c.in-Some.ensures.3 j
-          (omega (arith, c.bisect_for_ord-inner.ensures.0, c.in-Some.ensures.2)) _ c.deserialize_block_addr-addr.ensures,
+      found s.group_len s.metas.now s.addrs.now s.len.some c.args.ord g _ _ some.1 some.3 s.n j ok begins
+          some.2 c.bisect_for_ord-inner.ensures c.bisect_groups-g.ensures.high,
+      read-as s.group_len s.metas.now s.addrs.now s.len.some c.args.ord g _ _ some.1 some.3 j
+          (omega (arith, c.bisect_for_ord-inner.ensures.0, some.2)) _ c.deserialize_block_addr-addr.ensures,
     )

@@ -1,6 +1,7 @@
 -- A group that the test lets pass keeps its rule, and the bytes from its offset on can be read.
 use Rattle.std.proofs.Common.{arith, sym, ◌∙◌}
-use Rattle.store.proofs.Lookup.{group-kept, part-readable, rest_part, bad-is}
+use Rattle.store.proofs.Lookup.{group-kept, part-readable, bad-is}
+use Rattle.std.proofs.lemmas.List.{take_rest}
 use Rattle.store_read.proofs.BlockAddrStore.group.Goals as goal
 
 pub group_of-requires : goal.group_of-requires
@@ -8,7 +9,7 @@ group_of-requires c =
     let s = c.args.self.now in
     let passed = sym c.meta_bad.ensures ∙ c.if-meta_bad.false in (
       omega (arith, (group-kept _ _ s.addrs.now passed).inside),
-      rw (rest_part s.addrs.now c.deserialize-meta.result.offset) at (part-readable _ _ s.addrs.now passed
+      rw (take_rest s.addrs.now c.deserialize-meta.result.offset) at (part-readable _ _ s.addrs.now passed
           (omega (arith, c.blocks_in-count.ensures, s.len.few))),
     )
 

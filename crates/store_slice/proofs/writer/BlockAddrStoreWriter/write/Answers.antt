@@ -1,10 +1,9 @@
 -- `BlockAddrStoreWriter::write` meets its contract: row 9, or the header and then group after group.
 use Rattle.std.proofs.Common.{length, ◌∙◌, arith}
 use Rattle.store.specs.Store.{group_count}
-use Rattle.store.proofs.Groups.{group-count-le}
 use Rattle.store_slice.proofs.Answer.{short-answer, whole-answer}
 use Rattle.store_slice.proofs.Kept.{records-few}
-use Rattle.store_slice.proofs.Rounds.{held, few-bits, planned-length, rest-all, rest-none, rest-next}
+use Rattle.store_slice.proofs.Rounds.{groups-are, groups-few, held, few-bits, planned-length, rest-all, rest-none, rest-next}
 use Rattle.store_slice.proofs.Rounds.{standing, write-room}
 use Rattle.store_slice.proofs.writer.BlockAddrStoreWriter.write.Goals as goal
 
@@ -16,39 +15,32 @@ group_count-groups-requires g c =
 pub overflow_mul-metas : goal.overflow_mul-metas
 overflow_mul-metas g c =
     let bs = g.R.Records.blocks c.args.self.now.records.now in
-    let groups = rw (c.grouping.ensures.1, c.grouping.ensures.0) at c.group_count-groups.ensures in
-    let few = records-few bs c.requires.0 in
-    let least = group-count-le c.args.self.now.len.some (length bs) in
+    let few = groups-few c.args.self.now.len bs c.grouping.ensures c.group_count-groups.ensures c.requires.0 in
     omega arith
 
 pub overflow_add-len : goal.overflow_add-len
 overflow_add-len g c =
     let bs = g.R.Records.blocks c.args.self.now.records.now in
-    let groups = rw (c.grouping.ensures.1, c.grouping.ensures.0) at c.group_count-groups.ensures in
-    let few = records-few bs c.requires.0 in
-    let least = group-count-le c.args.self.now.len.some (length bs) in
+    let few = groups-few c.args.self.now.len bs c.grouping.ensures c.group_count-groups.ensures c.requires.0 in
     omega arith
 
 pub overflow_add-len-2 : goal.overflow_add-len-2
 overflow_add-len-2 g c =
     let bs = g.R.Records.blocks c.args.self.now.records.now in
-    let groups = rw (c.grouping.ensures.1, c.grouping.ensures.0) at c.group_count-groups.ensures in
-    let few = records-few bs c.requires.0 in
-    let least = group-count-le c.args.self.now.len.some (length bs) in
+    let groups = groups-are c.args.self.now.len bs c.grouping.ensures c.group_count-groups.ensures in
+    let few = groups-few c.args.self.now.len bs c.grouping.ensures c.group_count-groups.ensures c.requires.0 in
     omega (arith, c.requires.2, few-bits c.args.self.now.len bs c.requires.0 (group_count c.args.self.now.group_len (length bs)))
 
 pub returns-then-out-len-clause-stored : goal.returns-then-out-len-clause-stored
 returns-then-out-len-clause-stored g c =
     let bs = g.R.Records.blocks c.args.self.now.records.now in
-    let groups = rw (c.grouping.ensures.1, c.grouping.ensures.0) at c.group_count-groups.ensures in
-    let size = planned-length c.args.self.now.len bs groups c.requires.2 in
+    let size = planned-length c.args.self.now.len bs c.grouping.ensures c.group_count-groups.ensures c.requires.2 in
     (short-answer c.args.self.now.group_len bs c.args.out.now c.requires.0 (omega (arith, size, c.if-out-len.true))).0
 
 pub returns-then-out-len-clause-bytes : goal.returns-then-out-len-clause-bytes
 returns-then-out-len-clause-bytes g c =
     let bs = g.R.Records.blocks c.args.self.now.records.now in
-    let groups = rw (c.grouping.ensures.1, c.grouping.ensures.0) at c.group_count-groups.ensures in
-    let size = planned-length c.args.self.now.len bs groups c.requires.2 in
+    let size = planned-length c.args.self.now.len bs c.grouping.ensures c.group_count-groups.ensures c.requires.2 in
     (short-answer c.args.self.now.group_len bs c.args.out.now c.requires.0 (omega (arith, size, c.if-out-len.true))).1
 
 pub loop-g-init : goal.loop-g-init
@@ -59,8 +51,8 @@ loop-g-init g c =
 pub new-place-requires : goal.new-place-requires
 new-place-requires g c =
     let bs = g.R.Records.blocks c.args.self.now.records.now in
-    let groups = rw (c.grouping.ensures.1, c.grouping.ensures.0) at c.group_count-groups.ensures in
-    let size = planned-length c.args.self.now.len bs groups c.requires.2 in
+    let groups = groups-are c.args.self.now.len bs c.grouping.ensures c.group_count-groups.ensures in
+    let size = planned-length c.args.self.now.len bs c.grouping.ensures c.group_count-groups.ensures c.requires.2 in
     let now = held c.args.self.now.len c.requires.0 c.grouping.ensures c.group_count-groups.ensures c.loop-g-test.true
     c.hold_group-group.ensures in
     (c.loop-g-test.true, omega (arith, groups, write-room now (omega (arith, size, c.if-out-len.false)) c.loop-g.invariant))
@@ -68,8 +60,8 @@ new-place-requires g c =
 pub write_group-offset-requires : goal.write_group-offset-requires
 write_group-offset-requires g c =
     let bs = g.R.Records.blocks c.args.self.now.records.now in
-    let groups = rw (c.grouping.ensures.1, c.grouping.ensures.0) at c.group_count-groups.ensures in
-    let size = planned-length c.args.self.now.len bs groups c.requires.2 in
+    let groups = groups-are c.args.self.now.len bs c.grouping.ensures c.group_count-groups.ensures in
+    let size = planned-length c.args.self.now.len bs c.grouping.ensures c.group_count-groups.ensures c.requires.2 in
     let now = held c.args.self.now.len c.requires.0 c.grouping.ensures c.group_count-groups.ensures c.loop-g-test.true
     c.hold_group-group.ensures in
     rw (c.new-place.ensures.1, groups) (
@@ -84,8 +76,7 @@ write_group-offset-requires g c =
 pub overflow_add-offset : goal.overflow_add-offset
 overflow_add-offset g c =
     let bs = g.R.Records.blocks c.args.self.now.records.now in
-    let groups = rw (c.grouping.ensures.1, c.grouping.ensures.0) at c.group_count-groups.ensures in
-    let size = planned-length c.args.self.now.len bs groups c.requires.2 in
+    let size = planned-length c.args.self.now.len bs c.grouping.ensures c.group_count-groups.ensures c.requires.2 in
     let now = held c.args.self.now.len c.requires.0 c.grouping.ensures c.group_count-groups.ensures c.loop-g-test.true
     c.hold_group-group.ensures in
     let room = write-room now (omega (arith, size, c.if-out-len.false)) c.loop-g.invariant in
@@ -94,8 +85,8 @@ overflow_add-offset g c =
 pub loop-g-preserved : goal.loop-g-preserved
 loop-g-preserved g c =
     let bs = g.R.Records.blocks c.args.self.now.records.now in
-    let groups = rw (c.grouping.ensures.1, c.grouping.ensures.0) at c.group_count-groups.ensures in
-    let size = planned-length c.args.self.now.len bs groups c.requires.2 in
+    let groups = groups-are c.args.self.now.len bs c.grouping.ensures c.group_count-groups.ensures in
+    let size = planned-length c.args.self.now.len bs c.grouping.ensures c.group_count-groups.ensures c.requires.2 in
     let now = held c.args.self.now.len c.requires.0 c.grouping.ensures c.group_count-groups.ensures c.loop-g-test.true
     c.hold_group-group.ensures in
     let place = c.new-place.ensures in
@@ -109,14 +100,13 @@ loop-g-preserved g c =
 pub returns-clause-stored : goal.returns-clause-stored
 returns-clause-stored g c =
     let bs = g.R.Records.blocks c.args.self.now.records.now in
-    let groups = rw (c.grouping.ensures.1, c.grouping.ensures.0) at c.group_count-groups.ensures in
-    let size = planned-length c.args.self.now.len bs groups c.requires.2 in
+    let size = planned-length c.args.self.now.len bs c.grouping.ensures c.group_count-groups.ensures c.requires.2 in
     rw size (whole-answer c.args.self.now.group_len bs c.args.out.now c.requires.0 (omega (arith, size, c.if-out-len.false))).0
 
 pub returns-clause-bytes : goal.returns-clause-bytes
 returns-clause-bytes g c =
     let bs = g.R.Records.blocks c.args.self.now.records.now in
-    let groups = rw (c.grouping.ensures.1, c.grouping.ensures.0) at c.group_count-groups.ensures in
-    let size = planned-length c.args.self.now.len bs groups c.requires.2 in
+    let groups = groups-are c.args.self.now.len bs c.grouping.ensures c.group_count-groups.ensures in
+    let size = planned-length c.args.self.now.len bs c.grouping.ensures c.group_count-groups.ensures c.requires.2 in
     rest-none c.args.self.now.len bs (omega (arith, groups, c.loop-g-test.false)) c.loop-g.invariant
     ∙ (whole-answer c.args.self.now.group_len bs c.args.out.now c.requires.0 (omega (arith, size, c.if-out-len.false))).1
