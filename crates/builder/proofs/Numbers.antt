@@ -8,9 +8,10 @@ use lib.Dec.{eqb, ltb}
 use lib.ListN.{length}
 use lib.Seq.{sets}
 use borrow.Author.Tests.{eqb-false, ltb-false, lt-ltb, le-ltb, not-false}
+use borrow.Table.Steps.{cases}
 use Rattle.layout.specs.Layout.{max_blocks, max_key_len}
+use Rattle.layout.proofs.Rows.{cond-zero}
 use Rattle.std.proofs.lemmas.Bool.{or_parts}
-use Rattle.keys.proofs.Order.{by-test}
 use Rattle.keys.specs.Order.{less, ◌≺◌}
 use Rattle.group.specs.declared.BlockAddr.{BlockAddr}
 use Rattle.group.specs.Legal.{NumbersOk, Follows}
@@ -69,7 +70,7 @@ module _ (v : View) (given key : List ℕ) (b : BlockAddr) (k : ℕ) (e : k ≡ 
 
 -- row 1 by the test alone
 pub row-one : (v : View) (k later : ℕ) → k ≡ cond (area_bad v) 1 0 → 0 < k → k ≡ cond (area_bad v) 1 later
-row-one v k later e h = by-test (area_bad v) (λ t. rw t (rw t at e)) (λ t. absurd (let z : k ≡ 0 = rw t at e in omega arith))
+row-one v k later e h = cases (area_bad v) (λ t. rw t (rw t at e)) (λ t. absurd (let z : k ≡ 0 = rw t at e in omega arith))
 
 module _ (v : View) (key : List ℕ) (b : BlockAddr) where
   pub add-first : (k : ℕ) → k ≡ cond (area_bad v) 1 0 → 0 < k → k ≡ add_no v key b
@@ -108,10 +109,6 @@ module _ (v : View) (next : List ℕ) where
     shorten-none z f = simp (area, sym e ∙ z, f)
 
 -- ---- no row is hit
-
-cond-zero : (t : Bool) (k r : ℕ) → cond t (suc k) r ≡ 0 → (t ≡ false) × (r ≡ 0)
-cond-zero true k r e = absurd (omega arith)
-cond-zero false k r e = (refl, e)
 
 -- a row that asks only after a block
 behind : (n : ℕ) (t : Bool) → (ltb 0 n && t) ≡ false → (n ≡ 0 → ⊥) → t ≡ false

@@ -8,8 +8,8 @@ use lib.Dec.{eqb}
 use lib.ListN.{length, get_or, take, drop, set, length-take, length-drop}
 use lib.Seq.{sets, get_or-take, get_or-drop, get_or-set_other, take-take}
 use borrow.Author.Tests.{eqb-false}
+use borrow.Table.Steps.{cases}
 use Rattle.keys.specs.Shorten.{shorten}
-use Rattle.keys.proofs.Order.{by-test}
 use Rattle.keys.proofs.Shorten.{Raised, shorten-one-byte, sets-part, sets-part-one}
 use Rattle.builder.specs.View.{stride}
 use Rattle.builder.specs.Rows.{AreaOk}
@@ -21,7 +21,7 @@ pub short-blocks-only : (n : ℕ) (B K next : List ℕ) (j : ℕ)
     → (j ≡ stride * (n - 1) + key_len_field → ⊥) → get_or (short_blocks n B K next) j 0 ≡ get_or B j 0
 unfolding short_blocks
 short-blocks-only n B K next j h =
-    by-test (eqb n 0) (λ e. simp e) (λ e. simp e (get_or-set_other B (stride * (n - 1) + key_len_field) j _ 0 h))
+    cases (eqb n 0) (λ e. simp e) (λ e. simp e (get_or-set_other B (stride * (n - 1) + key_len_field) j _ 0 h))
 
 -- the byte at `place`, within the len bytes at `at`, is raised
 pub record OneRaised (at len : ℕ) (K K' : List ℕ) : Type 0 where
@@ -57,7 +57,7 @@ pub short-keys-one-byte : (n : ℕ) (B K next : List ℕ) → AreaOk (area_view 
     → (short_keys n B K next ≡ K) ⊎ OneRaised (area_place B (n - 1)).offset (area_place B (n - 1)).len K (short_keys n B K next)
 unfolding short_keys
 short-keys-one-byte n B K next ok =
-    by-test (eqb n 0)
+    cases (eqb n 0)
     (λ e. simp e (inl refl))
     (λ e.
     simp e

@@ -1,16 +1,17 @@
 -- Row 8: the tests block by block, and what they give the writers where none is hit.
-use Prim.Native.Nat.{ℕ, zero, suc, ◌+◌, ◌-◌, ◌≤◌, ◌<◌}
-use mathlib.Core.Path.{◌≡◌, refl, sym, ap, ◌∙◌}
+use Prim.Native.Nat.{ℕ, suc, ◌+◌, ◌-◌, ◌≤◌, ◌<◌}
+use mathlib.Core.Path.{◌≡◌, refl, ap, ◌∙◌}
 use mathlib.Core.List.{List}
-use mathlib.Core.Bool.{cond, Bool, true, false, not, ◌||◌}
+use mathlib.Core.Bool.{cond, true, false, not, ◌||◌}
 use native.Mathlib.Numerals.{add-one}
 use native.Mathlib.Omega.{arith}
 use lib.Dec.{eqb}
 use lib.ListN.{length, length-take, length-drop}
 use borrow.Author.Tests.{eqb-true, eqb-false, eq-eqb, ne_eqb, not-false}
+use borrow.Table.Steps.{cases}
 use Rattle.layout.specs.Layout.{max_key_len}
 use Rattle.std.proofs.lemmas.Bool.{or_parts, or_left, or_right}
-use Rattle.keys.proofs.Order.{by-test}
+use Rattle.layout.proofs.Fronts.{Fronts, each-kept}
 use Rattle.group.specs.Legal.{Follows}
 use Rattle.directory.specs.Facts.{KeysArea}
 use Rattle.store.specs.Facts.{StoreArea}
@@ -21,28 +22,6 @@ use Rattle.builder.specs.Finish.{place_bad, rule_bad, places_bad, rules_bad, lis
 use Rattle.builder.specs.declared.SSTableIndexBuilder.{SSTableIndexBuilder}
 use Rattle.builder.proofs.Numbers.{row-one, BlockOk, block-ok}
 use Rattle.builder.proofs.Views.{record-ok, none-ok, area-ok, next-some, last_some}
-
--- ---- a test of every block
-
-module _ (bad test : ℕ → Bool) (turn : (m : ℕ) → bad (suc m) ≡ (bad m || test m)) where
-  some-hit : (m n : ℕ) → m < n → test m ≡ true → bad n ≡ true
-  some-hit m zero h e = absurd (omega arith)
-  some-hit m (suc n) h e =
-      turn n
-      ∙ by-test (eqb m n)
-      (λ t. or_right (bad n) (test n) (sym (ap test (eqb-true m n t)) ∙ e))
-      (λ t. or_left (bad n) (test n) (some-hit m n (omega (arith, eqb-false m n t)) e))
-
-  none-next : (m : ℕ) → bad m ≡ false → test m ≡ false → bad (m + 1) ≡ false
-  none-next m f e = rw (add-one m, turn m, f, e)
-
-  none-at : (n : ℕ) → bad n ≡ false → (i : ℕ) → i < n → test i ≡ false
-  none-at n f i h =
-      by-test (test i)
-      (λ t.
-      let z : true ≡ false = sym (some-hit i n h t) ∙ f in
-      t ∙ z)
-      (λ t. t)
 
 module _ (B K : List ℕ) where
   -- where the key of block m ends
@@ -61,49 +40,37 @@ module _ (B K : List ℕ) where
 
   -- ---- the keys' places
 
-  pub offset-hit : (m n : ℕ) → m < n → ((area_place B m).offset ≡ (area_view m B K).next_key → ⊥) → true ≡ places_bad n B K
+  pub places-fronts : Fronts (λ m. places_bad m B K) (λ m. place_bad m B K)
   unfolding places_bad
-  offset-hit m n h ne =
-      sym
-      (some-hit (λ (k : ℕ). places_bad k B K) (λ (k : ℕ). place_bad k B K) (λ k. refl) m n h (or_left _ _ (ap not (ne_eqb _ _ ne))))
+  places-fronts = record { none = refl; more = λ m. refl }
 
-  pub record-hit : (m n : ℕ) → m < n → record_bad (length K) (area_place B m) ≡ true → true ≡ places_bad n B K
-  unfolding places_bad
-  record-hit m n h t =
-      sym
-      (some-hit (λ (k : ℕ). places_bad k B K) (λ (k : ℕ). place_bad k B K) (λ k. refl) m n h
-      (or_right (not (eqb (area_place B m).offset (area_view m B K).next_key)) _ t))
+  pub offset-hit : (m : ℕ) → ((area_place B m).offset ≡ (area_view m B K).next_key → ⊥) → place_bad m B K ≡ true
+  offset-hit m ne = or_left _ _ (ap not (ne_eqb _ _ ne))
 
-  pub places-next : (m : ℕ) → places_bad m B K ≡ false → (area_place B m).offset ≡ (area_view m B K).next_key
-      → record_bad (length K) (area_place B m) ≡ false → places_bad (m + 1) B K ≡ false
-  unfolding places_bad
-  places-next m f e t =
-      none-next (λ (k : ℕ). places_bad k B K) (λ (k : ℕ). place_bad k B K) (λ k. refl) m f
-      (rw (eq-eqb (area_place B m).offset (area_view m B K).next_key e, t))
+  pub record-hit : (m : ℕ) → record_bad (length K) (area_place B m) ≡ true → place_bad m B K ≡ true
+  record-hit m t = or_right (not (eqb (area_place B m).offset (area_view m B K).next_key)) _ t
+
+  pub place-good : (m : ℕ) → (area_place B m).offset ≡ (area_view m B K).next_key → record_bad (length K) (area_place B m) ≡ false
+      → place_bad m B K ≡ false
+  place-good m e t = rw (eq-eqb (area_place B m).offset (area_view m B K).next_key e, t)
 
   pub places-at : (n : ℕ) → places_bad n B K ≡ false → (i : ℕ) → i < n
       → ((area_place B i).offset ≡ (area_view i B K).next_key) × RecordOk (length K) (area_place B i)
-  unfolding places_bad
   places-at n f i h =
-      let p = or_parts _ _ (none-at (λ (k : ℕ). places_bad k B K) (λ (k : ℕ). place_bad k B K) (λ k. refl) n f i h) in
+      let p = or_parts _ _ (each-kept places-fronts n f i h) in
       (eqb-true (area_place B i).offset (area_view i B K).next_key (not-false _ p.0), record-ok (length K) (area_place B i) p.1)
 
   -- ---- rows 2 to 6
 
-  pub rules-hit : (m n : ℕ) → m < n → rule_bad m B K ≡ true → true ≡ rules_bad n B K
+  pub rules-fronts : Fronts (λ m. rules_bad m B K) (λ m. rule_bad m B K)
   unfolding rules_bad
-  rules-hit m n h t = sym (some-hit (λ (k : ℕ). rules_bad k B K) (λ (k : ℕ). rule_bad k B K) (λ k. refl) m n h t)
-
-  pub rules-next : (m : ℕ) → rules_bad m B K ≡ false → rule_bad m B K ≡ false → rules_bad (m + 1) B K ≡ false
-  unfolding rules_bad
-  rules-next m f t = none-next (λ (k : ℕ). rules_bad k B K) (λ (k : ℕ). rule_bad k B K) (λ k. refl) m f t
+  rules-fronts = record { none = refl; more = λ m. refl }
 
   pub rules-at : (n : ℕ) → rules_bad n B K ≡ false → (i : ℕ) → i < n
       → BlockOk (area_view i B K) (area_key B K i) (area_key B K i) (area_block B i)
-  unfolding rules_bad
   rules-at n f i h =
-      let t = none-at (λ (k : ℕ). rules_bad k B K) (λ (k : ℕ). rule_bad k B K) (λ k. refl) n f i h in
-      block-ok (area_view i B K) (area_key B K i) (area_key B K i) (area_block B i) (eqb-true _ 0 (not-false _ t))
+      block-ok (area_view i B K) (area_key B K i) (area_key B K i) (area_block B i)
+      (eqb-true _ 0 (not-false _ (each-kept rules-fronts n f i h)))
 
   -- ---- every front of the blocks fits the areas
 
@@ -111,7 +78,7 @@ module _ (B K : List ℕ) where
     front-place : (m : ℕ) → m ≤ n → RecordOk (area_view m B K).key_room (area_view m B K).place
     unfolding area_view
     front-place m h =
-        by-test (eqb m 0)
+        cases (eqb m 0)
         (λ e. rw e (none-ok (length K)))
         (λ e. rw e (places-at n places (m - 1) (omega (arith, eqb-false m 0 e))).1)
 
@@ -136,9 +103,9 @@ pub record ListOk (n : ℕ) (B K : List ℕ) : Type 0 where
 pub list-ok : (b : SSTableIndexBuilder) (B K : List ℕ) → list_no b B K ≡ 0 → ListOk b.n B K
 unfolding list_no
 list-ok b B K e =
-    by-test (area_bad (view_of b B K))
+    cases (area_bad (view_of b B K))
     (λ t. absurd (let z : ◌≡◌ {A = ℕ} 1 0 = simp t at e in omega arith))
-    (λ t. by-test (places_bad b.n B K || rules_bad b.n B K)
+    (λ t. cases (places_bad b.n B K || rules_bad b.n B K)
     (λ u. absurd (let z : ◌≡◌ {A = ℕ} 8 0 = simp (t, u) at e in omega arith))
     (λ u.
     let p = or_parts (places_bad b.n B K) (rules_bad b.n B K) u in

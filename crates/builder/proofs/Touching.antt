@@ -1,18 +1,19 @@
 -- Row 8's test of each record refuses nothing by itself: where row 1 isn't hit and the keys touch, every key stands in the key area.
 use Prim.Native.Nat.{ℕ, zero, suc, ◌≤◌, ◌<◌}
-use mathlib.Core.Path.{◌≡◌, refl}
+use mathlib.Core.Path.{◌≡◌}
 use mathlib.Core.List.{List}
 use mathlib.Core.Bool.{false}
 use native.Mathlib.Omega.{arith}
 use lib.Dec.{eqb}
 use lib.ListN.{length}
-use borrow.Author.Tests.{eqb-true, eqb-false, eq-eqb}
-use Rattle.keys.proofs.Order.{by-test}
+use borrow.Author.Tests.{eqb-true, eqb-false}
+use borrow.Table.Steps.{cases}
+use Rattle.layout.proofs.Fronts.{all-kept}
 use Rattle.builder.specs.Rows.{RecordOk, AreaOk}
 use Rattle.builder.specs.Area.{area_place, area_view}
 use Rattle.builder.specs.Finish.{places_bad}
 use Rattle.builder.proofs.Views.{record-good, next-none, next-within}
-use Rattle.builder.proofs.Row8.{next-suc}
+use Rattle.builder.proofs.Row8.{next-suc, places-fronts, place-good}
 
 module _ (B K : List ℕ) where
   -- the first n keys touch: each starts where the one before ends
@@ -20,14 +21,8 @@ module _ (B K : List ℕ) where
   Touching n = (i : ℕ) → i < n → (area_place B i).offset ≡ (area_view i B K).next_key
 
   pub places-good : (n : ℕ) → Touching n → ((i : ℕ) → i < n → RecordOk (length K) (area_place B i)) → places_bad n B K ≡ false
-  unfolding places_bad
-  places-good zero h g = refl
-  places-good (suc m) h g =
-      rw (
-        places-good m (λ i l. h i (omega arith)) (λ i l. g i (omega arith)),
-        eq-eqb (area_place B m).offset (area_view m B K).next_key (h m (omega arith)),
-        record-good (length K) (area_place B m) (g m (omega arith)),
-      )
+  places-good n h g =
+      all-kept (places-fronts B K) n (λ i l. place-good B K i (h i l) (record-good (length K) (area_place B i) (g i l)))
 
   module _ (n : ℕ) (touch : Touching n) where
     next-rises : (j m : ℕ) → m ≤ j → j ≤ n → (area_view m B K).next_key ≤ (area_view j B K).next_key
@@ -35,7 +30,7 @@ module _ (B K : List ℕ) where
         let none : m ≡ 0 = omega arith in
         omega (arith, next-none m B K none)
     next-rises (suc j) m h l =
-        by-test (eqb m (suc j))
+        cases (eqb m (suc j))
         (λ t. rw (eqb-true m (suc j) t) (omega arith))
         (λ t.
         omega (arith, next-rises j m (omega (arith, eqb-false m (suc j) t)) (omega arith), next-suc B K j, touch j (omega arith)))

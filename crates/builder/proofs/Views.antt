@@ -7,9 +7,9 @@ use native.Mathlib.Omega.{arith}
 use lib.Dec.{eqb, ltb}
 use lib.ListN.{length}
 use borrow.Author.Tests.{eqb-true, eqb-false, eq-eqb, ne_eqb, lt-ltb, le-ltb, ltb-true, ltb-false}
+use borrow.Table.Steps.{cases}
 use Rattle.layout.specs.Layout.{max_blocks}
 use Rattle.std.proofs.lemmas.Bool.{or_parts}
-use Rattle.keys.proofs.Order.{by-test}
 use Rattle.builder.specs.View.{stride, KeyPlace, missing_place, View}
 use Rattle.builder.specs.Rows.{record_bad, RecordOk, area_bad, AreaOk, room_bad}
 use Rattle.builder.specs.Area.{area_place, area_block, area_key, area_view}
@@ -17,7 +17,7 @@ use Rattle.builder.specs.Area.{area_place, area_block, area_key, area_view}
 -- the room after an offset, asked without a sum that may wrap
 ltb-sub : (room off len : ℕ) → off ≤ room → ltb (room - off) len ≡ ltb room (off + len)
 ltb-sub room off len h =
-    by-test (ltb room (off + len))
+    cases (ltb room (off + len))
     (λ e. rw e (lt-ltb (room - off) len (omega (arith, ltb-true))))
     (λ e. rw e (le-ltb (room - off) len (omega (arith, ltb-false))))
 
@@ -112,7 +112,7 @@ module _ (n : ℕ) (B K : List ℕ) where
 
     pub next-within : (area_view n B K).next_key ≤ length K
     next-within =
-        by-test (eqb n 0)
+        cases (eqb n 0)
         (λ e. omega (arith, next-none (eqb-true n 0 e)))
         (λ e. omega (arith, next-some (eqb-false n 0 e), (last-place (eqb-false n 0 e)).within))
 

@@ -1,5 +1,5 @@
 // Adding a block and shortening the last key. The builder goes in by value, and comes back inside the answer. Builder, blocks and keys
-// stay three parameters here and in other crates: C hands them so, and both areas are written.
+// stay three parameters here and in other crates, as C hands them; here both areas are written, too.
 #![tactic(auto)]
 
 mod add;

@@ -21,15 +21,14 @@ fn shorten_last(builder: SSTableIndexBuilder, blocks: &mut [u64], keys: &mut [u8
         → (blocks.new ≡ short_blocks builder.n blocks.old keys.old next)
         × (keys.new ≡ short_keys builder.n blocks.old keys.old next) }
 {
-    let n = builder.n;
-    if n == 0 {
+    let Some(last) = builder.n.checked_sub(1) else {
         return;
-    }
-    let place = place_at(blocks, n - 1);
+    };
+    let place = place_at(blocks, last);
     let offset = place.offset as usize;
     let key = &mut keys[offset..offset + place.len as usize];
     let shortened = keys::shorter_str_behind(key, common);
-    blocks[STRIDE * (n - 1) + KEY_LEN] = shortened as u64;
+    blocks[STRIDE * last + KEY_LEN] = shortened as u64;
 }
 
 // The builder as it is, or the row that is hit.

@@ -18,6 +18,9 @@ use directory_write::KeyRecords;
 use layout::refusals::Refusal;
 use store_write::AreaStore;
 
+// List and length go apart here and below: what `write_index` writes is promised for any length, while a finish has one, which a type of
+// both would only carry along.
+
 // The list's keys, as the directory's writers take them.
 fn key_records<'a>(list: &CheckedList<'a>) -> KeyRecords<'a>
     ensures { record_keys result ≡ area_keys list.now.areas.builder list.now.areas.blocks.now list.now.areas.keys.now }

@@ -8,8 +8,8 @@ use native.Mathlib.Nat.{add-zero, add-suc, suc-add, zero-add, le_refl, le_of_suc
 use native.Mathlib.Omega.{arith}
 use lib.ListN.{length, get_or, take, drop, length-drop, take-append-drop}
 use lib.Seq.{length-take-le, take-length, take-add, drop-drop, drop-length}
+use borrow.Table.Steps.{cases}
 use Rattle.keys.specs.Order.{◌≺◌}
-use Rattle.keys.proofs.Order.{by-test}
 use Rattle.serialize.specs.Digits.{le_bytes, DigitsBelow}
 use Rattle.serialize.proofs.Numbers.{number-bytes}
 use Rattle.directory.specs.Directory.{pairs, key_bytes, directory_bytes}
@@ -182,11 +182,11 @@ directory-is d below good =
 module _ (d : List ℕ) (opened : directory_no d ≡ 0) where
   pub opened-good : directory_bad d ≡ false
   unfolding directory_no
-  opened-good = by-test (directory_bad d) (λ t. absurd (let z : ◌≡◌ {A = ℕ} 12 0 = rw t at opened in omega arith)) (λ e. e)
+  opened-good = cases (directory_bad d) (λ t. absurd (let z : ◌≡◌ {A = ℕ} 12 0 = rw t at opened in omega arith)) (λ e. e)
 
   pub opened-sorted : Sorted d (count_of d)
   unfolding directory_no
   opened-sorted =
-      let rising : keys_bad d (count_of d) (count_of d) ≡ false = by-test (keys_bad d (count_of d) (count_of d))
+      let rising : keys_bad d (count_of d) (count_of d) ≡ false = cases (keys_bad d (count_of d) (count_of d))
       (λ t. absurd (let z : ◌≡◌ {A = ℕ} 13 0 = rw (opened-good, t) at opened in omega arith)) (λ e. e) in
       record { inside = keys-inside d (ok d opened-good); rises = λ i h. keys_kept d (count_of d) (count_of d) i h rising }

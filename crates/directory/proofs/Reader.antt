@@ -55,3 +55,7 @@ module _ (f : ℕ → List ℕ) (n : ℕ) (key : List ℕ) where
   -- there is one at most
   pub first-unique : (i j : ℕ) → First f n key i → First f n key j → i ≡ j
   first-unique i j a b = omega (arith, first-least i j a b, first-least j i b a)
+
+  -- and no key has one where all are below it
+  pub first_or_none : (i : ℕ) → First f n key i → ((j : ℕ) → j < n → f j ≺ key) → ⊥
+  first_or_none i a none = true≢false (sym (none i a.inside) ∙ a.not-below)

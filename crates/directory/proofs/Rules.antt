@@ -1,6 +1,6 @@
 -- The rules of a directory in a file: rows 12, 13 and 20 as facts over numbers.
 use mathlib.Core.Path.{◌≡◌, refl, sym, ap, ◌∙◌}
-use mathlib.Core.Bool.{Bool, true, false, not, ◌||◌, true≢false}
+use mathlib.Core.Bool.{Bool, true, false, not, ◌||◌}
 use mathlib.Core.List.{List}
 use mathlib.Core.Logic.{⊎_elim}
 use Prim.Native.Nat.{ℕ, zero, suc, ◌+◌, ◌-◌, ◌*◌, ◌≤◌, ◌<◌}
@@ -11,25 +11,12 @@ use lib.Dec.{eqb, ltb}
 use borrow.Author.Tests.{lt-ltb, le-ltb, eq-eqb, ne_eqb, ltb-false, eqb-true, not-false}
 use lib.ListN.{length, drop, length-drop}
 use lib.Seq.{length-take-le}
-use Rattle.std.proofs.lemmas.Bool.{or_parts, or_left}
+use Rattle.std.proofs.lemmas.Bool.{or_parts, or_left, or_right}
+use Rattle.layout.proofs.Fronts.{Fronts, each-kept, all-kept}
 use Rattle.keys.specs.Order.{less, ◌≺◌}
-use Rattle.keys.proofs.Order.{by-test}
 use Rattle.serialize.specs.Digits.{number_at}
 use Rattle.directory.specs.Read.{count_of, key_offset, key_length, key_position, key_of}
 use Rattle.directory.specs.Read.{key_begin, pairs_bad, directory_bad, keys_bad, key_outside}
-
--- a test that stays true once it is
-module _ (bad : ℕ → Bool) (step : (m : ℕ) → bad m ≡ true → bad (suc m) ≡ true) where
-  stays-bad : (m n : ℕ) → m ≤ n → bad m ≡ true → bad n ≡ true
-  stays-bad m zero h e = let z : m ≡ 0 = omega arith in rw z at e
-  stays-bad m (suc n) h e =
-      ⊎_elim
-      (λ (q : m ≡ suc n). rw q at e)
-      (λ (l : m < suc n). step n (stays-bad m n (le_of_suc-le-suc l) e))
-      (eq-or-lt_of_le h)
-
-  earlier-good : (m n : ℕ) → m ≤ n → bad n ≡ false → bad m ≡ false
-  earlier-good m n h e = by-test (bad m) (λ t. absurd (true≢false (sym (stays-bad m n h t) ∙ e))) (λ f. f)
 
 -- ---- row 20: one key inside
 
@@ -59,36 +46,30 @@ module _ (d : List ℕ) (n i : ℕ) where
 -- ---- row 12: the pairs
 
 module _ (d : List ℕ) where
-  pairs-step : (m : ℕ) → pairs_bad d m ≡ true → pairs_bad d (suc m) ≡ true
+  -- pair i's own rule
+  abbrev pub pair_bad : ℕ → Bool
+  pair_bad i = not (eqb (key_offset d i) (key_begin d i)) || ltb 1024 (key_length d i)
+
+  pub pairs-fronts : Fronts (pairs_bad d) pair_bad
   unfolding pairs_bad
-  pairs-step m e = or_left (pairs_bad d m) _ e
+  pairs-fronts = record { none = refl; more = λ m. refl }
 
-  pub pairs-stay-bad : (m n : ℕ) → m ≤ n → pairs_bad d m ≡ true → pairs_bad d n ≡ true
-  pairs-stay-bad = stays-bad (pairs_bad d) pairs-step
-
-  -- pair m's own rule, where those before it keep theirs
-  module _ (m offset len begin : ℕ) (good : pairs_bad d m ≡ false)
+  module _ (m offset len begin : ℕ)
       (o : offset ≡ key_offset d m) (l : len ≡ number_at d (4 + 8 * m + 4) 4) (b : begin ≡ key_begin d m) where
-    pub offset-bad : (offset ≡ begin → ⊥) → pairs_bad d (m + 1) ≡ true
-    unfolding pairs_bad
+    pub offset-bad : (offset ≡ begin → ⊥) → pair_bad m ≡ true
     offset-bad h =
-        let e : eqb (key_offset d m) (key_begin d m) ≡ false = ne_eqb (key_offset d m) (key_begin d m) (λ q. h (omega arith)) in
-        rw (add-one m, good, e)
+        or_left _ _ (ap not (ne_eqb (key_offset d m) (key_begin d m) (λ q. h (omega arith))))
 
-    pub length-bad : 1024 < len → pairs_bad d (m + 1) ≡ true
-    unfolding pairs_bad
+    pub length-bad : 1024 < len → pair_bad m ≡ true
     length-bad h =
-        let long : ltb 1024 (key_length d m) ≡ true = lt-ltb 1024 (key_length d m) (omega (arith, length-place d 0 m)) in
-        by-test (eqb (key_offset d m) (key_begin d m))
-        (λ e. rw (add-one m, good, e, long))
-        (λ e. rw (add-one m, good, e))
+        or_right (not (eqb (key_offset d m) (key_begin d m))) _ (lt-ltb 1024 (key_length d m) (omega (arith, length-place d 0 m)))
 
-    pub pair-good : offset ≡ begin → len ≤ 1024 → pairs_bad d (m + 1) ≡ false
-    unfolding pairs_bad
+    pub pair-good : offset ≡ begin → len ≤ 1024 → pair_bad m ≡ false
     pair-good e h =
-        let same : eqb (key_offset d m) (key_begin d m) ≡ true = eq-eqb (key_offset d m) (key_begin d m) (omega arith) in
-        let short : ltb 1024 (key_length d m) ≡ false = le-ltb 1024 (key_length d m) (omega (arith, length-place d 0 m)) in
-        rw (add-one m, good, same, short)
+        rw (
+          eq-eqb (key_offset d m) (key_begin d m) (omega arith),
+          le-ltb 1024 (key_length d m) (omega (arith, length-place d 0 m)),
+        )
 
     pub next-begin : offset ≡ begin → begin + len ≡ key_begin d (m + 1)
     unfolding key_begin
@@ -99,27 +80,24 @@ module _ (d : List ℕ) where
     pub offsets : (i : ℕ) → i < n → key_offset d i ≡ key_begin d i
     pub short : (i : ℕ) → i < n → key_length d i ≤ 1024
 
-  pair-rule : (m : ℕ) → pairs_bad d (suc m) ≡ false → (key_offset d m ≡ key_begin d m) × (key_length d m ≤ 1024)
-  unfolding pairs_bad
+  pair-rule : (m : ℕ) → pair_bad m ≡ false → (key_offset d m ≡ key_begin d m) × (key_length d m ≤ 1024)
   pair-rule m e =
-      let own = or_parts (not (eqb (key_offset d m) (key_begin d m))) (ltb 1024 (key_length d m)) (or_parts (pairs_bad d m) _ e).1 in (
+      let own = or_parts (not (eqb (key_offset d m) (key_begin d m))) (ltb 1024 (key_length d m)) e in (
         eqb-true (key_offset d m) (key_begin d m) (not-false (eqb (key_offset d m) (key_begin d m)) own.0),
         ltb-false 1024 (key_length d m) own.1,
       )
 
   pub pairs-ok : (n : ℕ) → pairs_bad d n ≡ false → PairsOk n
   pairs-ok n e = record {
-    offsets = λ i h. (pair-rule i (earlier-good (pairs_bad d) pairs-step (suc i) n h e)).0;
-    short = λ i h. (pair-rule i (earlier-good (pairs_bad d) pairs-step (suc i) n h e)).1;
+    offsets = λ i h. (pair-rule i (each-kept pairs-fronts n e i h)).0;
+    short = λ i h. (pair-rule i (each-kept pairs-fronts n e i h)).1;
   }
 
   pub pairs-good : (n : ℕ) → PairsOk n → pairs_bad d n ≡ false
-  pairs-good zero ok = unfold pairs_bad in refl
-  pairs-good (suc n) ok =
-      let before = pairs-good n (record { offsets = λ i h. ok.offsets i (omega arith); short = λ i h. ok.short i (omega arith) }) in
-      rw (add-one n) at (pair-good n (key_offset d n) (number_at d (4 + 8 * n + 4) 4) (key_begin d n) before refl refl refl
-      (ok.offsets n (omega arith))
-      (omega (arith, length-place d 0 n, ok.short n (omega arith))))
+  pairs-good n ok =
+      all-kept pairs-fronts n (λ i h.
+      pair-good i (key_offset d i) (number_at d (4 + 8 * i + 4) 4) (key_begin d i) refl refl refl (ok.offsets i h)
+      (omega (arith, length-place d 0 i, ok.short i h)))
 
   -- keys begin one behind the other
   pub begins-rise : (n : ℕ) → PairsOk n → (i j : ℕ) → i ≤ j → j ≤ n → key_begin d i ≤ key_begin d j
@@ -195,13 +173,13 @@ module _ (d : List ℕ) where
 -- ---- row 13: keys that rise
 
 module _ (d : List ℕ) (n : ℕ) where
-  keys_step : (m : ℕ) → keys_bad d n m ≡ true → keys_bad d n (suc m) ≡ true
-  unfolding keys_bad
-  keys_step zero e = e
-  keys_step (suc m) e = or_left (keys_bad d n (suc m)) _ e
+  -- whether the key behind key i isn't above it
+  abbrev key_falls : ℕ → Bool
+  key_falls i = not (less (key_of d n i) (key_of d n (suc i)))
 
-  pub keys-stay-bad : (i m : ℕ) → i ≤ m → keys_bad d n i ≡ true → keys_bad d n m ≡ true
-  keys-stay-bad = stays-bad (keys_bad d n) keys_step
+  pub keys-fronts : Fronts (λ m. keys_bad d n (suc m)) key_falls
+  unfolding keys_bad
+  keys-fronts = record { none = refl; more = λ m. refl }
 
   -- key i's own test, where those before it pass theirs
   pub key-test : (i : ℕ) → 1 ≤ i → keys_bad d n i ≡ false → keys_bad d n (i + 1) ≡ not (less (key_of d n (i - 1)) (key_of d n i))
@@ -209,15 +187,11 @@ module _ (d : List ℕ) (n : ℕ) where
   key-test zero h e = absurd (let z : ⊥ = omega arith in z)
   key-test (suc i) h e = let same : suc i - 1 ≡ i = omega arith in rw (add-one (suc i), e, same)
 
-  key-rule : (i : ℕ) → keys_bad d n (suc (suc i)) ≡ false → key_of d n i ≺ key_of d n (suc i)
-  unfolding keys_bad
-  key-rule i e = not-false (less (key_of d n i) (key_of d n (suc i))) (or_parts (keys_bad d n (suc i)) _ e).1
-
   pub keys_kept : (m i : ℕ) → suc i < m → keys_bad d n m ≡ false → key_of d n i ≺ key_of d n (suc i)
-  keys_kept m i h e = key-rule i (earlier-good (keys_bad d n) keys_step (suc (suc i)) m h e)
+  keys_kept zero i h e = absurd (let z : ⊥ = omega arith in z)
+  keys_kept (suc m) i h e =
+      not-false (less (key_of d n i) (key_of d n (suc i))) (each-kept keys-fronts m e i (omega arith))
 
   pub keys-keep : (m : ℕ) → ((i : ℕ) → suc i < m → key_of d n i ≺ key_of d n (suc i)) → keys_bad d n m ≡ false
-  unfolding keys_bad
-  keys-keep zero h = refl
-  keys-keep (suc zero) h = refl
-  keys-keep (suc (suc m)) h = rw (keys-keep (suc m) (λ i l. h i (omega arith)), h m (omega arith))
+  keys-keep zero h = unfold keys_bad in refl
+  keys-keep (suc m) h = all-kept keys-fronts m (λ i l. ap not (h i (omega arith)))

@@ -6,8 +6,9 @@ use mathlib.Core.List.{List}
 use Prim.Native.Nat.{ℕ, ◌+◌, ◌≤◌, ◌<◌, min}
 use native.Mathlib.Omega.{arith}
 use lib.ListN.{length}
+use borrow.Table.Steps.{cases}
 use Rattle.keys.specs.Order.{less, ◌≺◌, ◌≼◌, common_prefix_len}
-use Rattle.keys.proofs.Order.{by-test, less-asym, ≼-whole}
+use Rattle.keys.proofs.Order.{less-asym, ≼-whole}
 use Rattle.directory.specs.Read.{key_of, Sorted}
 use Rattle.directory.proofs.Reader.{all-below, shared-below, shared-above}
 
@@ -15,7 +16,7 @@ use Rattle.directory.proofs.Reader.{all-below, shared-below, shared-above}
 pub lesser-shared : (x key : List ℕ) (low high : ℕ) → (x ≼ key → low ≤ common_prefix_len x key)
     → (key ≼ x → high ≤ common_prefix_len x key) → min low high ≤ common_prefix_len x key
 lesser-shared x key low high f g =
-    by-test (less key x)
+    cases (less key x)
     (λ e. let h = g (less-asym key x e) in omega arith)
     (λ e. let h = f e in omega arith)
 

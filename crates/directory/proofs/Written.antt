@@ -2,14 +2,15 @@
 use mathlib.Core.Path.{◌≡◌, refl, sym, ap, ◌∙◌}
 use mathlib.Core.List.{List, ◌++◌}
 use Prim.Native.Nat.{ℕ, ◌+◌, ◌-◌, ◌*◌, ◌≤◌, ◌<◌}
-use native.Mathlib.Nat.{add-zero, add_assoc}
+use native.Mathlib.Nat.{add-zero}
 use native.Mathlib.Omega.{arith}
-use lib.ListN.{length, get_or, take, drop, length-append, length-drop}
-use lib.Seq.{sets, length-take-le}
+use lib.ListN.{length, take, drop, length-append}
+use lib.Seq.{sets}
 use borrow.Rule.Slice.PartMut.{put_mid}
 use Rattle.serialize.specs.Digits.{le_bytes}
 use Rattle.serialize.proofs.Digits.{length-digits_of}
-use Rattle.serialize.proofs.Stores.{sets-append, sets-in-part, copied}
+use Rattle.serialize.proofs.Stores.{sets-append, sets-in-part, copied, copied-in-part}
+pub use Rattle.keys.proofs.Shorten.{length_rest}
 use Rattle.directory.specs.Directory.{pairs, key_bytes, directory_bytes}
 use Rattle.directory.specs.Keys.{length_at, key_at, keys_at}
 use Rattle.directory.specs.Facts.{KeysArea}
@@ -19,14 +20,6 @@ use Rattle.directory.proofs.Lengths.{length_pairs}
 -- one run of stores, and the next behind it
 sets-run : (d a b : List ℕ) (i k : ℕ) → length a ≡ k → sets d i (a ++ b) ≡ sets (sets d i a) (i + k) b
 sets-run d a b i k e = rw (← e) (sym (sets-append d a b i))
-
--- what is left of the output behind a place
-pub length_rest : (out : List ℕ) (to : ℕ) → length (take (length out - to) (drop to out)) ≡ length out - to
-length_rest out to = length-take-le (length out - to) (drop to out) (omega (arith, length-drop to out))
-
--- key i's length and its bytes, as the code reads them
-pub length-read : (area : List ℕ) (stride field i : ℕ) → get_or area (stride * i + field + 1) 0 ≡ length_at area stride field i
-length-read area stride field i = rw (add_assoc (stride * i) field 1)
 
 module _ (area : List ℕ) (stride field : ℕ) (keys : List ℕ) (n : ℕ) where
   -- the keys that are left at key i
@@ -63,11 +56,9 @@ module _ (area : List ℕ) (stride field : ℕ) (keys : List ℕ) (n : ℕ) wher
         → sets out to (key_bytes (left i)) ≡ sets (put_mid to (length out - to) out y) (to + length key) (key_bytes (left (i + 1)))
     unfolding key_bytes
     keys-turn out key y to e room p =
-        let part : List ℕ = take (length out - to) (drop to out) in
-        let fits : length key ≤ length part =
-        omega (arith, ap length e, length-key_at area stride field keys n ok i h, length-left, length_rest out to) in
-        let whole : put_mid to (length out - to) out y ≡ sets out to key =
-        rw (p, copied part key fits) (sets-in-part out key to 0 ∙ rw (add-zero to)) in
+        let fits : to + length key ≤ length out =
+        omega (arith, ap length e, length-key_at area stride field keys n ok i h, length-left) in
+        let whole : put_mid to (length out - to) out y ≡ sets out to key = copied-in-part out key y to fits p in
         rw (whole, keys_at-cons area stride field keys n i h, ← e) (sets-run out key (key_bytes (left (i + 1))) to (length key) refl)
 
   pub length_none : (i : ℕ) → n ≤ i → length (key_bytes (left i)) ≡ 0

@@ -19,7 +19,8 @@ pub fn number(directory: &[u8], at: usize) -> usize
 }
 
 // The bytes of a directory, or more bytes that begin with it, and how many keys it has. The bytes stay the caller's: the library has
-// no heap, so that keys are parts of them and not values of their own.
+// no heap, so that keys are parts of them and not values of their own. That a key lies within the bytes is asked of each key: row 20 is
+// tested key by key, and a type that said so would be made anew for each.
 #[derive(Clone, Copy)]
 pub struct Directory<'a> {
     pub bytes: &'a [u8],

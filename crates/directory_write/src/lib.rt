@@ -23,7 +23,7 @@ pub struct KeyRecords<'a> {
 impl<'a> KeyRecords<'a> {
     ghost use Rattle.directory_write.specs.Records.{record_key, record_keys};
 
-    // Key i.
+    // Key i. As builder's `place_at` and `KeyPlace::key` have it: this crate doesn't stand on builder, and knows none of its records.
     fn key(&self, i: usize) -> &'a [u8]
         requires { i < self.now.n }
         ensures { result.now ≡ record_key self.now i }
@@ -63,7 +63,8 @@ impl<'a> KeyRecords<'a> {
         }
     }
 
-    // Writes the keys from the front of `out` on. Returns how many bytes they take.
+    // Writes the keys from the front of `out` on. Returns how many bytes they take. Not inlined, so that its loop has the registers.
+    #[inline(never)]
     fn write_keys(&self, out: &mut [u8]) -> usize
         requires { length (key_bytes (record_keys self.now)) ≤ length out.old }
         ensures { (result ≡ length (key_bytes (record_keys self.now)))

@@ -5,11 +5,11 @@ use mathlib.Core.List.{List, [], ◌∷◌}
 use native.Mathlib.Nat.{add-zero}
 use native.Mathlib.Omega.{arith}
 use lib.ListN.{length, get_or, take, drop, set}
-use lib.Seq.{sets, take-take, get_or-take, get_or-drop, get_or-set_same, get_or-set_other, take-set-le}
+use lib.Seq.{sets, take-take, get_or-take, get_or-set_same, get_or-set_other, take-set-le}
 use borrow.Author.Tests.{ne_eqb}
 use Rattle.std.proofs.lemmas.List.{drop-take}
 use Rattle.layout.specs.Layout.{max_blocks}
-use Rattle.serialize.proofs.Stores.{sets-part, sets-outside-take}
+use Rattle.serialize.proofs.Stores.{sets-part, sets-outside-take, get_or-sets}
 use Rattle.group.specs.declared.BlockAddr.{BlockAddr}
 use Rattle.builder.specs.View.{stride}
 use Rattle.builder.specs.declared.record.KeyPlace.{KeyPlace}
@@ -128,9 +128,6 @@ holds_kept (e ∷ es) B K B' K' m k h g p q w =
     )
 
 -- ---- an accepted add
-
-get_or-sets : (B w : List ℕ) (at j : ℕ) → at + length w ≤ length B → j < length w → get_or (sets B at w) (at + j) 0 ≡ get_or w j 0
-get_or-sets B w at j h l = let part = sets-part B w at h in grind (arith, get_or-drop, get_or-take, part)
 
 -- where a key that is added after `at` key bytes stands
 abbrev pub place_at : ℕ → List ℕ → KeyPlace

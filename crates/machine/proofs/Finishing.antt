@@ -1,8 +1,7 @@
 -- Finish after a list of calls: 1 and 8 are never hit, and what it answers and leaves is the plain machine's finish.
-use Prim.Native.Nat.{ℕ, zero, suc, ◌<◌}
-use mathlib.Core.Path.{◌≡◌, refl, sym, ap, ◌∙◌}
+use Prim.Native.Nat.{ℕ, ◌<◌}
+use mathlib.Core.Path.{◌≡◌, sym, ap, ◌∙◌}
 use mathlib.Core.List.{List, []}
-use mathlib.Core.Bool.{false}
 use native.Mathlib.Nat.{zero-add}
 use native.Mathlib.Omega.{arith}
 use Rattle.std.proofs.lemmas.Bool.Decides.{nat_tests}
@@ -13,20 +12,12 @@ use Rattle.group.proofs.Blocks.{length-blocks_at, blocks_at-at}
 use Rattle.directory.specs.Keys.{key_at}
 use Rattle.directory.proofs.Keys.{length-keys_at, keys_at-at}
 use Rattle.builder.specs.View.{stride}
-use Rattle.builder.specs.Rows.{block_no}
-use Rattle.builder.specs.Area.{key_field, area_block, area_key, area_view}
+use Rattle.builder.specs.Area.{key_field}
 use Rattle.builder.specs.Calls.{builder_of, State}
 use Rattle.builder.specs.Index.{Settings}
-use Rattle.builder.specs.Finish.{
-  rules_bad,
-  list_no,
-  area_keys,
-  area_directory,
-  area_index,
-  finish_no,
-  step_of_finish,
-  finish_def,
-}
+use Rattle.builder.specs.Finish.{list_no, area_keys, area_directory, area_index, finish_no, step_of_finish, finish_def}
+use Rattle.layout.proofs.Fronts.{all-kept}
+use Rattle.builder.proofs.Row8.{rules-fronts}
 use Rattle.builder.proofs.Touching.{places-good}
 use Rattle.machine.specs.Plain.{Entry, Call, plain_end, blocks_of, separators_of, plain_index, plain_directory}
 use Rattle.machine.specs.Finished.{plain_finish}
@@ -42,12 +33,6 @@ use Rattle.machine.proofs.Indexed.{
   records-fit,
   blocks-keep,
 }
-
-rules-good : (B K : List ℕ) (m : ℕ)
-    → ((i : ℕ) → i < m → block_no (area_view i B K) (area_key B K i) (area_key B K i) (area_block B i) ≡ 0) → rules_bad m B K ≡ false
-unfolding rules_bad
-rules-good B K zero h = refl
-rules-good B K (suc m) h = rw (rules-good B K m (λ i l. h i (omega arith)), h m (omega arith))
 
 module _ (es : List Entry) (s : State) (r : Rep es s) where
   -- the areas' blocks and keys are the entries'
@@ -93,7 +78,7 @@ module _ (es : List Entry) (s : State) (r : Rep es s) where
           places-good s.blocks s.keys s.builder.n
               (λ i h. keys-touch es s r i (omega (arith, r.count)))
               (λ i h. records-fit es s r i (omega (arith, r.count))),
-          rules-good s.blocks s.keys s.builder.n (λ i h. blocks-keep es s r ok i (omega (arith, r.count))),
+          all-kept (rules-fronts s.blocks s.keys) s.builder.n (λ i h. rw (blocks-keep es s r ok i (omega (arith, r.count)))),
         )
 
     pub rep-finish : (S : Settings) (out : List ℕ) → finish_def S s.builder s.blocks s.keys out ≡ plain_finish S es out

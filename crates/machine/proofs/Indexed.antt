@@ -7,9 +7,9 @@ use lib.Dec.{eqb}
 use lib.ListN.{length, get_or, length-reverse, length-map, get_or-append}
 use lib.Seq.{get_or_at}
 use borrow.Author.Tests.{eqb-true, eqb-false}
+use borrow.Table.Steps.{cases}
 use Rattle.layout.specs.Layout.{max_key_len}
 use Rattle.keys.specs.Order.{◌≺◌}
-use Rattle.keys.proofs.Order.{by-test}
 use Rattle.group.specs.Blocks.{block_of}
 use Rattle.group.specs.Legal.{NumbersOk, Follows, Legal}
 use Rattle.builder.specs.View.{View}
@@ -40,7 +40,7 @@ module _ {X : Type 0} (f : Entry → X) (e : Entry) (es : List Entry) (d : X) wh
 each : (e : Entry) (es : List Entry) (P : ℕ → Type 0) → P (length es) → ((i : ℕ) → i < length es → P i)
     → (i : ℕ) → i < length (e ∷ es) → P i
 each e es P new old i h =
-    by-test (eqb i (length es))
+    cases (eqb i (length es))
     (λ t. rw (eqb-true i (length es) t) new)
     (λ t. old i (omega (arith, eqb-false i (length es) t)))
 
@@ -157,7 +157,7 @@ module _ {X : Type 0} (f : Entry → X) (d : X) where
   pairs-at R g [] ok i h = absurd (omega arith)
   pairs-at R g (e ∷ []) ok i h = absurd (omega arith)
   pairs-at R g (e ∷ p ∷ es) (more k b ok) i h =
-      by-test (eqb i (length es))
+      cases (eqb i (length es))
       (λ t.
       let z : i ≡ length es = eqb-true i (length es) t in
       rw (z, older f e (p ∷ es) d (length es) (omega arith), newest f e (p ∷ es) d, newest f p es d) (g p e b))

@@ -9,9 +9,8 @@ use lib.Dec.{ltb}
 use lib.ListN.{length, take, drop}
 use lib.Seq.{sets, sets-eq, drop-append_seam}
 use borrow.Author.Tests.{lt-ltb, le-ltb, ltb-true, ltb-false}
+use borrow.Table.Steps.{cases}
 use Rattle.serialize.proofs.Stores.{sets-part}
-use Rattle.keys.proofs.Order.{by-test}
-use Rattle.directory.specs.Directory.{directory_bytes}
 use Rattle.builder.specs.Calls.{builder_of}
 use Rattle.builder.specs.Index.{Settings, index_bytes}
 use Rattle.builder.specs.Finish.{Finish, unwritten}
@@ -32,10 +31,6 @@ module _ (es : List Entry) where
   unfolding plain_directory
   directory-none h = simp (lt-ltb (length es) 2 h)
 
-  pub directory-some : 2 ≤ length es → plain_directory es ≡ directory_bytes (separators_of es)
-  unfolding plain_directory
-  directory-some h = simp (le-ltb (length es) 2 h)
-
 module _ (S : Settings) (es : List Entry) (out : List ℕ) where
   pub plain-refused : length out < length (plain_index S es) → plain_finish S es out ≡ unwritten 9 (builder_of (length es)) out
   unfolding plain_finish
@@ -55,7 +50,7 @@ module _ (S : Settings) (es : List Entry) (out : List ℕ) where
   pub plain-number : ((length out < length (plain_index S es)) × ((plain_finish S es out).no ≡ 9))
       ⊎ ((length (plain_index S es) ≤ length out) × ((plain_finish S es out).no ≡ 0))
   plain-number =
-      by-test (ltb (length out) (length (plain_index S es)))
+      cases (ltb (length out) (length (plain_index S es)))
       (λ t. let h = ltb-true (length out) (length (plain_index S es)) t in inl (h, ap (λ (f : Finish). f.no) (plain-refused h)))
       (λ t. let h = ltb-false (length out) (length (plain_index S es)) t in inr (h, ap (λ (f : Finish). f.no) (plain-taken h)))
 

@@ -1,6 +1,7 @@
 -- Keys of a directory that keeps row 12 are inside, and one that doesn't rise makes the directory bad.
-use Rattle.std.proofs.Common.{◌≡◌, ◌-◌, ◌<◌, ℕ, List, true, false, refl, rules, tests, arith}
-use Rattle.std.proofs.lemmas.Iterator.{cases_from_any, serves_from_Range, YieldsList-from_range}
+use Rattle.std.proofs.Common.{◌∙◌, ◌≡◌, ◌-◌, ◌<◌, ℕ, List, false, refl, rules, tests, arith}
+use Rattle.std.proofs.lemmas.Iterator.{serves_from_Range, YieldsList-from_range}
+use Rattle.std.proofs.lemmas.Iterator.Search.{any_from_yields_List}
 use Rattle.directory.specs.Read.{count_of, directory_bad, key_outside}
 use Rattle.directory.proofs.Rules.{directory-kept, keys-inside}
 use Rattle.directory_check.proofs.Rises.{falls, keys-of}
@@ -21,7 +22,6 @@ pub returns : goal.returns
 returns c =
     let d = c.args.directory.bytes.now in
     let n = c.args.directory.n in
-    keys-of d n c.any.result
-    (cases_from_any _ _ _ (λ (i : ℕ). falls d n i ≡ true) (λ (i : ℕ). falls d n i ≡ false)
-    c.any.ensures.ran (YieldsList-from_range 1 n (n - 1) refl (omega arith))
-    (λ x q k. search (rules, tests)) (λ x q k. search (rules, tests)))
+    any_from_yields_List (falls d n) _ _ c.any.result c.any.ensures.ran
+    (YieldsList-from_range 1 n (n - 1) refl (omega arith)) (λ x b q k. search (rules, tests))
+    ∙ keys-of d n (omega arith)
