@@ -2,15 +2,14 @@
 use mathlib.Core.Path.{◌≡◌, refl, sym, ◌∙◌}
 use mathlib.Core.Bool.{Bool, true, false, cond, true≢false}
 use mathlib.Core.Logic.{inl, inr}
-use mathlib.Core.List.{List, ◌++◌}
+use mathlib.Core.List.{List}
 use Prim.Native.Nat.{ℕ, ◌≤◌, ◌<◌}
 use native.Mathlib.Omega.{arith}
 use lib.Dec.{ltb}
-use lib.ListN.{length, get_or, take, drop}
-use lib.Seq.{sets, take-length, length-take-le, get_or-take}
+use lib.ListN.{length, get_or, take}
+use lib.Seq.{sets, length-take-le, get_or-take}
 use borrow.Author.Tests.{ltb-false}
 use Rattle.std.proofs.lemmas.Bool.{or_parts}
-use Rattle.serialize.proofs.Stores.{copied}
 use Rattle.directory.specs.Read.{key_of, Sorted}
 use Rattle.store.specs.Facts.{GroupLenOk}
 use Rattle.index.specs.declared.SSTableIndexV3.{SSTableIndexV3}
@@ -57,13 +56,6 @@ module _ (pairs bytes : List ℕ) (room : ℕ) where
       record { list = key-list-ok 64 pairs (length bytes) both.0; room-enough = ltb-false room (key_list_count pairs) both.1 }
 
 -- ---- what is written
-
--- the first `count` entries, copied to the front
-pub copied-entries : (ids found : List ℕ) (count : ℕ) → count ≤ length found → count ≤ length ids
-    → take count found ++ drop count ids ≡ sets ids 0 (take count found)
-copied-entries ids found count h l =
-    let e : length (take count found) ≡ count = length-take-le count found h in
-    rw (take-length (take count found), e) at (copied ids (take count found) (omega (arith, e)))
 
 -- the entries found are those that are written
 pub entries-of : (E : ℕ → ℕ → Type 0) (count : ℕ) (ids found : List ℕ) → count ≤ length found

@@ -3,11 +3,13 @@ use mathlib.Core.Path.{◌≡◌, refl, sym, ap, ◌∙◌}
 use mathlib.Core.Bool.{Bool, true, false, cond}
 use mathlib.Core.List.{List}
 use mathlib.Core.Logic.{inl, inr}
-use Prim.Native.Nat.{ℕ, zero, suc, ◌+◌, ◌≤◌, ◌<◌}
+use Prim.Native.Nat.{ℕ, zero, suc, ◌≤◌, ◌<◌}
+use native.Mathlib.Nat.{zero-add}
 use native.Mathlib.Omega.{arith}
-use lib.ListN.{length, get_or, drop, get_or-append}
-use lib.Seq.{sets, sets-eq, ext_get_or}
+use lib.ListN.{length, get_or}
+use lib.Seq.{sets, ext_get_or}
 use Rattle.layout.specs.Layout.{max_blocks}
+use Rattle.serialize.proofs.Stores.{get_or-sets}
 use Rattle.index.specs.declared.SSTableIndexV3.{SSTableIndexV3}
 use Rattle.index.specs.Parts.{separator_in}
 use Rattle.index.specs.Opening.{Opens, group_of}
@@ -41,11 +43,6 @@ module _ (separator : ℕ → List ℕ) (n : ℕ) (key : List ℕ) where
 
 -- ---- a batch as its caller sees it
 
--- entry i stands at place i
-written_at : (ids list : List ℕ) (i : ℕ) → i < length list → length list ≤ length ids → get_or (sets ids 0 list) i 0 ≡ get_or list i 0
-written_at ids list i h g =
-    ap (λ (l : List ℕ). get_or l i 0) (sets-eq list ids 0 (omega arith)) ∙ get_or-append list (drop (0 + length list) ids) 0 i h
-
 -- for bytes and record of one opening, entry i of an accepted batch is what the single lookup of key i says
 pub batch-single : (f : List ℕ) (opened : SSTableIndexV3) (pairs bytes ids written : List ℕ) → Opens f opened
     → LocateWithKeys f opened pairs bytes ids written 0 → (i k id : ℕ) → i < key_list_count pairs
@@ -55,7 +52,8 @@ batch-single f opened pairs bytes ids written o b i k id h s =
     let t = (b.exact o).taken refl in
     let room = (batch-ok pairs bytes (length ids) (accepted (batch_bad pairs bytes (length ids)) (b.exact-number o))).room-enough in
     let at : get_or written i 0 ≡ get_or t.list i 0 =
-    ap (λ (l : List ℕ). get_or l i 0) t.stands ∙ written_at ids t.list i (omega (arith, t.long)) (omega (arith, t.long, room)) in
+    ap (λ (l : List ℕ). get_or l i 0) t.stands
+    ∙ (rw (zero-add i) at (get_or-sets ids t.list 0 i (omega (arith, t.long, room)) (omega (arith, t.long)))) in
     let same = entry-single (separator_in f) opened.n (key_list_key pairs bytes i) k id (get_or t.list i 0) (s.exact o) (t.each i h) in
     let few : opened.n ≤ max_blocks =
     (opens-facts-by (group_of opened) f opened (record { some = omega arith; few = omega arith }) o).fits.few in (

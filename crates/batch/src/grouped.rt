@@ -1,8 +1,7 @@
 // The lookup of a batch with groups of a given length. All entries are there before the first of them is written. What is lent comes
 // apart, and the length is a number with its fact, as in index_lookup.
-ghost use Rattle.std.specs.Prelude.{◌≡◌, ◌≤◌, length, take};
+ghost use Rattle.std.specs.Prelude.{◌≡◌, ◌≤◌, length};
 ghost use Rattle.std.proofs.lemmas.List.Edits.{sets};
-ghost use Rattle.layout.specs.Layout.{max_batch_keys};
 ghost use Rattle.layout.specs.Refusals.{no_of};
 ghost use Rattle.store.specs.Facts.{GroupLenOk};
 ghost use Rattle.batch.specs.Batch.{LocateWithKeysBy};
@@ -13,12 +12,12 @@ use key_list::KeyList;
 use layout::MAX_BATCH_KEYS;
 use layout::refusals::Refusal;
 
-// Copies the first `count` entries to the front of the ids.
-fn write(found: &[u64; MAX_BATCH_KEYS], count: usize, ids: &mut [u64])
-    requires { (count ≤ max_batch_keys) × (count ≤ length ids.old) }
-    ensures { ids.new ≡ sets ids.old 0 (take count found.now) }
+// Copies the entries to the front of the ids. byte_copy has it for bytes, and counts them; no other crate copies numbers.
+fn write(entries: &[u64], ids: &mut [u64])
+    requires { length entries.now ≤ length ids.old }
+    ensures { ids.new ≡ sets ids.old 0 entries.now }
 {
-    ids[..count].copy_from_slice(&found[..count]);
+    ids[..entries.len()].copy_from_slice(entries);
 }
 
 // Writes the id of the block of each key at the front of `ids`.
@@ -41,6 +40,6 @@ pub fn locate_with_keys(
     // A fixed area, since the library has no heap.
     let mut found = [0u64; MAX_BATCH_KEYS];
     batch_search::find_entries(index.directory(), &list, &mut found)?;
-    write(&found, list.len(), ids);
+    write(&found[..list.len()], ids);
     Ok(())
 }

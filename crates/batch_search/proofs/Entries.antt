@@ -1,21 +1,17 @@
 -- Entries: what an ended search writes is exact, and an entry is unique.
 use mathlib.Core.Path.{◌≡◌, refl, sym, ◌∙◌}
-use mathlib.Core.Bool.{cond, true≢false}
+use mathlib.Core.Bool.{cond}
 use mathlib.Core.List.{List}
-use mathlib.Core.Logic.{⊎_elim, inl, inr}
-use Prim.Native.Nat.{ℕ, ◌+◌, ◌≤◌, ◌<◌}
-use native.Mathlib.Nat.{eq-or-lt_of_le}
+use mathlib.Core.Logic.{inl, inr}
+use Prim.Native.Nat.{ℕ, ◌+◌, ◌<◌}
 use native.Mathlib.Omega.{arith}
 use lib.Dec.{eqb}
-use lib.ListN.{length, get_or, set}
-use lib.Seq.{get_or-set_same, get_or-set_other}
 use borrow.Author.Tests.{eqb-true, eqb-false}
-use Rattle.keys.specs.Order.{◌≺◌}
-use Rattle.keys.proofs.Order.{by-test}
-use Rattle.directory.specs.Read.{Sorted, key_of, First, FoundIn, FoundAs}
+use borrow.Table.Steps.{cases}
+use Rattle.directory.specs.Read.{Sorted, key_of, FoundIn, FoundAs}
 use Rattle.std.specs.Prelude.{Result, Ok, Err}
 use Rattle.layout.specs.declared.refusals.Refusal.{Refusal}
-use Rattle.directory.proofs.Reader.{first-unique}
+use Rattle.directory.proofs.Reader.{first-unique, first_or_none}
 use Rattle.batch_search.specs.Entries.{EntryIn, EntryExact, no_id, found_entry}
 use Rattle.key_list.specs.KeyList.{key_list_key}
 use Rattle.batch_search.specs.Lanes.{LaneOk}
@@ -23,14 +19,10 @@ use Rattle.batch_search.specs.Lanes.{LaneOk}
 -- ---- an entry is unique
 
 module _ (f : ℕ → List ℕ) (n : ℕ) (key : List ℕ) where
-  -- a first block and none at once can't be
-  first_or_none : (e : ℕ) → First f n key e → ((i : ℕ) → i < n → f i ≺ key) → ⊥
-  first_or_none e a none = true≢false (sym (none e a.inside) ∙ a.not-below)
-
   pub entry-unique : (e e' : ℕ) → EntryExact f n key e → EntryExact f n key e' → e ≡ e'
   entry-unique e e' (inl a) (inl b) = first-unique f n key e e' a b
-  entry-unique e e' (inl a) (inr b) = absurd (first_or_none e a b.1)
-  entry-unique e e' (inr a) (inl b) = absurd (first_or_none e' b a.1)
+  entry-unique e e' (inl a) (inr b) = absurd (first_or_none f n key e a b.1)
+  entry-unique e e' (inr a) (inl b) = absurd (first_or_none f n key e' b a.1)
   entry-unique e e' (inr a) (inr b) = a.0 ∙ sym b.0
 
 -- ---- a search at its end
@@ -42,13 +34,13 @@ module _ (d : List ℕ) (n : ℕ) (key : List ℕ) (left low high : ℕ) (ok : L
 
   pub ended-in : EntryIn n entry
   ended-in =
-      by-test (eqb left n)
+      cases (eqb left n)
       (λ t. rw t (inr refl))
       (λ t. let l : left < n = omega (arith, ok.inside, eqb-false left n t) in rw t (inl l))
 
   pub ended-exact : Sorted d n → EntryExact (key_of d n) n key entry
   ended-exact sorted =
-      by-test (eqb left n)
+      cases (eqb left n)
       (λ t. let e = eqb-true left n t in rw t (inr (refl, λ i h. ok.below sorted i (omega (arith, e)))))
       (λ t.
       let l : left < n = omega (arith, ok.inside, eqb-false left n t) in
@@ -67,19 +59,6 @@ pub found-exact : (f : ℕ → List ℕ) (n : ℕ) (key : List ℕ) (search : Re
 unfolding FoundAs
 found-exact f n key (Ok i) h = inl h
 found-exact f n key (Err refusal) h = inr (refl, h.1)
-
--- ---- places written one after the other
-
--- facts about each element before a place go on to the next place
-module _ (P : ℕ → ℕ → Type 0) (l : List ℕ) where
-  pub each_next : (i x : ℕ) → i < length l → ((j : ℕ) → j < i → P j (get_or l j 0)) → P i x → (j : ℕ) → j < i + 1 →
-      P j (get_or (set l i x) j 0)
-  each_next i x h p q j g =
-      let g' : j ≤ i = omega arith in
-      ⊎_elim
-      (λ (e : j ≡ i). rw (e, get_or-set_same l i x 0 h) q)
-      (λ (m : j < i). rw (get_or-set_other l i j x 0 (λ (z : j ≡ i). let y : ⊥ = omega arith in y)) (p j m))
-      (eq-or-lt_of_le g')
 
 -- what is known of the entry at place j
 abbrev pub EntryOk : List ℕ → ℕ → List ℕ → List ℕ → ℕ → ℕ → Type 0

@@ -10,14 +10,11 @@ use lib.ListN.{length, get_or}
 use lib.Bits.{bit_and, bit_xor, and_mask, and_zero_r, xor_self, xor_zero_l, xor_zero_r, xor_assoc}
 use Rattle.std.proofs.lemmas.Nat.{xor_lt}
 use borrow.Author.Tests.{lt-ltb, le-ltb, ltb-true, ltb-false}
+use borrow.Table.Steps.{cases}
 use Rattle.keys.specs.Order.{less, common_prefix_len}
-use Rattle.keys.proofs.Order.{by-test, less-end-right, less-end-left, less-at}
+use Rattle.keys.proofs.Order.{less-end-right, less-end-left, less-at}
 
 -- ---- masks
-
--- all bits of a word are the word
-whole_word : (a : ℕ) → a < 2 ^ 64 → bit_and a (2 ^ 64 - 1) ≡ a
-whole_word a h = and_mask a 64 ∙ mod-eq_of_lt h
 
 -- what differs between two words, put over the first, gives the second
 turned : (a b : ℕ) → bit_xor a (bit_xor a b) ≡ b
@@ -26,7 +23,7 @@ turned a b = sym (xor_assoc a a b) ∙ ap (λ (x : ℕ). bit_xor x b) (xor_self 
 pub picked : (which a b : ℕ) → which ≤ 1 → a < 2 ^ 64 → b < 2 ^ 64
     → bit_xor a (bit_and (bit_xor a b) (which * 18446744073709551615)) ≡ cond (eqb which 0) a b
 picked zero a b w h g = ap (bit_xor a) (and_zero_r (bit_xor a b)) ∙ xor_zero_r a
-picked (suc zero) a b w h g = ap (bit_xor a) (whole_word (bit_xor a b) (xor_lt 64 a b h g)) ∙ turned a b
+picked (suc zero) a b w h g = ap (bit_xor a) (and_mask (bit_xor a b) 64 ∙ mod-eq_of_lt (xor_lt 64 a b h g)) ∙ turned a b
 picked (suc (suc which)) a b w h g = absurd (let z : ⊥ = omega arith in z)
 
 -- ---- the order
@@ -38,7 +35,7 @@ byte_from1 key place = cond (ltb place (length key)) (get_or key place 0 + 1) 0
 -- of two numbers up to 256 the first isn't below the second
 not-below-number : (a b : ℕ) → a ≤ 256 → b ≤ 256 → (a + 512 - b) / 512 ≡ cond (ltb a b) 0 1
 not-below-number a b h g =
-    by-test (ltb a b)
+    cases (ltb a b)
     (λ t. rw t (let l = ltb-true a b t in omega arith))
     (λ f. rw f (let l = ltb-false a b f in omega arith))
 
@@ -46,9 +43,9 @@ not-below-number a b h g =
 ordered : (at key : List ℕ) → ltb (byte_from1 at (common_prefix_len at key)) (byte_from1 key (common_prefix_len at key)) ≡ less at key
 ordered at key =
     let s = common_prefix_len at key in
-    by-test (ltb s (length key))
+    cases (ltb s (length key))
     (λ in-key.
-    by-test (ltb s (length at))
+    cases (ltb s (length at))
     (λ in-at.
     rw (in-key, in-at)
     (same-order (get_or at s 0) (get_or key s 0) ∙ sym (less-at at key (ltb-true s (length at) in-at) (ltb-true s (length key) in-key))))
@@ -61,7 +58,7 @@ ordered at key =
   where
     same-order : (x y : ℕ) → ltb (x + 1) (y + 1) ≡ ltb x y
     same-order x y =
-        by-test (ltb x y)
+        cases (ltb x y)
         (λ t. lt-ltb (x + 1) (y + 1) (let l = ltb-true x y t in omega arith) ∙ sym t)
         (λ f. le-ltb (x + 1) (y + 1) (let l = ltb-false x y f in omega arith) ∙ sym f)
 

@@ -3,21 +3,23 @@ use mathlib.Core.Path.{◌≡◌, refl, sym, ◌∙◌}
 use mathlib.Core.Bool.{Bool, true, false, cond}
 use mathlib.Core.List.{List}
 use mathlib.Core.Logic.{⊎_elim}
-use Prim.Native.Nat.{ℕ, zero, suc, ◌+◌, ◌-◌, ◌/◌, ◌≤◌, ◌<◌, min}
+use Prim.Native.Nat.{ℕ, ◌+◌, ◌-◌, ◌/◌, ◌≤◌, ◌<◌, min}
 use native.Mathlib.Nat.{eq-or-lt_of_le}
 use native.Mathlib.Omega.{arith}
 use lib.Dec.{eqb, ltb}
 use lib.ListN.{get_or, set, replicate, length-set}
 use lib.Seq.{get_or-set_same, get_or-set_other}
 use borrow.Author.Tests.{lt-ltb, le-ltb, ltb-true, ltb-false, eqb-true, eqb-false}
+use borrow.Table.Steps.{cases}
 use Rattle.keys.specs.Order.{less, ◌≺◌, ◌≼◌, common_prefix_len}
-use Rattle.keys.proofs.Order.{by-test, less-asym, ≼_trans}
+use Rattle.keys.proofs.Order.{less-asym, ≼_trans}
 use Rattle.directory.specs.Read.{Sorted, key_of}
 use Rattle.directory.proofs.Reader.{keys-rise, all-below, shared-below, shared-above}
 use Rattle.directory.proofs.Search.{lesser-shared}
 use Rattle.key_list.specs.KeyList.{key_list_count, key_list_key}
 use Rattle.batch_search.specs.Lanes.{LaneOk, Keeps, fresh, LanesOk}
 use Rattle.batch_search.specs.declared.lanes.Lane.{Lane}
+use Rattle.layout.proofs.Places.{get_or-replicate_same}
 
 -- before the first turn
 pub lane-fresh : (d : List ℕ) (n : ℕ) (key : List ℕ) → LaneOk d n key n 0 0 0
@@ -96,22 +98,16 @@ module _ (d : List ℕ) (n : ℕ) (key : List ℕ) (len left low high : ℕ) (ok
 -- before a place and up to it is the same for every other one
 same-side : (i m : ℕ) → (i ≡ m → ⊥) → ltb i (m + 1) ≡ ltb i m
 same-side i m ne =
-    by-test (ltb i m)
+    cases (ltb i m)
     (λ t. lt-ltb i (m + 1) (omega (arith, ltb-true i m t)) ∙ sym t)
     (λ f. le-ltb i (m + 1) (omega (arith, ltb-false i m f)) ∙ sym f)
-
--- the lanes that they begin with
-fresh-at : (k i : ℕ) → ◌≡◌ {A = Lane} (get_or (replicate k fresh) i fresh) fresh
-fresh-at zero i = refl
-fresh-at (suc k) zero = refl
-fresh-at (suc k) (suc i) = fresh-at k i
 
 -- before the first turn of each
 pub lanes-fresh : (d : List ℕ) (n : ℕ) (pairs bytes : List ℕ) → LanesOk d n pairs bytes 0 n (replicate 64 fresh)
 lanes-fresh d n pairs bytes =
     record {
       long = refl;
-      each = λ i h. rw (fresh-at 64 i, le-ltb i 0 (omega arith)) (lane-fresh d n (key_list_key pairs bytes i));
+      each = λ i h. rw (get_or-replicate_same fresh 64 i, le-ltb i 0 (omega arith)) (lane-fresh d n (key_list_key pairs bytes i));
     }
 
 -- a search by default is one that hasn't begun
@@ -135,7 +131,7 @@ module _ (d : List ℕ) (n : ℕ) (pairs bytes : List ℕ) (len : ℕ) where
         long = length-set lanes m lane ∙ p.long;
         each =
             λ i h.
-            by-test (eqb i m)
+            cases (eqb i m)
             (λ t.
             let e = eqb-true i m t in
             rw (e, lt-ltb m (m + 1) (omega arith), get_or-set_same lanes m lane fresh (omega (arith, p.long))) q)

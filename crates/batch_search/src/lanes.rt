@@ -92,6 +92,7 @@ impl Lane {
 
 // A turn of each search; refused where one meets a key outside the directory. Directory and list come apart here and below, as the
 // public function takes them: a struct of both would be made to be taken apart at once. Not inlined, so that its loop has the registers.
+// By place: a list gives its keys by number.
 #[inline(never)]
 fn round(
     directory: Directory,
@@ -118,18 +119,13 @@ fn round(
 }
 
 // The entries where every search is at its end. By place: over the two lists zipped, the check didn't find which entry is whose.
-fn entries(
-    lanes: &[Lane; MAX_BATCH_KEYS],
-    count: usize,
-    n: usize,
-    found: &mut [u64; MAX_BATCH_KEYS],
-)
-    requires { count ≤ max_batch_keys }
-    ensures { (length found.new ≡ max_batch_keys) × ((i : ℕ) → i < count
+fn entries(lanes: &[Lane], n: usize, found: &mut [u64; MAX_BATCH_KEYS])
+    requires { length lanes.now ≤ max_batch_keys }
+    ensures { (length found.new ≡ max_batch_keys) × ((i : ℕ) → i < length lanes.now
         → get_or found.new i 0 ≡ cond (eqb (get_or lanes.now i fresh).left n) no_id (get_or lanes.now i fresh).left) }
 {
-    for i in 0..count {
-        found[i] = lanes[i].entry(n);
+    for (i, lane) in lanes.iter().enumerate() {
+        found[i] = lane.entry(n);
     }
 }
 
@@ -150,6 +146,6 @@ pub fn side_by_side(
         round(directory, list, len, &mut lanes)?;
         len /= 2;
     }
-    entries(&lanes, list.len(), directory.n, found);
+    entries(&lanes[..list.len()], directory.n, found);
     Ok(())
 }

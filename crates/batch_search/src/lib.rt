@@ -21,7 +21,7 @@ const SOME_KEYS: usize = 8;
 
 const SOME_BLOCKS: usize = 4_096;
 
-// One search after the other.
+// One search after the other. By place: a list gives its keys by number.
 fn one_by_one(
     directory: Directory,
     list: &KeyList,

@@ -5,7 +5,7 @@ use Prim.Native.Nat.{ℕ, ◌+◌, ◌*◌, ◌≤◌}
 use lib.Dec.{ltb}
 use borrow.Author.Tests.{ltb-false, le-ltb}
 use Rattle.std.proofs.lemmas.Bool.{or_parts}
-use Rattle.keys.proofs.Order.{by-test}
+use borrow.Table.Steps.{cases}
 use Rattle.store.specs.Store.{group_count}
 use Rattle.index.specs.declared.SSTableIndexV3.{SSTableIndexV3}
 use Rattle.index.specs.Lookups.{opened_bad_by, OpenedFits}
@@ -51,4 +51,4 @@ module _ (L : ℕ) (opened : SSTableIndexV3) (len : ℕ) where
   bad-unfit e h = true≢false (sym e ∙ fits-passes h)
 
   pub unfit-bad : (OpenedFits L opened len → ⊥) → opened_bad_by L opened len ≡ true
-  unfit-bad h = by-test (opened_bad_by L opened len) (λ e. e) (λ e. absurd (h (opened-fits e)))
+  unfit-bad h = cases (opened_bad_by L opened len) (λ e. e) (λ e. absurd (h (opened-fits e)))

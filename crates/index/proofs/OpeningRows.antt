@@ -1,7 +1,7 @@
 -- Rows 10 to 16 as facts over numbers: what each refusal and each pass says of the file, and the number and the answer that follow.
-use Prim.Native.Nat.{ℕ, suc, ◌+◌, ◌-◌, ◌*◌, ◌≤◌, ◌<◌}
-use mathlib.Core.Path.{◌≡◌, refl, sym, ap, ◌∙◌}
-use mathlib.Core.Bool.{Bool, true, false, not, cond}
+use Prim.Native.Nat.{ℕ, ◌+◌, ◌-◌, ◌*◌, ◌≤◌, ◌<◌}
+use mathlib.Core.Path.{◌≡◌, sym, ap, ◌∙◌}
+use mathlib.Core.Bool.{true, false, not}
 use mathlib.Core.List.{List}
 use Rattle.std.specs.Prelude.{Ok, Err}
 use native.Mathlib.Nat.{add-sub_cancel_left, le_refl}
@@ -26,11 +26,7 @@ use Rattle.index.specs.Answers.{load_no}
 use Rattle.index.proofs.Refusals.{step-refused, step-number, open_no-most}
 use Rattle.layout.specs.declared.refusals.Refusal.{Refusal}
 use Rattle.layout.specs.Refusals.{number_of}
-
--- a chain of rows that hits none
-passed : (t : Bool) (k later : ℕ) → cond t (suc k) later ≡ 0 → (t ≡ false) × (later ≡ 0)
-passed true k later e = absurd (omega arith)
-passed false k later e = (refl, e)
+use Rattle.layout.proofs.Rows.{cond-zero}
 
 -- ---- rows 10 and 11
 
@@ -65,9 +61,9 @@ module _ (f : List ℕ) where
   pub footer-ok : footer_no f ≡ 0 → FooterOk f
   unfolding footer_no
   footer-ok e =
-      let long = passed (ltb (length f) 8) 9 _ e in
-      let some = passed (eqb (len_of_directory f) 0) 10 _ long.1 in
-      let inside = passed (ltb (length f) (len_of_directory f + 16)) 9 0 some.1 in
+      let long = cond-zero (ltb (length f) 8) 9 _ e in
+      let some = cond-zero (eqb (len_of_directory f) 0) 10 _ long.1 in
+      let inside = cond-zero (ltb (length f) (len_of_directory f + 16)) 9 0 some.1 in
       let there = eqb-false (len_of_directory f) 0 some.0 in
       record { some = omega arith; inside = ltb-false (length f) (len_of_directory f + 16) inside.0 }
 
@@ -211,7 +207,7 @@ module _ (L : ℕ) (f : List ℕ) where
   open-ok e =
       let footer = or_row-zero (footer_no f) _ e in
       let directory = or_row-zero (directory_no (directory_part f)) _ footer.1 in
-      let records = passed (group_records_bad L f) 13 _ directory.1 in
+      let records = cond-zero (group_records_bad L f) 13 _ directory.1 in
       record { footer = footer.0; directory = directory.0; records = records.0; store = records.1 }
 
   pub open-refused : (r : Refusal) → number_of r ≡ open_no L f → Err r ≡ open_def L f

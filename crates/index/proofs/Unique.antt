@@ -1,17 +1,14 @@
 -- Each lookup has one answer: two that are exact for the same bytes are equal. An id below n has its block.
 use mathlib.Core.Path.{◌≡◌, sym, ap, ◌∙◌}
-use mathlib.Core.Bool.{true≢false}
 use mathlib.Core.List.{List}
 use mathlib.Core.Logic.{inl, inr}
 use Prim.Native.Nat.{ℕ, zero, suc, ◌<◌}
 use native.Mathlib.Omega.{arith}
-use Rattle.keys.specs.Order.{◌≺◌}
 use Rattle.group.specs.declared.BlockAddr.{BlockAddr}
 use Rattle.group.specs.Legal.{Legal}
 use Rattle.store.specs.Read.{Last}
 use Rattle.store.proofs.Lookup.{last-unique, ordinals-rise}
-use Rattle.directory.specs.Read.{First}
-use Rattle.directory.proofs.Reader.{first-unique}
+use Rattle.directory.proofs.Reader.{first-unique, first_or_none}
 use Rattle.index.specs.Lookups.{ByIdExact, ByOrdExact, ByKeyExact, AddrByKeyExact}
 
 module _ (block : ℕ → BlockAddr) (n : ℕ) where
@@ -42,14 +39,10 @@ module _ (block : ℕ → BlockAddr) (n : ℕ) where
     by-ord-unique ord k l i j a b (inr p) (inr q) = (p.0 ∙ sym q.0, p.1 ∙ sym q.1, p.2 ∙ sym q.2)
 
 module _ (separator : ℕ → List ℕ) (n : ℕ) (key : List ℕ) where
-  -- a key above all separators has no block
-  none_above : (i : ℕ) → First separator n key i → ((j : ℕ) → j < n → separator j ≺ key) → ⊥
-  none_above i p q = true≢false (sym (q i p.inside) ∙ p.not-below)
-
   pub by-key-unique : (k l i j : ℕ) → ByKeyExact separator n key k i → ByKeyExact separator n key l j → (k ≡ l) × (i ≡ j)
   by-key-unique k l i j (inl p) (inl q) = (p.0 ∙ sym q.0, first-unique separator n key i j p.1 q.1)
-  by-key-unique k l i j (inl p) (inr q) = absurd (none_above i p.1 q.2)
-  by-key-unique k l i j (inr p) (inl q) = absurd (none_above j q.1 p.2)
+  by-key-unique k l i j (inl p) (inr q) = absurd (first_or_none separator n key i p.1 q.2)
+  by-key-unique k l i j (inr p) (inl q) = absurd (first_or_none separator n key j q.1 p.2)
   by-key-unique k l i j (inr p) (inr q) = (p.0 ∙ sym q.0, p.1 ∙ sym q.1)
 
   pub addr-by-key-unique : (block : ℕ → BlockAddr) (k l i j : ℕ) (a b : BlockAddr)
@@ -57,6 +50,6 @@ module _ (separator : ℕ → List ℕ) (n : ℕ) (key : List ℕ) where
   addr-by-key-unique block k l i j a b (inl p) (inl q) =
       let same : i ≡ j = first-unique separator n key i j p.1 q.1 in
       (p.0 ∙ sym q.0, same, p.2 ∙ ap block same ∙ sym q.2)
-  addr-by-key-unique block k l i j a b (inl p) (inr q) = absurd (none_above i p.1 q.3)
-  addr-by-key-unique block k l i j a b (inr p) (inl q) = absurd (none_above j q.1 p.3)
+  addr-by-key-unique block k l i j a b (inl p) (inr q) = absurd (first_or_none separator n key i p.1 q.3)
+  addr-by-key-unique block k l i j a b (inr p) (inl q) = absurd (first_or_none separator n key j q.1 p.3)
   addr-by-key-unique block k l i j a b (inr p) (inr q) = (p.0 ∙ sym q.0, p.1 ∙ sym q.1, p.2 ∙ sym q.2)

@@ -33,8 +33,7 @@ pub fn opened_bad(opened: SSTableIndexV3, len: usize, group_len: usize) -> bool
     requires { GroupLenOk group_len }
     ensures { result ≡ opened_bad_by group_len opened len }
 {
-    // Two comparisons: contains goes by partial_cmp, whose cases the proof would have to walk.
-    if opened.n < 1 || opened.n > MAX_BLOCKS {
+    if !(1..=MAX_BLOCKS).contains(&opened.n) {
         return true;
     }
     let len = len as u64;
@@ -184,7 +183,7 @@ impl<'a> OpenedIndex<'a> {
 }
 
 // From here on the lookups over a record and bytes that may not belong together: docs/PROMISES.md names them, and that a record gets 20
-// which can't be one of the bytes stands in no method's clause.
+// which can't be one of the bytes stands in `check`'s clause and the type, and here in one.
 
 // The address of block `block_id`.
 pub fn get_block(

@@ -1,18 +1,16 @@
 -- Row 26 over the pairs of a list: none of them is bad exactly when each one is good, and then each key lies inside its bytes.
-use mathlib.Core.Path.{◌≡◌, refl, sym, ap, ◌∙◌}
-use mathlib.Core.Bool.{true, false, true≢false, or-true}
+use mathlib.Core.Path.{◌≡◌, refl, ap, ◌∙◌}
+use mathlib.Core.Bool.{true, false}
 use mathlib.Core.List.{List, []}
-use mathlib.Core.Logic.{⊎_elim}
 use Prim.Native.Nat.{ℕ, zero, suc, ◌+◌, ◌*◌, ◌%◌, ◌≤◌, ◌<◌}
-use native.Mathlib.Nat.{eq-or-lt_of_le, le_of_suc-le-suc}
 use native.Mathlib.Numerals.{add-one}
 use native.Mathlib.Omega.{arith}
 use lib.Dec.{eqb, ltb}
 use lib.ListN.{length, drop, get_or}
 use Rattle.std.proofs.lemmas.List.{get_or-take, get_or-drop}
 use Rattle.std.proofs.lemmas.Bool.{or_parts}
+use Rattle.layout.proofs.Fronts.{Fronts, one-hit, each-kept}
 use Rattle.std.specs.Simd.{first_chunks}
-use borrow.Table.Steps.{cases}
 use borrow.Author.Tests.{lt-ltb, le-ltb, ltb-false, eq-eqb, ne_eqb, eqb-false}
 use Rattle.key_list.specs.KeyList.{key_list_count, key_list_offset, key_list_len, offset_before}
 use Rattle.key_list.specs.KeyList.{key_pair_bad, key_pairs_bad, key_list_bad, KeyListOk}
@@ -43,9 +41,9 @@ module _ (pairs : List ℕ) (chunks : List (List ℕ)) (e : chunks ≡ first_chu
   len-is = rw e (pair-word pairs (key_list_count pairs) i 1 h (omega arith))
 
 module _ (pairs : List ℕ) (room : ℕ) where
-  pub pairs-none : key_pairs_bad pairs room 0 ≡ false
+  pub pairs-fronts : Fronts (key_pairs_bad pairs room) (key_pair_bad pairs room)
   unfolding key_pairs_bad
-  pairs-none = refl
+  pairs-fronts = record { none = refl; more = λ m. refl }
 
   -- the code's two tests of a pair
   pub offset-falls : (i : ℕ) → key_list_offset pairs i < offset_before pairs i → key_pair_bad pairs room i ≡ true
@@ -57,22 +55,8 @@ module _ (pairs : List ℕ) (room : ℕ) where
   unfolding key_pair_bad
   key-beyond i h = rw (le-ltb (key_list_offset pairs i) (offset_before pairs i) h)
 
-  pub pairs_next : (m : ℕ) → key_pairs_bad pairs room m ≡ false → key_pair_bad pairs room m ≡ false
-      → key_pairs_bad pairs room (m + 1) ≡ false
-  unfolding key_pairs_bad
-  pairs_next m e f = rw (add-one m, e, f)
-
   pub one-bad : (m i : ℕ) → i < m → key_pair_bad pairs room i ≡ true → key_pairs_bad pairs room m ≡ true
-  unfolding key_pairs_bad
-  one-bad zero i h t = absurd (omega arith)
-  one-bad (suc m) i h t =
-      ⊎_elim
-      (λ (q : i ≡ m). rw (← q, t, or-true (key_pairs_bad pairs room i)))
-      (λ (q : i < m). rw (one-bad m i q t))
-      (eq-or-lt_of_le (le_of_suc-le-suc h))
-
-  each-good : (m : ℕ) → key_pairs_bad pairs room m ≡ false → (i : ℕ) → i < m → key_pair_bad pairs room i ≡ false
-  each-good m e i h = cases (key_pair_bad pairs room i) (λ t. absurd (true≢false (sym (one-bad m i h t) ∙ e))) (λ f. f)
+  one-bad = one-hit pairs-fronts
 
   pair_inside : (i : ℕ) → key_pair_bad pairs room i ≡ false → key_list_offset pairs i + key_list_len pairs i ≤ room
   unfolding key_pair_bad
@@ -90,7 +74,7 @@ key-list-ok limit pairs room e =
     record {
       even = omega (arith, o);
       few = ltb-false limit (key_list_count pairs) many.0;
-      inside = λ i h. pair_inside pairs room i (each-good pairs room (key_list_count pairs) many.1 i h);
+      inside = λ i h. pair_inside pairs room i (each-kept (pairs-fronts pairs room) (key_list_count pairs) many.1 i h);
     }
 
 module _ (limit : ℕ) (pairs : List ℕ) (room : ℕ) where

@@ -18,19 +18,16 @@ pub struct KeyList<'a> {
     pub ghost ok: { KeyListOk max_batch_keys pairs.now (length keys.now) },
 }
 
-// Whether one of the pairs is bad: its offset is below the one before it, or its key ends beyond `room` bytes. A loop,
-// since each pair is compared with the one before it.
+// Whether one of the pairs is bad: its offset is below the one before it, or its key ends beyond `room` bytes.
 fn pairs_bad(pairs: &[u64], room: u64) -> bool
     ensures { result ≡ key_pairs_bad pairs.now room (key_list_count pairs.now) }
 {
-    let mut before: u64 = 0;
-    for &[offset, len] in pairs.as_chunks::<2>().0 {
-        if offset < before || layout::ends_beyond(offset, len, room) {
-            return true;
-        }
-        before = offset;
-    }
-    false
+    let rows = pairs.as_chunks::<2>().0;
+    rows.iter()
+        .try_fold(0, |before: u64, &[offset, len]: &[u64; 2]| {
+            (before <= offset && !layout::ends_beyond(offset, len, room)).then_some(offset)
+        })
+        .is_none()
 }
 
 // Row 26 for a list of at most `limit` keys over `room` bytes.

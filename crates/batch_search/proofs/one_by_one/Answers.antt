@@ -3,7 +3,8 @@ use Rattle.std.proofs.Common.{◌≡◌, ◌<◌, ap, sym, ◌∙◌, length, ar
 use Rattle.std.proofs.Math.ListN.{length-set}
 use Rattle.directory.specs.Read.{Sorted, FoundAs}
 use Rattle.batch_search.specs.Entries.{found_entry}
-use Rattle.batch_search.proofs.Entries.{EntryOk, found_in, found-exact, each_next}
+use Rattle.batch_search.proofs.Entries.{EntryOk, found_in, found-exact}
+use Rattle.layout.proofs.Places.{each_next}
 use Rattle.batch_search.proofs.one_by_one.Goals as goal
 use Rattle.batch_search.proofs.one_by_one.Goals.{in-Ok, in-Err}
 

@@ -1,8 +1,8 @@
--- What is copied is the front of the entries.
-use Rattle.std.proofs.Common.{arith}
-use Rattle.batch.proofs.Batches.{copied-entries}
+-- What is copied is the entries.
+use lib.Seq.{take-length}
+use Rattle.serialize.proofs.Stores.{copied}
 use Rattle.batch.proofs.grouped.write.Goals as goal
 
 pub returns : goal.returns
-returns c = rw c.copy_from_slice.ensures.after (copied-entries c.args.ids.now c.args.found.now c.args.count
-    (omega (arith, c.requires.1)) (omega arith))
+returns c =
+    rw c.copy_from_slice.ensures.after (rw (take-length c.args.entries.now) at (copied c.args.ids.now c.args.entries.now c.requires))

@@ -1,27 +1,18 @@
 -- A test that is hit is a fact that the record lacks, and else the last decides.
-use Rattle.std.proofs.Common.{◌≡◌, ◌≤◌, ◌*◌, ℕ, Bool, true, false, true≢false, ltb, arith, sym, ap, ◌∙◌}
+use Rattle.std.proofs.Common.{◌≡◌, ◌≤◌, ◌*◌, ℕ, Bool, true, false, true≢false, ltb, arith, sym, ap, ◌∙◌, rules, tests}
 use borrow.Author.Tests.{ltb-false, le-ltb}
 use Rattle.index.proofs.Fits.{last-test, unfit-bad}
 use Rattle.index_lookup.proofs.grouped.opened_bad.Goals as goal
-use Rattle.index_lookup.proofs.grouped.opened_bad.Goals.{then-opened-lt1-via-then-opened-lt1}
-use Rattle.index_lookup.proofs.grouped.opened_bad.Goals.{then-opened-lt1-via-else-opened-lt1+then-opened-gt-MAX_BLOCKS}
 use Rattle.index_lookup.proofs.grouped.opened_bad.Goals.{then-ends_beyond-via-then-ends_beyond}
 use Rattle.index_lookup.proofs.grouped.opened_bad.Goals.{then-ends_beyond-via-else-ends_beyond+then-ends_beyond-2}
 use Rattle.index_lookup.proofs.grouped.opened_bad.Goals.{then-ends_beyond-via-else-ends_beyond+else-ends_beyond-2+then-ends_beyond-3}
 
--- a part that is outside doesn't fit, and one that isn't does
+-- a part that is outside doesn't fit
 outside : (len end : ℕ) (t : Bool) → t ≡ ltb len end → t ≡ true → end ≤ len → ⊥
 outside len end t e h fits = true≢false (sym h ∙ e ∙ le-ltb len end fits)
 
-within : (len end : ℕ) (t : Bool) → t ≡ ltb len end → t ≡ false → end ≤ len
-within len end t e h = ltb-false len end (sym e ∙ h)
-
-pub returns-then-opened-lt1 : goal.returns-then-opened-lt1
-returns-then-opened-lt1 c =
-    sym (unfit-bad _ _ _ (λ fits. elim c.then-opened-lt1.branch [
-      | then-opened-lt1-via-then-opened-lt1 w ↦ omega (arith, fits.some, w.if-opened-lt1.true)
-      | then-opened-lt1-via-else-opened-lt1+then-opened-gt-MAX_BLOCKS w ↦ omega (arith, fits.few, w.if-opened-gt-MAX_BLOCKS.true)
-    ]))
+pub returns-then-not-contains : goal.returns-then-not-contains
+returns-then-not-contains c = sym (unfit-bad _ _ _ (λ fits. search (rules, tests, arith, fits)))
 
 pub returns-then-ends_beyond : goal.returns-then-ends_beyond
 returns-then-ends_beyond c =
@@ -37,7 +28,7 @@ pub returns : goal.returns
 returns c =
     let a = c.args in
     ap (λ (x : ℕ). ltb a.opened.metas_len (36 * x)) c.group_count.ensures
-    ∙ sym (last-test a.group_len a.opened a.len (omega arith) (omega arith)
-    (within _ _ _ c.ends_beyond.ensures c.if-ends_beyond.false)
-    (within _ _ _ c.ends_beyond-else-ends_beyond.ensures c.if-ends_beyond-2.false)
-    (within _ _ _ c.ends_beyond-else-ends_beyond-2.ensures c.if-ends_beyond-3.false))
+    ∙ sym (last-test a.group_len a.opened a.len (search (rules, tests, arith)) (search (rules, tests, arith))
+    (ltb-false _ _ (sym c.ends_beyond.ensures ∙ c.if-ends_beyond.false))
+    (ltb-false _ _ (sym c.ends_beyond-else-ends_beyond.ensures ∙ c.if-ends_beyond-2.false))
+    (ltb-false _ _ (sym c.ends_beyond-else-ends_beyond-2.ensures ∙ c.if-ends_beyond-3.false)))
