@@ -1,6 +1,5 @@
--- Words and lists that a loop builds: bit by bit, by setting the bits that it meets, and element by element.
+-- Words that a loop builds: bit by bit, and by setting the bits that it meets.
 use mathlib.Core.Path.{◌≡◌, sym, ap, ◌∙◌, subst}
-use mathlib.Core.List.{List}
 use mathlib.Core.Logic.{⊎_elim}
 use Prim.Native.Nat.{ℕ, zero, suc, ◌+◌, ◌*◌, ◌%◌, ◌^◌, ◌<◌}
 use native.Mathlib.Nat.{pow-suc, le_refl, zero-mul}
@@ -8,12 +7,11 @@ use native.Mathlib.Numerals.{add-one}
 use native.Mathlib.Omega.{arith}
 use lib.Dec.{lit<}
 use lib.Bits.{bit_or, or_zero_r}
-use lib.ListN.{length, get_or, set}
-use lib.Seq.{get_or-set_same, get_or-set_other}
+use Rattle.std.proofs.lemmas.Nat.{one_shl}
+use Rattle.std.proofs.lemmas.Bool.{cases_eq}
 use Rattle.automaton.specs.Bits.{bit}
-use Rattle.automaton.proofs.Exact.{same_or}
 use Rattle.automaton.proofs.Word.{bit-lt, bit-zero, bit-top, bit-set, bit-set-other, bit-pow}
-use Rattle.automaton.proofs.Word.{bit-pow-other, bit-or, or_set, shl-bit, shl_one}
+use Rattle.automaton.proofs.Word.{bit-pow-other, bit-or, or_set, shl-bit}
 
 -- ---- w has n bits, and bit k is f k
 pub record Filled (f : ℕ → ℕ) (n w : ℕ) : Type 0 where
@@ -30,7 +28,7 @@ module _ {f : ℕ → ℕ} {n w : ℕ} (i : Filled f n w) where
   pub filled_zero : f n ≡ 0 → Filled f (n + 1) w
   filled_zero e = record {
     small = rw (add-one, pow-suc) (omega (arith, i.small));
-    at = λ k h. ⊎_elim (λ q. subst (λ (x : ℕ). bit w x ≡ f x) (sym q) (filled-clear ∙ sym e)) (λ d. i.at k (omega arith)) (same_or k n);
+    at = λ k h. ⊎_elim (λ q. subst (λ (x : ℕ). bit w x ≡ f x) (sym q) (filled-clear ∙ sym e)) (λ d. i.at k (omega arith)) (cases_eq k n);
   }
 
   pub filled-one : f n ≡ 1 → Filled f (n + 1) (w + 2 ^ n)
@@ -39,7 +37,7 @@ module _ {f : ℕ → ℕ} {n w : ℕ} (i : Filled f n w) where
     at = λ k h. ⊎_elim
         (λ q. subst (λ (x : ℕ). bit (w + 2 ^ n) x ≡ f x) (sym q) (bit-set w n filled-clear ∙ sym e))
         (λ d. bit-set-other w n k filled-clear d ∙ i.at k (omega arith))
-        (same_or k n);
+        (cases_eq k n);
   }
 
   -- `w | (x << n)`
@@ -47,7 +45,7 @@ module _ {f : ℕ → ℕ} {n w : ℕ} (i : Filled f n w) where
   filled_more zero e h l =
       subst (λ (v : ℕ). Filled f (n + 1) v) (sym (ap (bit_or w) (shl-bit 0 n h l ∙ zero-mul (2 ^ n)) ∙ or_zero_r w)) (filled_zero (sym e))
   filled_more (suc zero) e h l =
-      subst (λ (v : ℕ). Filled f (n + 1) v) (sym (ap (bit_or w) (shl_one n l) ∙ or_set w n filled-clear)) (filled-one (sym e))
+      subst (λ (v : ℕ). Filled f (n + 1) v) (sym (ap (bit_or w) (one_shl n 64 l) ∙ or_set w n filled-clear)) (filled-one (sym e))
   filled_more (suc (suc x)) e h l = absurd (omega arith)
 
 -- ---- the bits of w are f 0 to f (n - 1) and no others
@@ -60,26 +58,17 @@ holds-none f = record { has = λ k h. absurd (omega arith); only = λ s e. let z
 
 -- `w | (1 << f n)`
 pub holds_more : {f : ℕ → ℕ} {n w : ℕ} → Holds f n w → f n < 64 → Holds f (n + 1) (bit_or w ((1 * 2 ^ f n) % 2 ^ 64))
-holds_more {f} {n} {w} i h = rw (shl_one (f n) h) (record {
+holds_more {f} {n} {w} i h = rw (one_shl (f n) 64 h) (record {
   has = λ k l. ⊎_elim
       (λ q. subst (λ (x : ℕ). bit (bit_or w (2 ^ f n)) (f x) ≡ 1) (sym q) (bit-or w (2 ^ f n) (f n)
       ∙ omega (arith, bit-pow (f n), bit-lt w (f n))))
       (λ d. bit-or w (2 ^ f n) (f k) ∙ omega (arith, i.has k (omega arith), bit-lt (2 ^ f n) (f k)))
-      (same_or k n);
+      (cases_eq k n);
   only = λ s e. ⊎_elim
       (λ q. (n, omega arith, sym q))
       (λ d.
       let b : bit w s ≡ 1 = omega (arith, bit-or w (2 ^ f n) s, bit-pow-other (f n) s d) in
       let (k, l, g) = i.only s b in
       (k, omega arith, g))
-      (same_or s (f n));
+      (cases_eq s (f n));
 })
-
--- ---- elements stored one after the other
-pub stored : (P : ℕ → ℕ → Type 0) (l : List ℕ) (i v : ℕ) → i < length l → ((k : ℕ) → k < i → P k (get_or l k 0)) → P i v → (k : ℕ)
-    → k < i + 1 → P k (get_or (set l i v) k 0)
-stored P l i v h f p k g =
-    ⊎_elim
-    (λ q. subst (λ (x : ℕ). P x (get_or (set l i v) x 0)) (sym q) (subst (P i) (sym (get_or-set_same l i v 0 h)) p))
-    (λ d. subst (P k) (sym (get_or-set_other l i k v 0 d)) (f k (omega arith)))
-    (same_or k i)

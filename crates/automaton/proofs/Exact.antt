@@ -1,19 +1,10 @@
--- Tests: what one that is true exactly when P tells of P, and cases of two numbers.
+-- Tests: what one that is true exactly when P tells of P.
 use mathlib.Core.Path.{◌≡◌, refl, subst}
 use mathlib.Core.Bool.{Bool, true, false, not}
-use mathlib.Core.Logic.{◌≢◌, ◌⊎◌, inl, inr}
-use Prim.Native.Nat.{ℕ, ◌≤◌, ◌<◌}
-use native.Mathlib.Decide.{ℕ_discrete, dec_lt}
-use native.Mathlib.Omega.{arith}
+use Prim.Native.Nat.{ℕ}
 use lib.Dec.{eqb}
 use borrow.Author.Tests.{eqb-true, eqb-false}
 use Rattle.automaton.specs.Bits.{Exactly}
-
-pub same_or : (a b : ℕ) → (a ≡ b) ⊎ (a ≢ b)
-same_or a b = elim (ℕ_discrete a b) [ yes e ↦ inl e | no n ↦ inr n ]
-
-pub lt-or-le : (a b : ℕ) → (a < b) ⊎ (b ≤ a)
-lt-or-le a b = elim (dec_lt a b) [ yes h ↦ inl h | no n ↦ inr (omega (arith, n)) ]
 
 pub exactly-eqb : (a b : ℕ) → Exactly (eqb a b) (a ≡ b)
 exactly-eqb a b = go (eqb a b) refl

@@ -8,12 +8,13 @@ use lib.Bits.{bit_and, bit_or, or_lt}
 use lib.ListN.{length, get_or, set, replicate, length-set}
 use lib.Pow.{pow-lt, pow_pos}
 use lib.Seq.{get_or-set_same, get_or-set_other}
+use Rattle.std.proofs.lemmas.Nat.{one_shl}
+use Rattle.std.proofs.lemmas.Bool.{cases_eq}
 use Rattle.automaton.specs.Bits.{bit}
 use Rattle.automaton.specs.Table.{states, next}
 use Rattle.automaton.specs.Words.{CanMatch}
-use Rattle.automaton.proofs.Exact.{same_or}
 use Rattle.automaton.proofs.Word.{bit_below, bit-lt, bit-off, bit-zero, bit-clear, bit-clear-other}
-use Rattle.automaton.proofs.Word.{bit-or, bit-pow, bit-pow-other, or-keeps, and-some, shl_one}
+use Rattle.automaton.proofs.Word.{bit-or, bit-pow, bit-pow-other, or-keeps, and-some}
 use Rattle.automaton.proofs.SetBits.{Passed, passed_none, passed-more}
 use Rattle.automaton.proofs.Built.{Holds}
 use Rattle.automaton.proofs.Strings.{can-match-step}
@@ -30,7 +31,7 @@ pub record Marked (p w left : ℕ) (old new : List ℕ) : Type 0 where
 -- `words[s] |= 1 << p`
 pub marked_more : {p w left : ℕ} {old new : List ℕ} → Marked p w left old new → (s : ℕ) → bit left s ≡ 1 → s < length new → p < 64
     → (rest : ℕ) → rest ≡ left - 2 ^ s → Marked p w rest old (set new s (bit_or (get_or new s 0) ((1 * 2 ^ p) % 2 ^ 64)))
-marked_more {p} {w} {left} {old} {new} i s e l h rest is = rw (is, shl_one p h) (record {
+marked_more {p} {w} {left} {old} {new} i s e l h rest is = rw (is, one_shl p 64 h) (record {
   long = length-set new s (bit_or (get_or new s 0) (2 ^ p)) ∙ i.long;
   put = passed-more i.put s e (λ k n g. other k n ∙ g) (get_or-set_same new s (bit_or (get_or new s 0) (2 ^ p)) 0 l
       ∙ ap (λ (x : ℕ). bit_or x (2 ^ p)) (i.kept s (λ g. e)));
@@ -38,7 +39,7 @@ marked_more {p} {w} {left} {old} {new} i s e l h rest is = rw (is, shl_one p h) 
       (λ q. absurd (let y = f (ap (bit w) q ∙ i.put.sub s e) in let z = bit-clear left s e in let y' = ap (bit (left - 2 ^ s)) (sym q)
       ∙ y in omega arith))
       (λ n. other k n ∙ i.kept k (λ g. sym (bit-clear-other left s k e n) ∙ f g))
-      (same_or k s);
+      (cases_eq k s);
 })
   where
     other : (k : ℕ) → k ≢ s → get_or (set new s (bit_or (get_or new s 0) (2 ^ p))) k 0 ≡ get_or new k 0
@@ -54,13 +55,13 @@ pub record Sound (t : List ℕ) (accepting found : ℕ) : Type 0 where
 pub sound_more : {t : List ℕ} {accepting found : ℕ} → Sound t accepting found → (p : ℕ) → p < states t → p < 64
     → (row : ℕ) → ((s : ℕ) → bit row s ≡ 1 → (b : ℕ) × (b < 256) × (next t p b ≡ s)) → bit_and row found ≢ 0
     → Sound t accepting (bit_or found ((1 * 2 ^ p) % 2 ^ 64))
-sound_more {t} {accepting} {found} i p l l' row only n = rw (shl_one p l') (record {
+sound_more {t} {accepting} {found} i p l l' row only n = rw (one_shl p 64 l') (record {
   small = or_lt (states t) found (2 ^ p) i.small (pow-lt l);
   has = λ s e. or-keeps found (2 ^ p) s (i.has s e);
   sound = λ s e. ⊎_elim
       (λ q. subst (CanMatch t) (sym q) mine)
       (λ d. i.sound s (omega (arith, bit-or found (2 ^ p) s, bit-pow-other p s d)))
-      (same_or s p);
+      (cases_eq s p);
 })
   where
     mine : CanMatch t p
@@ -98,7 +99,7 @@ led-below {t} {w} i h p e = bit_below (states t) w p h (i.leads.sub p e)
 -- one turn: p is found
 pub led-found : {t : List ℕ} {w left found : ℕ} {words : List ℕ} → Led t w left found words → (p : ℕ) → bit left p ≡ 1 → p < 64
     → (rest : ℕ) → rest ≡ left - 2 ^ p → Led t w rest (bit_or found ((1 * 2 ^ p) % 2 ^ 64)) words
-led-found {t} {w} {left} {found} {words} i p e l rest is = rw (is, shl_one p l) (record {
+led-found {t} {w} {left} {found} {words} i p e l rest is = rw (is, one_shl p 64 l) (record {
   leads = passed-more i.leads p e
       (λ q n f z. f (omega (arith, bit-or found (2 ^ p) q)))
       (λ z. absurd (omega (arith, bit-or found (2 ^ p) p, bit-pow p)));
@@ -120,7 +121,7 @@ led-more {t} {w} {left} {found} {words} {new} i p e l row h put kept rest is = r
 })
   where
     by_row : {C : Type 0} (s : ℕ) → (bit row s ≡ 0 → C) → (bit row s ≡ 1 → C) → C
-    by_row s f g = ⊎_elim g (λ n. f (bit-off row s n)) (same_or (bit row s) 1)
+    by_row s f g = ⊎_elim g (λ n. f (bit-off row s n)) (cases_eq (bit row s) 1)
 
     grown : (s q : ℕ) → bit (get_or words s 0) q ≡ 1 → bit (get_or new s 0) q ≡ 1
     grown s q g = by_row s
@@ -139,4 +140,4 @@ led-more {t} {w} {left} {found} {words} {new} i p e l row h put kept rest is = r
         (λ x. subst (λ (y : ℕ). (b : ℕ) × (b < 256) × (next t y b ≡ s)) (sym x) (h.only s o))
         (λ n. i.only q s (let a = ap (λ (x : ℕ). bit x q) (put s o)
         ∙ bit-or (get_or words s 0) (2 ^ p) q in let b = bit-pow-other p q n in omega (arith, a, b, g, bit-lt (get_or words s 0) q)))
-        (same_or q p)
+        (cases_eq q p)

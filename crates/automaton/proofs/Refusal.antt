@@ -1,15 +1,17 @@
 -- The number of a refused table, and what a table that is taken has: `table-ok` and `ok-table`.
 use mathlib.Core.Path.{◌≡◌, refl, sym, subst}
 use mathlib.Core.List.{List, [], ◌∷◌}
-use mathlib.Core.Bool.{Bool, true, false, not, ◌||◌, cond, false≢true, or_assoc, or-false}
+use mathlib.Core.Bool.{Bool, false, not, ◌||◌, cond, or_assoc, or-false}
 use Prim.Native.Nat.{ℕ, zero, suc, ◌+◌, ◌-◌, ◌*◌, ◌/◌, ◌%◌, ◌≤◌, ◌<◌, min}
-use native.Mathlib.Nat.{le_of_eq}
 use native.Mathlib.Numerals.{add-one}
 use native.Mathlib.Omega.{arith}
 use lib.Dec.{ltb, leb, eqb}
 use lib.ListN.{length, take, drop, get_or, drop_of_length-le, length-take, length-drop}
-use lib.Seq.{drop-cons, get_or-drop, get_or-take, take_all}
+use lib.Seq.{drop-cons, get_or-drop, get_or-take}
+use Rattle.std.proofs.lemmas.Bool.{or_parts, true_from_ne_false}
 use borrow.Author.Tests.{le-ltb, lt-leb, eq-eqb, ltb-false, leb-false, eqb-true, not-false}
+use Rattle.std.proofs.lemmas.List.{take_rest}
+use Rattle.layout.proofs.Rows.{cond-zero}
 use Rattle.automaton.specs.Table.{states, flag, any_from, table_no, WellFormed}
 
 -- ---- the loop over a list
@@ -23,20 +25,12 @@ module _ (bound : ℕ) (l : List ℕ) (i : ℕ) where
   unfolding any_from
   any-end found h = rw (drop_of_length-le l h, or-false found)
 
-or_left : (a b : Bool) → a || b ≡ false → a ≡ false
-or_left true b e = e
-or_left false b e = refl
-
-or_right : (a b : Bool) → a || b ≡ false → b ≡ false
-or_right true b e = absurd (false≢true (sym e))
-or_right false b e = e
-
 -- no element at or above the bound
 pub none_from : (bound : ℕ) (l : List ℕ) → any_from bound l ≡ false → (i : ℕ) → i < length l → get_or l i 0 < bound
 unfolding any_from
 none_from bound [] e i h = absurd (omega arith)
-none_from bound (x ∷ l) e zero h = leb-false bound x (or_left (leb bound x) (any_from bound l) e)
-none_from bound (x ∷ l) e (suc i) h = none_from bound l (or_right (leb bound x) (any_from bound l) e) i (omega arith)
+none_from bound (x ∷ l) e zero h = leb-false bound x (or_parts (leb bound x) (any_from bound l) e).0
+none_from bound (x ∷ l) e (suc i) h = none_from bound l (or_parts (leb bound x) (any_from bound l) e).1 i (omega arith)
 
 pub all-below : (bound : ℕ) (l : List ℕ) → ((i : ℕ) → i < length l → get_or l i 0 < bound) → any_from bound l ≡ false
 unfolding any_from
@@ -63,21 +57,18 @@ shaped t s = rw (le-ltb (states t) 1 s.some, le-ltb 64 (states t) s.few, eq-eqb 
 
 shape : (t : List ℕ) → shapeless t ≡ false → Shape t
 shape t e =
-    let e₁ = or_right (ltb (states t) 1) (ltb 64 (states t) || not (eqb (length t) (1 + 257 * states t))) e in
+    let long_bad = not (eqb (length t) (1 + 257 * states t)) in
+    let e₁ = or_parts (ltb (states t) 1) (ltb 64 (states t) || long_bad) e in
+    let e₂ = or_parts (ltb 64 (states t)) long_bad e₁.1 in
     record {
-      some = ltb-false (states t) 1 (or_left (ltb (states t) 1) (ltb 64 (states t) || not (eqb (length t) (1 + 257 * states t))) e);
-      few = ltb-false 64 (states t) (or_left (ltb 64 (states t)) (not (eqb (length t) (1 + 257 * states t))) e₁);
-      long = eqb-true (length t) (1 + 257 * states t)
-          (not-false (eqb (length t) (1 + 257 * states t)) (or_right (ltb 64 (states t)) (not (eqb (length t) (1 + 257 * states t))) e₁));
+      some = ltb-false (states t) 1 e₁.0;
+      few = ltb-false 64 (states t) e₂.0;
+      long = eqb-true (length t) (1 + 257 * states t) (not-false (eqb (length t) (1 + 257 * states t)) e₂.1);
     }
-
-is_true : (b : Bool) → (b ≡ false → ⊥) → b ≡ true
-is_true true h = refl
-is_true false h = absurd (h refl)
 
 pub is-21 : (t : List ℕ) → (Shape t → ⊥) → 21 ≡ table_no t
 unfolding table_no
-is-21 t h = rw (is_true (shapeless t) (λ e. h (shape t e)))
+is-21 t h = rw (true_from_ne_false (shapeless t) (λ e. h (shape t e)))
 
 -- ---- rows 22 and 23
 pub past-21 : (t : List ℕ) (f n : Bool) → Shape t → flags_bad t ≡ f → next_bad t ≡ n → cond f 22 (cond n 23 0) ≡ table_no t
@@ -85,10 +76,6 @@ unfolding table_no
 past-21 t f n s p q = rw (shaped t s, p, q)
 
 -- ---- a table that is taken
-cond-zero : (b : Bool) (k x : ℕ) → cond b (suc k) x ≡ 0 → (b ≡ false) × (x ≡ 0)
-cond-zero true k x e = absurd (omega arith)
-cond-zero false k x e = (refl, e)
-
 pub table-ok : (t : List ℕ) → table_no t ≡ 0 → WellFormed t
 unfolding table_no
 table-ok t e =
@@ -128,14 +115,10 @@ ok-table t w =
         let q : 1 + states t + i / 256 * 256 + i % 256 ≡ 1 + states t + i = omega arith in
         rw get_or-drop (subst (λ (k : ℕ). get_or t k 0 < states t) q (w.closed (i / 256) (i % 256) (omega (arith, w.long)) (omega arith)))
 
--- a part that goes on to the end
-pub part-rest : (l : List ℕ) (n : ℕ) → take (length l - n) (drop n l) ≡ drop n l
-part-rest l n = take_all (length l - n) (drop n l) (le_of_eq (length-drop n l))
-
 -- ---- the parts that the check looks at, as their ranges give them
 pub flags-tested : (t : List ℕ) (r : Bool) → r ≡ any_from 2 (take (1 + states t - 1) (drop 1 t)) → flags_bad t ≡ r
 flags-tested t r e = let n : 1 + states t - 1 ≡ states t = omega arith in sym (rw n at e)
 
 pub next-tested : (t : List ℕ) (r : Bool) → r ≡ any_from (states t) (take (length t - (1 + states t)) (drop (1 + states t) t))
     → next_bad t ≡ r
-next-tested t r e = sym (rw (part-rest t (1 + states t)) at e)
+next-tested t r e = sym (rw (take_rest t (1 + states t)) at e)

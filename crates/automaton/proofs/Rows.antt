@@ -1,52 +1,36 @@
--- A state's row of next states, by the place where it begins.
-use mathlib.Core.Path.{◌≡◌, subst}
+-- A state's row of next states.
+use mathlib.Core.Path.{◌≡◌, sym, ◌∙◌, subst}
 use mathlib.Core.List.{List}
 use mathlib.Core.Logic.{⊎_elim}
-use Prim.Native.Nat.{ℕ, ◌+◌, ◌-◌, ◌*◌, ◌/◌, ◌%◌, ◌^◌, ◌≤◌, ◌<◌}
+use Prim.Native.Nat.{ℕ, ◌<◌}
 use lib.Dec.{lit<}
 use Rattle.std.proofs.lemmas.List.{get_or_past}
+use Rattle.std.proofs.lemmas.Bool.{cases_lt}
 use native.Mathlib.Omega.{arith}
 use lib.ListN.{length, get_or}
 use Rattle.serialize.specs.Digits.{DigitsBelow}
 use Rattle.automaton.specs.Bits.{bit}
 use Rattle.automaton.specs.Table.{WellFormed, states, next}
-use Rattle.automaton.proofs.Exact.{lt-or-le}
 use Rattle.automaton.proofs.Built.{Holds}
 
-module _ (t : List ℕ) (s : ℕ) {row : ℕ} (is : row ≡ 1 + states t + s * 256) where
-  pub row-next : (b : ℕ) → get_or t (row + b) 0 ≡ next t s b
-  row-next b = rw is
+-- what `row` says of the bytes that it gives
+module _ (t : List ℕ) (s : ℕ) (row : List ℕ) (is : (b : ℕ) → b < 256 → get_or row b 0 ≡ next t s b) where
+  pub row-below : WellFormed t → s < states t → (b : ℕ) → b < 256 → get_or row b 0 < 64
+  row-below w h b l = omega (arith, is b l, w.closed s b h l, w.few)
 
-  pub row-inside : WellFormed t → s < states t → row + 256 ≤ length t
-  row-inside w h = omega (arith, is, w.long)
-
-  pub row-below : WellFormed t → s < states t → (b : ℕ) → b < 256 → get_or t (row + b) 0 < 64
-  row-below w h b l = omega (arith, row-next b, w.closed s b h l, w.few)
+  -- each state that is in it is a next state
+  pub row-only : (q : ℕ) → ((b : ℕ) × (b < 256) × (get_or row b 0 ≡ q)) → (b : ℕ) × (b < 256) × (next t s b ≡ q)
+  row-only q (b, l, g) = (b, l, sym (is b l) ∙ g)
 
   -- the word of its next states
-  pub row-holds : {w : ℕ} → ((b : ℕ) → b < 256 → bit w (get_or t (row + b) 0) ≡ 1)
-      → ((q : ℕ) → bit w q ≡ 1 → (b : ℕ) × (b < 256) × (get_or t (row + b) 0 ≡ q)) → Holds (next t s) 256 w
-  row-holds f g = record { has = rw is at f; only = rw is at g }
+  pub row-holds : {w : ℕ} → ((b : ℕ) → b < 256 → bit w (get_or row b 0) ≡ 1)
+      → ((q : ℕ) → bit w q ≡ 1 → (b : ℕ) × (b < 256) × (get_or row b 0 ≡ q)) → Holds (next t s) 256 w
+  row-holds {w} f g = record {
+    has = λ b l. subst (λ (x : ℕ). bit w x ≡ 1) (is b l) (f b l);
+    only = λ q e. row-only q (g q e);
+  }
 
--- the bytes of a table are bytes
-pub small-table : {t : List ℕ} → WellFormed t → DigitsBelow 8 t
-small-table {t} w i = ⊎_elim inside (λ h. rw (get_or_past t i 0 h) (lit< tt)) (lt-or-le i (length t))
-  where
-    row : 1 + states t ≤ i → i < length t → get_or t i 0 < 2 ^ 8
-    row g h =
-        let k = i - (1 + states t) in
-        let e : 1 + states t + k / 256 * 256 + k % 256 ≡ i = omega arith in
-        let l : k / 256 < states t = omega (arith, w.long) in
-        subst (λ (x : ℕ). get_or t x 0 < 2 ^ 8) e (omega (arith, w.closed (k / 256) (k % 256) l (omega arith), w.few))
-
-    flags : 1 ≤ i → i < 1 + states t → get_or t i 0 < 2 ^ 8
-    flags g h =
-        let e : 1 + (i - 1) ≡ i = omega arith in
-        subst (λ (x : ℕ). get_or t x 0 < 2 ^ 8) e (omega (arith, w.flags (i - 1) (omega arith)))
-
-    inside : i < length t → get_or t i 0 < 2 ^ 8
-    inside h =
-        ⊎_elim
-        (λ z. let e : 0 ≡ i = omega arith in subst (λ (x : ℕ). get_or t x 0 < 2 ^ 8) e (omega (arith, w.few)))
-        (λ g. ⊎_elim (flags g) (λ d. row d h) (lt-or-le i (1 + states t)))
-        (lt-or-le i 1)
+  -- its bytes are bytes
+  pub row-small : WellFormed t → s < states t → length row ≡ 256 → DigitsBelow 8 row
+  row-small w h long i =
+      ⊎_elim (λ l. omega (arith, row-below w h i l)) (λ l. rw (get_or_past row i 0 (omega arith)) (lit< tt)) (cases_lt i 256)

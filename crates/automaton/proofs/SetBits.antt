@@ -6,9 +6,9 @@ use native.Mathlib.Omega.{arith}
 use lib.Bits.{bit_and}
 use lib.Count.{count_trailing_zeros}
 use lib.Pow.{pow_pos}
+use Rattle.std.proofs.lemmas.Bool.{cases_eq}
 use Rattle.automaton.specs.Bits.{bit}
 use Rattle.automaton.specs.SetBits.{TookLowest}
-use Rattle.automaton.proofs.Exact.{same_or}
 use Rattle.automaton.proofs.Word.{bit_below, bit-trailing, bit-under, bit-zero, bit-clear-other, bit-cleared, and-pred}
 
 pub took-lowest : (w : ℕ) → 0 < w → w < 2 ^ 64 → TookLowest w (count_trailing_zeros 64 w) (bit_and w (w - 1))
@@ -36,7 +36,7 @@ pub passed-more : {P Q : ℕ → Type 0} {w left : ℕ} → Passed P w left → 
     → Passed Q w (left - 2 ^ s)
 passed-more {P} {Q} {w} {left} i s e f q = record {
   sub = λ k g. i.sub k (bit-cleared left s k e g);
-  done = λ k g z. ⊎_elim (λ x. subst Q (sym x) q) (λ n. f k n (i.done k g (sym (bit-clear-other left s k e n) ∙ z))) (same_or k s);
+  done = λ k g z. ⊎_elim (λ x. subst Q (sym x) q) (λ n. f k n (i.done k g (sym (bit-clear-other left s k e n) ∙ z))) (cases_eq k s);
 }
 
 pub passed-all : {P : ℕ → Type 0} {w left : ℕ} → Passed P w left → left ≡ 0 → (s : ℕ) → bit w s ≡ 1 → P s

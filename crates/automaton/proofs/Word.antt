@@ -2,15 +2,14 @@
 use mathlib.Core.Path.{◌≡◌, refl, sym, ap, ◌∙◌}
 use mathlib.Core.Logic.{◌≢◌, ⊎_elim}
 use Prim.Native.Nat.{ℕ, zero, suc, ◌+◌, ◌-◌, ◌*◌, ◌/◌, ◌%◌, ◌^◌, ◌≤◌, ◌<◌, min, max}
-use native.Mathlib.Nat.{pow-suc, zero-add, one-mul, lt_of_not-le, mod-lt}
+use native.Mathlib.Nat.{pow-suc, zero-add, lt_of_not-le, mod-lt}
 use native.Mathlib.Numerals.{add-one, one-add}
 use native.Mathlib.Omega.{arith}
-use lib.Dec.{lit<}
 use lib.Pow.{pow_pos, shr-shr, shl-shr, shl_exact, field, mod-mod-pow}
 use lib.Bits.{bit_and, bit_or, and_step, or_step, and_mask, and_le_r, and_self, or_zero_r}
 use lib.Count.{count_trailing_zeros, under}
+use Rattle.std.proofs.lemmas.Bool.{cases_eq}
 use Rattle.automaton.specs.Bits.{bit}
-use Rattle.automaton.proofs.Exact.{same_or}
 
 pub bit-lt : (w s : ℕ) → bit w s < 2
 unfolding bit
@@ -52,9 +51,6 @@ bit_test w s = and_mask (w / 2 ^ s) 1 ∙ bit-shr w s
 -- `x << s` of one bit
 pub shl-bit : (x s : ℕ) → x < 2 → s < 64 → (x * 2 ^ s) % 2 ^ 64 ≡ x * 2 ^ s
 shl-bit x s h l = shl_exact 1 s 64 h (omega arith)
-
-pub shl_one : (s : ℕ) → s < 64 → (1 * 2 ^ s) % 2 ^ 64 ≡ 2 ^ s
-shl_one s l = shl-bit 1 s (lit< tt) l ∙ one-mul (2 ^ s)
 
 -- ---- w + 2 ^ s, where bit s of w is 0
 half-add : (w s : ℕ) → (w + 2 ^ suc s) / 2 ≡ w / 2 + 2 ^ s
@@ -101,7 +97,7 @@ bit-clear w (suc s) e = rw half-sub (bit-clear (w / 2) s e)
 
 -- what is left was there
 pub bit-cleared : (w s t : ℕ) → bit w s ≡ 1 → bit (w - 2 ^ s) t ≡ 1 → bit w t ≡ 1
-bit-cleared w s t e l = ⊎_elim (λ q. ap (bit w) q ∙ e) (λ n. sym (bit-clear-other w s t e n) ∙ l) (same_or t s)
+bit-cleared w s t e l = ⊎_elim (λ q. ap (bit w) q ∙ e) (λ n. sym (bit-clear-other w s t e n) ∙ l) (cases_eq t s)
 
 -- ---- the lowest set bit
 pub bit-trailing : (k w : ℕ) → 0 < w → w < 2 ^ k → bit w (count_trailing_zeros k w) ≡ 1

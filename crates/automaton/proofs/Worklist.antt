@@ -7,10 +7,10 @@ use Prim.Native.Nat.{ℕ, ◌+◌, ◌-◌, ◌^◌, ◌≤◌, ◌<◌, min}
 use native.Mathlib.Omega.{arith}
 use lib.Bits.{bit_and, bit_or, and_lt, and_le_l, or_lt, or_disjoint}
 use lib.Pow.{pow_pos, pow_mono}
+use Rattle.std.proofs.lemmas.Bool.{cases_eq}
 use Rattle.automaton.specs.Bits.{bit}
 use Rattle.automaton.specs.Table.{WellFormed, states, flag, next}
 use Rattle.automaton.specs.Words.{Bytes, run, CanMatch, Reach}
-use Rattle.automaton.proofs.Exact.{same_or}
 use Rattle.automaton.proofs.Word.{bit-lt, bit-off, bit-zero, bit_below, bit-has, bit-clear-other}
 use Rattle.automaton.proofs.Word.{bit-cleared, bit-or, or-keeps, bit-and, bit_not, bits-zero}
 use Rattle.automaton.proofs.Strings.{can-match-here, can-match-step}
@@ -24,7 +24,7 @@ pub record Work (t : List ℕ) (f w : ℕ) : Type 0 where
   pub closed : (q b : ℕ) → q < states t → b < 256 → bit f (next t q b) ≡ 1 → bit w (next t q b) ≡ 0 → bit f q ≡ 1
 
 -- what is added: the states of l that f has not
-abbrev added : ℕ → ℕ → ℕ
+abbrev pub added : ℕ → ℕ → ℕ
 added l f = bit_and l (2 ^ 64 - 1 - f)
 
 -- l is put to the states found, and to v, which is left of those that wait; the measure falls
@@ -33,21 +33,21 @@ Turned t f w l v =
     Work t (bit_or f (added l f)) (bit_or v (added l f)) × (2 ^ 64 + bit_or v (added l f) - bit_or f (added l f) < 2 ^ 64 + w - f)
 
 module _ (l f : ℕ) (hl : l < 2 ^ 64) (hf : f < 2 ^ 64) where
-  added_new : (q : ℕ) → bit (added l f) q ≡ 1 → (bit l q ≡ 1) × (bit f q ≡ 0)
+  pub added_new : (q : ℕ) → bit (added l f) q ≡ 1 → (bit l q ≡ 1) × (bit f q ≡ 0)
   added_new q e =
       let a = bit-and l (2 ^ 64 - 1 - f) q in
       let b : bit l q ≡ 1 = omega (arith, bit-lt l q) in
       let n = bit_not 64 f q hf (bit_below 64 l q hl b) in
       (b, omega (arith, bit-lt f q))
 
-  added-all : (q : ℕ) → bit l q ≡ 1 → bit f q ≡ 0 → bit (added l f) q ≡ 1
+  pub added-all : (q : ℕ) → bit l q ≡ 1 → bit f q ≡ 0 → bit (added l f) q ≡ 1
   added-all q b z = bit-and l (2 ^ 64 - 1 - f) q ∙ omega (arith, bit_not 64 f q hf (bit_below 64 l q hl b))
 
 or_apart : (k a b : ℕ) → a < 2 ^ k → b < 2 ^ k → ((q : ℕ) → bit a q ≡ 1 → bit b q ≡ 0) → bit_or a b ≡ a + b
 or_apart k a b ha hb d = or_disjoint a b (bits-zero k (bit_and a b) (and_lt k a b ha hb) (λ q. bit-and a b q ∙ none q))
   where
     none : (q : ℕ) → min (bit a q) (bit b q) ≡ 0
-    none q = ⊎_elim (λ e. let z = d q e in omega arith) (λ n. omega (arith, bit-lt a q)) (same_or (bit a q) 1)
+    none q = ⊎_elim (λ e. let z = d q e in omega arith) (λ n. omega (arith, bit-lt a q)) (cases_eq (bit a q) 1)
 
 module _ {t : List ℕ} where
   -- all that are found wait
@@ -62,7 +62,7 @@ module _ {t : List ℕ} where
     closed = λ q b hq hb e₁ e₀. absurd (omega arith);
   }
 
-  fits : {f : ℕ} → WellFormed t → f < 2 ^ states t → f < 2 ^ 64
+  pub fits : {f : ℕ} → WellFormed t → f < 2 ^ states t → f < 2 ^ 64
   fits wf h = let g : 2 ^ states t ≤ 2 ^ 64 = pow_mono {i = states t} {j = 64} wf.few in omega arith
 
   -- one turn: s no longer waits, and the states of l, which lead to s, are added: all that do so and are not found are in it
@@ -88,10 +88,10 @@ module _ {t : List ℕ} where
     from-kept : (q b : ℕ) → q < states t → b < 256 → next t q b ≡ s → bit (bit_or f (added l f)) q ≡ 1
     from-kept q b hq hb e =
         ⊎_elim (λ z. new-kept q (added-all l f (fits wf hl) (fits wf i.small) q (from q b hq z hb e) z))
-        (λ n. old-kept q (omega (arith, bit-lt f q))) (same_or (bit f q) 0)
+        (λ n. old-kept q (omega (arith, bit-lt f q))) (cases_eq (bit f q) 0)
 
     in-or : (a q : ℕ) (C : Type 0) → (bit a q ≡ 1 → C) → (bit (added l f) q ≡ 1 → C) → bit (bit_or a (added l f)) q ≡ 1 → C
-    in-or a q C g h e = ⊎_elim g (λ n. h (omega (arith, bit-or a (added l f) q, bit-lt a q, bit-lt (added l f) q))) (same_or (bit a q) 1)
+    in-or a q C g h e = ⊎_elim g (λ n. h (omega (arith, bit-or a (added l f) q, bit-lt a q, bit-lt (added l f) q))) (cases_eq (bit a q) 1)
 
     work-kept : Work t (bit_or f (added l f)) (bit_or (w - 2 ^ s) (added l f))
     work-kept = record {
@@ -100,7 +100,7 @@ module _ {t : List ℕ} where
       sub = λ q e. in-or (w - 2 ^ s) q (bit (bit_or f (added l f)) q ≡ 1) (λ g. old-kept q (i.sub q (left-waits q g))) (new-kept q) e;
       sound = λ q e. in-or f q (CanMatch t q) (i.sound q) (λ g. leads q (to q (new q g).0)) e;
       flags = λ q h e. old-kept q (i.flags q h e);
-      closed = λ q b hq hb e₁ e₀. ⊎_elim (from-kept q b hq hb) (λ n. old-kept q (still q b hq hb n e₁ e₀)) (same_or (next t q b) s);
+      closed = λ q b hq hb e₁ e₀. ⊎_elim (from-kept q b hq hb) (λ n. old-kept q (still q b hq hb n e₁ e₀)) (cases_eq (next t q b) s);
     }
       where
         leads : (q : ℕ) → (b : ℕ) × (b < 256) × (next t q b ≡ s) → CanMatch t q
@@ -169,4 +169,4 @@ module _ {t : List ℕ} where
   -- a state that is not found does not accept
   pub not_found : {f w : ℕ} → WellFormed t → Work t f w → (q : ℕ) → q < states t → bit f q ≡ 0 → flag t q ≡ 0
   not_found wf i q hq z =
-      ⊎_elim (λ e. let o = i.flags q hq e in absurd (omega arith)) (λ n. omega (arith, wf.flags q hq)) (same_or (flag t q) 1)
+      ⊎_elim (λ e. let o = i.flags q hq e in absurd (omega arith)) (λ n. omega (arith, wf.flags q hq)) (cases_eq (flag t q) 1)

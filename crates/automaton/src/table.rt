@@ -1,5 +1,5 @@
 // The table: its check, the start state, one step, acceptance.
-ghost use Rattle.std.specs.Prelude.{◌≡◌, ◌+◌, ◌*◌, ◌<◌, IfOk};
+ghost use Rattle.std.specs.Prelude.{◌≡◌, ℕ, ◌<◌, length, get_or, IfOk};
 ghost use Rattle.layout.specs.Refusals.{no_of};
 ghost use Rattle.automaton.specs.Bits.{Exactly};
 ghost use Rattle.automaton.specs.Table.{table_no, WellFormed, states, flag, next, any_from};
@@ -34,8 +34,7 @@ impl<'a> Table<'a> {
     {
         let m = *bytes.first().ok_or(Refusal::TableBad)?;
         let rows = 1 + usize::from(m);
-        // Two comparisons: contains goes by partial_cmp, whose cases the proof would have to walk.
-        if m < 1 || m > 64 || bytes.len() != 1 + 257 * usize::from(m) {
+        if !(1..=64).contains(&m) || bytes.len() != 1 + 257 * usize::from(m) {
             return Err(Refusal::TableBad);
         }
         if any_from(&bytes[1..rows], 2) {
@@ -54,12 +53,14 @@ impl<'a> Table<'a> {
         usize::from(self.bytes[0])
     }
 
-    // Where the 256 next states of a state begin.
-    pub fn row(self, state: usize) -> usize
+    // The 256 next states of a state.
+    pub fn row(self, state: usize) -> &'a [u8]
         requires { state < states self.bytes.now }
-        ensures { result ≡ 1 + states self.entry.bytes.now + state * 256 }
+        ensures row_len { length result.now ≡ 256 }
+        ensures by_index { (b : ℕ) → b < 256 → get_or result.now b 0 ≡ next self.entry.bytes.now state b }
     {
-        1 + self.states() + state * 256
+        let from = 1 + self.states() + state * 256;
+        &self.bytes[from..from + 256]
     }
 
     // The state after one byte.
@@ -67,7 +68,7 @@ impl<'a> Table<'a> {
         requires { state < states self.bytes.now }
         ensures { (result ≡ next self.entry.bytes.now state byte) × (result < states self.entry.bytes.now) }
     {
-        usize::from(self.bytes[self.row(state) + usize::from(byte)])
+        usize::from(self.row(state)[usize::from(byte)])
     }
 
     // Whether a state accepts.

@@ -1,13 +1,13 @@
 -- The nearest of n places, from those that a loop has passed; and of eights of them, from the nearest of one.
 use Rattle.std.proofs.Common.{Option, None, Some, ◌≡◌, ℕ, zero, suc, ◌^◌, lit≤, ◌+◌, ◌-◌, ◌*◌, ◌/◌, ◌%◌, ◌<◌}
 use Rattle.std.proofs.Common.{◌≤◌, List, Bool, true, false, ◌⊎◌, inl, inr, ⊎_elim, sym, subst, arith, ap, ◌∙◌, get_or}
+use Rattle.std.proofs.lemmas.Bool.{cases_eq, cases_lt}
 use Rattle.serialize.specs.Digits.{DigitsBelow}
 use Rattle.automaton.specs.Bits.{bit}
 use Rattle.automaton.specs.Table.{WellFormed, states, next}
 use Rattle.automaton.specs.Words.{CanMatch, Reach}
 use lib.ListN.{replicate, length-replicate, get_or-replicate}
 use Rattle.automaton.specs.Live.{Firsts, Ends}
-use Rattle.automaton.proofs.Exact.{lt-or-le, same_or}
 use Rattle.automaton.proofs.Word.{bit-off, bit-top}
 use Rattle.automaton.proofs.Eights.{eight_at, Blank, blank-new, blank-used}
 use Rattle.automaton_live.specs.Nearest.{place, Before, Nearest}
@@ -33,7 +33,7 @@ module _ (P : ℕ → Type 0) (back : Bool) (n : ℕ) where
   pub past-more : (i v : ℕ) → v ≡ place back n i → Past P back n i → (P v → ⊥) → Past P back n (i + 1)
   past-more i v is f g m h =
       ⊎_elim (λ d. f m d) (λ d. let e : i ≡ m = omega arith in subst (λ (x : ℕ). P (place back n x) → ⊥) e (λ q. g (subst P (sym is) q)))
-      (lt-or-le m i)
+      (cases_lt m i)
 
 -- ---- the 256 bytes as 32 eights
 abbrev pub InEight : (P : ℕ → Type 0) (e : ℕ) → Type 0
@@ -41,8 +41,8 @@ InEight P e = (j : ℕ) × (j < 8) × P (8 * e + j)
 
 -- a place before one of an eight is in that eight, or in one before it
 before-eight : (back : Bool) (e j k : ℕ) → j < 8 → Before back k (8 * e + j) → ((k / 8 ≡ e) × Before back (k % 8) j) ⊎ Before back (k / 8) e
-before-eight true e j k l b = ⊎_elim (λ d. inl (d, omega arith)) (λ d. inr (omega (arith, d))) (same_or (k / 8) e)
-before-eight false e j k l b = ⊎_elim (λ d. inl (d, omega arith)) (λ d. inr (omega (arith, d))) (same_or (k / 8) e)
+before-eight true e j k l b = ⊎_elim (λ d. inl (d, omega arith)) (λ d. inr (omega (arith, d))) (cases_eq (k / 8) e)
+before-eight false e j k l b = ⊎_elim (λ d. inl (d, omega arith)) (λ d. inr (omega (arith, d))) (cases_eq (k / 8) e)
 
 module _ (P : ℕ → Type 0) (back : Bool) where
   eights-at : (i j : ℕ) → i < 32 → Nearest (λ k. P (8 * place back 32 i + k)) back 8 (Some j) → Past (InEight P) back 32 i
@@ -75,31 +75,31 @@ module _ (P : ℕ → Type 0) (back : Bool) where
       let (m, y, z) = all-places back 32 (k / 8) (omega arith) in
       f m y (k % 8, omega arith, let q : 8 * place back 32 m + k % 8 ≡ k = omega (arith, z) in subst P (sym q) p)
 
--- ---- the eight next states of the bytes from b on, by their bits in the word of those that can match
-module _ {t : List ℕ} (wf : WellFormed t) (s : ℕ) (hs : s < states t) (at b : ℕ) (is : at ≡ 1 + states t + s * 256 + b)
-    (fit : b + 8 ≤ 256) where
-  bit-next : (j : ℕ) → get_or t (at + j) 0 ≡ next t s (b + j)
-  bit-next j = let e : at + j ≡ 1 + states t + s * 256 + (b + j) = omega arith in ap (λ (x : ℕ). get_or t x 0) e
-
-  pub eight-below : (j : ℕ) → j < 8 → get_or t (at + j) 0 < 64
-  eight-below j h = omega (arith, bit-next j, wf.few, wf.closed s (b + j) hs (omega arith))
+-- ---- the eight next states of the bytes from b on, in the state's row, by their bits in the word of those that can match
+module _ {t : List ℕ} (wf : WellFormed t) (s : ℕ) (hs : s < states t) (row : List ℕ) (is : (b : ℕ) → b < 256 → get_or row b 0 ≡ next t s b)
+    (b : ℕ) (fit : b + 8 ≤ 256) where
+  pub eight-below : (j : ℕ) → j < 8 → get_or row (b + j) 0 < 64
+  eight-below j h = omega (arith, is (b + j) (omega arith), wf.few, wf.closed s (b + j) hs (omega arith))
 
   module _ {reach : ℕ} (r : Reach t reach) where
-    pub eight-some : (back : Bool) (j : ℕ) → Nearest (λ j. bit reach (get_or t (at + j) 0) ≡ 1) back 8 (Some j)
+    bit-next : (j : ℕ) → j < 8 → bit reach (get_or row (b + j) 0) ≡ bit reach (next t s (b + j))
+    bit-next j h = ap (bit reach) (is (b + j) (omega arith))
+
+    pub eight-some : (back : Bool) (j : ℕ) → Nearest (λ j. bit reach (get_or row (b + j) 0) ≡ 1) back 8 (Some j)
         → Nearest (λ k. CanMatch t (next t s (b + k))) back 8 (Some j)
     eight-some back j n = (
       n.0,
-      r.up (next t s (b + j)) (wf.closed s (b + j) hs (omega (arith, n.0))) (ap (bit reach) (sym (bit-next j)) ∙ n.1),
-      λ k l g m. n.2 k l g (ap (bit reach) (bit-next k) ∙ r.down (next t s (b + k)) (wf.closed s (b + k) hs (omega arith)) m),
+      r.up (next t s (b + j)) (wf.closed s (b + j) hs (omega (arith, n.0))) (sym (bit-next j n.0) ∙ n.1),
+      λ k l g m. n.2 k l g (bit-next k l ∙ r.down (next t s (b + k)) (wf.closed s (b + k) hs (omega arith)) m),
     )
 
     -- eight that equal a word of none that can match
-    pub eight-blank : DigitsBelow 8 t → (eight : ℕ) → eight ≡ eight_at t at → Blank reach eight
+    pub eight-blank : DigitsBelow 8 row → (eight : ℕ) → eight ≡ eight_at row b → Blank reach eight
         → (j : ℕ) × (j < 8) × CanMatch t (next t s (b + j)) → ⊥
     eight-blank small eight e f x =
         let m = r.down (next t s (b + x.0)) (wf.closed s (b + x.0) hs (omega (arith, x.1))) x.2 in
-        let one = ap (bit reach) (bit-next x.0) ∙ m in
-        omega (arith, one, blank-used t small reach at eight e f x.0 x.1)
+        let one = bit-next x.0 x.1 ∙ m in
+        omega (arith, one, blank-used row small reach b eight e f x.0 x.1)
 
 pub eight-new : (t : List ℕ) (reach at : ℕ) → DigitsBelow 8 t → (back : Bool) (eight : ℕ) → eight ≡ eight_at t at
     → Nearest (λ j. bit reach (get_or t (at + j) 0) ≡ 1) back 8 None → Blank reach eight

@@ -15,7 +15,8 @@ use automaton::table::Table;
 // What the walks along keys have of a table: the word of the states that can match, and for the states asked for so far the
 // lowest byte that leads on, and one more than the highest. That they are right stands in the contracts and not in a ghost
 // field: it has strings, so more than one proof, and a truncated fact doesn't give the string back. The lowest and the highest
-// are two arrays, since each search asks for one of them and leaves the other as it is; they are arrays, since there is no heap.
+// are two arrays, since each search asks for one of them and leaves the other as it is; so do `first` and `end`, which differ in the
+// array, in what stands for none, and in their clauses. They are arrays, since there is no heap.
 #[derive(Drop)]
 pub struct Prepared<'a> {
     pub table: Table<'a>,
@@ -42,27 +43,6 @@ fn nearest_of_eight<const BACK: bool>(bytes: &[u8], reach: u64, at: usize) -> Op
         let j = place::<BACK>(8, k);
         if is_set(reach, usize::from(bytes[at + j])) {
             return Some(j);
-        }
-    }
-    None
-}
-
-// The first byte that leads on from a state, from the front or from the back. Eight next states that equal eight that lead
-// nowhere are passed over; no eight equal those that the loop begins with.
-fn nearest<const BACK: bool>(table: Table, reach: u64, state: usize) -> Option<usize>
-    requires { Reach table.bytes.now reach × (state < states table.bytes.now) }
-    ensures { Nearest (λ b. CanMatch table.entry.bytes.now (next table.entry.bytes.now state b)) BACK 256 result }
-{
-    let row = table.row(state);
-    let mut dead = u64::MAX;
-    for k in 0..32 {
-        let from = 8 * place::<BACK>(32, k);
-        let eight = serialize::deserialize_u64(table.bytes, row + from);
-        if eight != dead {
-            if let Some(j) = nearest_of_eight::<BACK>(table.bytes, reach, row + from) {
-                return Some(from + j);
-            }
-            dead = eight;
         }
     }
     None
@@ -95,12 +75,35 @@ impl<'a> Prepared<'a> {
         ensures { Exactly result (LiveByte self.now.table.bytes.now state lo hi) }
     {
         let row = self.table.row(state);
-        (lo..hi).any(|b| is_set(self.reach, usize::from(self.table.bytes[row + b])))
+        (lo..hi).any(|b| is_set(self.reach, usize::from(row[b])))
+    }
+
+    // The first byte that leads on from a state, from the front or from the back. Eight next states that equal eight that lead
+    // nowhere are passed over; no eight equal those that the loop begins with. A loop counts the places, as above: it goes from the
+    // front or from the back by a constant, and hands on `dead`.
+    fn nearest<const BACK: bool>(&self, state: usize) -> Option<usize>
+        requires { Reach self.now.table.bytes.now self.now.reach × (state < states self.now.table.bytes.now) }
+        ensures { Nearest (λ b. CanMatch self.now.table.bytes.now (next self.now.table.bytes.now state b)) BACK 256 result }
+    {
+        let reach = self.reach;
+        let row = self.table.row(state);
+        let mut dead = u64::MAX;
+        for k in 0..32 {
+            let from = 8 * place::<BACK>(32, k);
+            let eight = serialize::deserialize_u64(row, from);
+            if eight != dead {
+                if let Some(j) = nearest_of_eight::<BACK>(row, reach, from) {
+                    return Some(from + j);
+                }
+                dead = eight;
+            }
+        }
+        None
     }
 
     // The lowest byte that leads on from a state, worked out when it is first asked for; 256 where there is none: a bound, which
     // is compared as one. Here and in `end` a known answer is returned by hand: of what `get_or_insert_with` lends, and that the other
-    // states stay, the check found no proof.
+    // states stay, the check found no proof (tried in `first`, by search alone).
     pub fn first(&mut self, state: usize) -> u16
         requires { FirstsReady self.old.table.bytes.now self.old × (state < states self.old.table.bytes.now) }
         ensures first_live { FirstLive self.old.table.bytes.now state result }
@@ -110,7 +113,7 @@ impl<'a> Prepared<'a> {
         if let Some(known) = self.firsts[state] {
             return known;
         }
-        let byte = nearest::<false>(self.table, self.reach, state);
+        let byte = self.nearest::<false>(state);
         let first = byte.unwrap_or(256) as u16;
         self.firsts[state] = Some(first);
         first
@@ -127,7 +130,7 @@ impl<'a> Prepared<'a> {
         if let Some(known) = self.ends[state] {
             return known;
         }
-        let byte = nearest::<true>(self.table, self.reach, state);
+        let byte = self.nearest::<true>(state);
         let end = byte.map_or(0, |b| b + 1) as u16;
         self.ends[state] = Some(end);
         end

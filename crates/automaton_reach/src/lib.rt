@@ -12,66 +12,63 @@ ghost use Rattle.automaton.specs.Words.{CanMatch, Reach};
 use automaton::bits::{SetBits, is_set};
 use automaton::table::Table;
 
-// The word of the accepting states. The loop counts them, since a flag's place is its bit.
+// The word of the accepting states: a flag's place is its bit.
 pub fn flags(table: Table) -> u64
     ensures upper_bound { result < 2 ^ states table.entry.bytes.now }
     ensures by_index { (s : ℕ) → s < states table.entry.bytes.now → bit result s ≡ flag table.entry.bytes.now s }
 {
     let mut word: u64 = 0;
-    for s in 0..table.states() {
-        word |= u64::from(table.bytes[1 + s]) << s;
+    for (s, flag) in table.bytes[1..=table.states()].iter().enumerate() {
+        word |= u64::from(*flag) << s;
     }
     word
 }
 
-// The word of the next states that stand in the eight bytes from `at` on.
-fn states_of(bytes: &[u8], at: usize) -> u64
-    requires { (at + 8 ≤ length bytes.now) × ((b : ℕ) → b < 8 → get_or bytes.now (at + b) 0 < 64) }
-    ensures by_index { (b : ℕ) → b < 8 → bit result (get_or bytes.now (at + b) 0) ≡ 1 }
-    ensures by_index_2 { (s : ℕ) → bit result s ≡ 1 → (b : ℕ) × (b < 8) × (get_or bytes.now (at + b) 0 ≡ s) }
+// The word of eight next states.
+fn states_of(eight: &[u8; 8]) -> u64
+    requires { (b : ℕ) → b < 8 → get_or eight.now b 0 < 64 }
+    ensures by_index { (b : ℕ) → b < 8 → bit result (get_or eight.now b 0) ≡ 1 }
+    ensures by_index_2 { (s : ℕ) → bit result s ≡ 1 → (b : ℕ) × (b < 8) × (get_or eight.now b 0 ≡ s) }
 {
     let mut word: u64 = 0;
-    for state in &bytes[at..at + 8] {
+    for state in eight {
         word |= 1u64 << *state;
     }
     word
 }
 
-// Whether the eight words from `at` on all equal `last`. The loop has no branch, so that it is unrolled whole: `all` would have
-// one a word. It counts them, as the loops below do: the clauses have a word as `number_at`, and of chunks of eight one would have
-// to show first which word each is.
-fn repeats(bytes: &[u8], at: usize, last: u64) -> bool
-    requires { at + 64 ≤ length bytes.now }
-    ensures { Exactly result ((k : ℕ) → k < 8 → number_at bytes.now (at + 8 * k) 8 ≡ last) }
+// Whether eight words all equal `last`. The loop has no branch, so that it is unrolled whole: `all` would have one a word.
+fn repeats(bytes: &[u8; 64], last: u64) -> bool
+    ensures { Exactly result ((k : ℕ) → k < 8 → number_at bytes.now (8 * k) 8 ≡ last) }
 {
     let mut differ: u64 = 0;
-    for k in 0..8 {
-        differ |= serialize::deserialize_u64(bytes, at + 8 * k) ^ last;
+    for eight in bytes.as_chunks::<8>().0 {
+        differ |= u64::from_le_bytes(*eight) ^ last;
     }
     differ == 0
 }
 
-// The word of the next states that stand in the 256 bytes from `at` on. Those that repeat the eight looked at last are in
-// it: 64 of them are passed at once. The rest isn't looked at once the word has a bit of `wanted`.
-fn next_states(bytes: &[u8], at: usize, wanted: u64) -> u64
-    requires { (at + 256 ≤ length bytes.now) × ((b : ℕ) → b < 256 → get_or bytes.now (at + b) 0 < 64) }
-    ensures b_value { bit_and result wanted ≡ 0 → (b : ℕ) → b < 256 → bit result (get_or bytes.now (at + b) 0) ≡ 1 }
-    ensures by_index { (s : ℕ) → bit result s ≡ 1 → (b : ℕ) × (b < 256) × (get_or bytes.now (at + b) 0 ≡ s) }
+// The word of the next states in a row. Those that repeat the eight looked at last are in it: 64 of them are passed at once.
+// The rest isn't looked at once the word has a bit of `wanted`.
+fn next_states(row: &[u8], wanted: u64) -> u64
+    requires { (length row.now ≡ 256) × ((b : ℕ) → b < 256 → get_or row.now b 0 < 64) }
+    ensures b_value { bit_and result wanted ≡ 0 → (b : ℕ) → b < 256 → bit result (get_or row.now b 0) ≡ 1 }
+    ensures by_index { (s : ℕ) → bit result s ≡ 1 → (b : ℕ) × (b < 256) × (get_or row.now b 0 ≡ s) }
 {
-    let mut last = serialize::deserialize_u64(bytes, at);
-    let mut word = states_of(bytes, at);
-    for quarter in 0..4 {
-        let from = at + 64 * quarter;
-        if repeats(bytes, from, last) {
+    let first = &row.as_chunks::<8>().0[0];
+    let mut last = u64::from_le_bytes(*first);
+    let mut word = states_of(first);
+    for quarter in row.as_chunks::<64>().0 {
+        if repeats(quarter, last) {
             continue;
         }
-        for k in 0..8 {
+        for bytes in quarter.as_chunks::<8>().0 {
             if word & wanted != 0 {
                 return word;
             }
-            let eight = serialize::deserialize_u64(bytes, from + 8 * k);
+            let eight = u64::from_le_bytes(*bytes);
             if eight != last {
-                word |= states_of(bytes, from + 8 * k);
+                word |= states_of(bytes);
                 last = eight;
             }
         }
@@ -79,8 +76,8 @@ fn next_states(bytes: &[u8], at: usize, wanted: u64) -> u64
     word
 }
 
-// For each state the word of those that a byte leads to from it. The loop counts the states: by chunks of 256 of the bytes behind the
-// flags one would have to show first that each is the row that `next` reads.
+// For each state the word of those that a byte leads to from it. The loop counts the states: a row and its word are both found by
+// the state's number.
 pub fn successors(table: Table) -> [u64; 64]
     ensures by_index { (p b : ℕ) → p < states table.entry.bytes.now → b < 256
         → bit (get_or result p 0) (next table.entry.bytes.now p b) ≡ 1 }
@@ -89,7 +86,7 @@ pub fn successors(table: Table) -> [u64; 64]
 {
     let mut words: [u64; 64] = [0; 64];
     for p in 0..table.states() {
-        words[p] = next_states(table.bytes, table.row(p), 0);
+        words[p] = next_states(table.row(p), 0);
     }
     words
 }
@@ -132,7 +129,7 @@ fn first_look(table: Table, accepting: u64, unfound: u64, before: &mut [u64; 64]
 {
     let mut found = accepting;
     for p in (SetBits { left: unfound }) {
-        let states = next_states(table.bytes, table.row(p), found);
+        let states = next_states(table.row(p), found);
         if states & found != 0 {
             found |= 1u64 << p;
         } else {

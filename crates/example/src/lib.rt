@@ -14,15 +14,14 @@ use layout::refusals::Refusal;
 // What an example has beyond its key at most: a byte and a tail of 63.
 const BEYOND: usize = 64;
 
-// Whether an output of this length has room for every example. A let .. else: within `is_some_and` the second test would be a closure
-// in a closure, of which the check doesn't find what it tells.
+// Whether an output of this length has room for every example: for the longer key, and what it has beyond.
 fn has_room(start_key: Option<&[u8]>, end_key: &[u8], room: usize) -> bool
     ensures { Exactly result (longer (start_now start_key.entry) end_key.now + 64 ≤ room) }
 {
-    let Some(left) = room.checked_sub(BEYOND) else {
-        return false;
-    };
-    end_key.len() <= left && start_key.is_none_or(|start_key| start_key.len() <= left)
+    let longer = start_key
+        .map_or(0, |start_key| start_key.len())
+        .max(end_key.len());
+    room.checked_sub(BEYOND).is_some_and(|left| longer <= left)
 }
 
 // Writes some accepted string above `start_key` and not above `end_key` to the front of `out`, which is lent, since there is no

@@ -10,13 +10,13 @@ use lib.Bits.{bit_and, bit_or, or_step, and_le_l, and_le_r, or_lt}
 use lib.Count.{ones, ones_step, ones-le, count_trailing_zeros}
 use lib.ListN.{length, get_or, set, replicate, length-set, length-replicate, get_or-replicate}
 use lib.Seq.{get_or-set_same, get_or-set_other}
-use lib.Pow.{pow_mono}
+use Rattle.std.proofs.lemmas.Bool.{cases_eq, cases_lt}
 use Rattle.automaton.specs.Bits.{bit}
 use Rattle.automaton.specs.Table.{WellFormed, states, flag, next}
 use Rattle.automaton.specs.Words.{run, Hits, Accepts}
-use Rattle.automaton.proofs.Exact.{same_or, lt-or-le}
-use Rattle.automaton.proofs.Word.{bit-lt, bit-off, bit-zero, bit_below, bit-trailing, bit-or, bit-and, bit_not}
+use Rattle.automaton.proofs.Word.{bit-lt, bit-off, bit-zero, bit_below, bit-trailing, bit-or, bit-and}
 use Rattle.automaton.proofs.SetBits.{Passed, passed-more}
+use Rattle.automaton.proofs.Worklist.{added, added_new, added-all, fits}
 use Rattle.automaton.proofs.Strings.{hits-tail, word-nil, word-cons}
 use Rattle.example_distance.specs.Distance.{Distances}
 
@@ -36,11 +36,7 @@ common-down a b s i j =
     ⊎_elim
     (λ z. let y : bit (bit_and a b) s ≡ 0 = ap (λ (x : ℕ). bit x s) z ∙ bit-zero s in absurd (omega (arith, bit-and a b s)))
     (λ n. omega (arith, n))
-    (same_or (bit_and a b) 0)
-
--- the states of r that f has not
-abbrev left : ℕ → ℕ → ℕ
-left r f = bit_and r (2 ^ 64 - 1 - f)
+    (cases_eq (bit_and a b) 0)
 
 -- ---- how many bits are set
 ones_pos : (w s : ℕ) → bit w s ≡ 1 → 0 < ones w
@@ -61,7 +57,7 @@ ones-or (suc k) a b ha hb d =
     let o = or_step a b in
     let h : bit_or a b / 2 ≡ bit_or (a / 2) (b / 2) = omega arith in
     let j : ones (bit_or a b / 2) ≡ ones (bit_or (a / 2) (b / 2)) = ap ones h in
-    let m : max (a % 2) (b % 2) ≡ a % 2 + b % 2 = ⊎_elim (λ e. omega (arith, z e)) (λ n. omega (arith, n)) (same_or (b % 2) 1) in
+    let m : max (a % 2) (b % 2) ≡ a % 2 + b % 2 = ⊎_elim (λ e. omega (arith, z e)) (λ n. omega (arith, n)) (cases_eq (b % 2) 1) in
     omega (arith, ones_step a, ones_step b, ones_step (bit_or a b))
 
 -- ---- a shortest string from s to acceptance has n bytes
@@ -100,9 +96,6 @@ module _ {t : List ℕ} where
       here q [] hq i l = inr (g q hq ∙ i.ends)
       here q (b ∷ w) hq i l = absurd (omega arith)
 
-  fits : {f : ℕ} → WellFormed t → f < 2 ^ states t → f < 2 ^ 64
-  fits wf h = let g : 2 ^ states t ≤ 2 ^ 64 = pow_mono {i = states t} {j = 64} wf.few in omega arith
-
   -- a byte more
   exact-step : {s n : ℕ} (q b : ℕ) → b < 256 → next t q b ≡ s → Exact t s n → Accepts t q (λ w. length w ≡ n + 1)
   exact-step {s} {n} q b h e x =
@@ -136,29 +129,20 @@ module _ {t : List ℕ} where
         small' : bit_or f l < 2 ^ states t
         small' = or_lt (states t) f l i.small i.small-level
 
-        in-new : (q : ℕ) → bit (left r (bit_or f l)) q ≡ 1 → (bit r q ≡ 1) × (bit (bit_or f l) q ≡ 0)
-        in-new q h =
-            let a = bit-and r (2 ^ 64 - 1 - bit_or f l) q in
-            let b : bit r q ≡ 1 = omega (arith, bit-lt r q) in
-            let n = bit_not 64 (bit_or f l) q (fits wf small') (bit_below 64 r q (fits wf hr) b) in
-            (b, omega (arith, bit-lt (bit_or f l) q))
+        in-new : (q : ℕ) → bit (added r (bit_or f l)) q ≡ 1 → (bit r q ≡ 1) × (bit (bit_or f l) q ≡ 0)
+        in-new = added_new r (bit_or f l) (fits wf hr) (fits wf small')
 
-        to-new : (q : ℕ) → bit r q ≡ 1 → (bit (bit_or f l) q ≡ 1) ⊎ (bit (left r (bit_or f l)) q ≡ 1)
+        to-new : (q : ℕ) → bit r q ≡ 1 → (bit (bit_or f l) q ≡ 1) ⊎ (bit (added r (bit_or f l)) q ≡ 1)
         to-new q h =
             ⊎_elim inl
-            (λ n. inr (bit-and r (2 ^ 64 - 1 - bit_or f l) q ∙ omega (
-              arith,
-              n,
-              bit-lt (bit_or f l) q,
-              bit_not 64 (bit_or f l) q (fits wf small') (bit_below 64 r q (fits wf hr) h),
-            )))
-            (same_or (bit (bit_or f l) q) 1)
+            (λ n. inr (added-all r (bit_or f l) (fits wf hr) (fits wf small') q h (bit-off (bit_or f l) q n)))
+            (cases_eq (bit (bit_or f l) q) 1)
 
         found : (q : ℕ) → (bit f q ≡ 1) ⊎ (bit l q ≡ 1) → bit (bit_or f l) q ≡ 1
         found q (inl h) = bit-or f l q ∙ omega (arith, bit-lt l q)
         found q (inr h) = bit-or f l q ∙ omega (arith, bit-lt f q)
 
-        pub levels-turn : Levels t e (bit_or f l) (left r (bit_or f l)) (k + 1)
+        pub levels-turn : Levels t e (bit_or f l) (added r (bit_or f l)) (k + 1)
         levels-turn = record {
           small = small';
           small-level = omega (arith, and_le_l r (2 ^ 64 - 1 - bit_or f l));
@@ -172,7 +156,7 @@ module _ {t : List ℕ} where
               let g = kept q (bit-off l q a) in
               let (less, x) = i.done q (omega (arith, bit-or f l q, bit-lt l q, a, bit-lt f q)) in
               (omega arith, subst (Exact t q) (sym g) x))
-              (same_or (bit l q) 1);
+              (cases_eq (bit l q) 1);
           none = λ q lt h. kept q (omega (arith, bit-or f l q)) ∙ i.none q lt (omega (arith, bit-or f l q));
           level = λ q h.
               let (a, z) = in-new q h in
@@ -182,14 +166,14 @@ module _ {t : List ℕ} where
                 least = λ w hw. ⊎_elim
                     (λ s. omega arith)
                     (λ s. absurd (omega (arith, z, found q (i.all q w (bit_below (states t) r q hr a) hw s))))
-                    (lt-or-le k (length w));
+                    (cases_lt k (length w));
               };
           all = reached;
           count = omega (arith, more, i.count);
         }
           where
             reached : (q : ℕ) (w : List ℕ) → q < states t → Hits t q w → length w ≤ k + 1
-                → (bit (bit_or f l) q ≡ 1) ⊎ (bit (left r (bit_or f l)) q ≡ 1)
+                → (bit (bit_or f l) q ≡ 1) ⊎ (bit (added r (bit_or f l)) q ≡ 1)
             reached q [] hq hw s = inl (found q (i.all q [] hq hw zero-le))
             reached q (b ∷ w) hq hw s =
                 let (hb, h) = hits-tail q b hw in
@@ -216,7 +200,7 @@ module _ {t : List ℕ} where
       near = λ s hs h. ⊎_elim
           (λ e. (i.done s e).1.near)
           (λ e. absurd (omega (arith, i.none s (omega (arith, wf.few)) (bit-off f s e))))
-          (same_or (bit f s) 1);
+          (cases_eq (bit f s) 1);
       least = λ s w hs hw. (i.done s (all_found w s hs hw)).1.least w hw;
       far = λ s hs m. omega (arith, (i.done s (all_found m.string s hs m.hits)).0, i.count, ones-le 64 f (fits wf i.small));
     }

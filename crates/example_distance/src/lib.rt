@@ -19,17 +19,17 @@ pub struct Measured<'a> {
     pub distances: [u8; 64],
 }
 
-// The word of the states below m from which a byte leads to a state of the level. The loop counts the states, since a state's
-// place is its bit.
-fn leading_to_level(successors: &[u64; 64], m: usize, level: u64) -> u64
-    requires { m ≤ 64 }
-    ensures upper_bound { result < 2 ^ m }
-    ensures by_index { (p s : ℕ) → p < m → bit (get_or successors.now p 0) s ≡ 1 → bit level s ≡ 1 → bit result p ≡ 1 }
+// The word of the states from which a byte leads to a state of the level, by the successors of each: a state's place is its bit.
+fn leading_to_level(successors: &[u64], level: u64) -> u64
+    requires { length successors.now ≤ 64 }
+    ensures upper_bound { result < 2 ^ length successors.now }
+    ensures by_index { (p s : ℕ) → p < length successors.now → bit (get_or successors.now p 0) s ≡ 1 → bit level s ≡ 1
+        → bit result p ≡ 1 }
     ensures by_index_2 { (p : ℕ) → bit result p ≡ 1 → (s : ℕ) × (bit (get_or successors.now p 0) s ≡ 1) × (bit level s ≡ 1) }
 {
     let mut word: u64 = 0;
-    for p in 0..m {
-        if successors[p] & level != 0 {
+    for (p, next) in successors.iter().enumerate() {
+        if *next & level != 0 {
             word |= 1u64 << p;
         }
     }
@@ -63,7 +63,7 @@ impl<'a> Measured<'a> {
         while level != 0 {
             write_level(&mut distances, level, distance);
             found |= level;
-            level = leading_to_level(&steps, m, level) & !found;
+            level = leading_to_level(&steps[..m], level) & !found;
             distance += 1;
         }
         Measured { table, distances }

@@ -5,12 +5,12 @@ use mathlib.Core.Logic.{◌⊎◌, inl, inr, ⊎_elim}
 use Prim.Native.Nat.{ℕ, ◌+◌, ◌≤◌, ◌<◌}
 use native.Mathlib.Omega.{arith}
 use lib.Arith.{lt_of_le-ne}
+use Rattle.std.proofs.lemmas.Bool.{cases_eq}
 use Rattle.keys.specs.Order.{◌≺◌, ◌≼◌}
 use Rattle.keys.proofs.Order.{less-append, prefix-≼, prefix-≺}
 use Rattle.automaton.specs.Table.{next}
 use Rattle.automaton.specs.Words.{Bytes, run, Hits}
 use Rattle.automaton.specs.Live.{LiveByte}
-use Rattle.automaton.proofs.Exact.{same_or}
 use Rattle.automaton.proofs.Strings.{hits-tail, can-match-hits}
 use Rattle.pruning.proofs.Intervals.{≺-lower, ≼-lower, ≺-same, ≼-same, ≺-heads, ≼-heads, not-≺-nil, not-cons-≼-nil}
 
@@ -27,7 +27,7 @@ pub ≼-byte : (x y : ℕ) (b : List ℕ) → x ≤ y → (x ∷ []) ≼ (y ∷ 
     ⊎_elim
     (λ e. subst (λ (z : ℕ). (x ∷ []) ≼ (z ∷ b)) e (≼-same x [] b (prefix-≼ [] b)))
     (λ n. ≼-lower x y [] b (lt_of_le-ne h n))
-    (same_or x y)
+    (cases_eq x y)
 
 -- ---- the next string after p is p and a 0
 pub next-string : (p w : List ℕ) → p ≺ w → (p ++ (0 ∷ [])) ≼ w
@@ -52,7 +52,7 @@ next-byte [] x (b ∷ w) bs h =
     (λ l. ⊎_elim
     (λ e. subst (λ (z : ℕ). (b ∷ w) ≺ (z ∷ (256 ∷ []))) e (≺-same b w (256 ∷ []) (below-256 w bs.1)))
     (λ n. ≺-lower b x w (256 ∷ []) (lt_of_le-ne (omega arith) n))
-    (same_or b x))
+    (cases_eq b x))
     (λ q. absurd (not-≺-nil w q.1))
     (≺-heads b (x + 1) w [] h)
 next-byte (y ∷ p) x [] bs h = prefix-≺ [] y (p ++ (x ∷ (256 ∷ [])))

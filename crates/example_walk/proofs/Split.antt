@@ -1,19 +1,20 @@
 -- The interval between two keys, by their common prefix: what the walk along each key leaves out, and that what it finds lies in
 -- the interval.
-use mathlib.Core.Path.{◌≡◌, sym, ◌∙◌, subst}
+use mathlib.Core.Path.{◌≡◌, sym, ◌∙◌}
 use mathlib.Core.List.{List, [], ◌∷◌, ◌++◌, append_assoc}
 use Prim.Native.Nat.{ℕ, ◌+◌, ◌≤◌, ◌<◌}
 use native.Mathlib.Omega.{arith}
-use lib.Arith.{lt_of_le-ne}
 use lib.ListN.{length, get_or, take, drop}
 use lib.Seq.{take_all}
+use borrow.Table.Steps.{cases}
+use Rattle.std.proofs.lemmas.List.{take_more}
 use Rattle.keys.specs.Order.{less, ◌≺◌, ◌≼◌, common_prefix_len}
-use Rattle.keys.proofs.Order.{by-test, less-trans, less-asym, ≺-≼-trans, prefix-≺, common_prefix_len-take, common_prefix_len-differ}
+use Rattle.keys.proofs.Order.{less-trans, less-asym, ≺-≼-trans, prefix-≺, common_prefix_len-take, common-below}
 use Rattle.automaton.specs.Words.{Accepts}
 use Rattle.pruning.specs.Interval.{MatchBetween}
 use Rattle.pruning.proofs.Intervals.{≺-lower}
 use Rattle.example_walk.proofs.Bounds.{≺-behind, next-string, next-byte}
-use Rattle.example_walk.proofs.Walks.{take_more, split}
+use Rattle.example_walk.proofs.Walks.{split, behind_more}
 
 module _ (a b : List ℕ) {n : ℕ} (e : n ≡ common_prefix_len a b) where
   pub same-front : take n a ≡ take n b
@@ -39,20 +40,16 @@ module _ (a b : List ℕ) {n : ℕ} (e : n ≡ common_prefix_len a b) where
 
   -- ---- the start's next byte is below the end's
   module _ (ha : n < length a) (hb : n < length b) (h : get_or a n 0 ≤ get_or b n 0) where
-    pub lower : get_or a n 0 < get_or b n 0
-    lower = lt_of_le-ne h
-        (subst (λ (k : ℕ). get_or a k 0 ≡ get_or b k 0 → ⊥) (sym e) (common_prefix_len-differ a b (omega arith) (omega arith)))
-
     -- the strings that begin with the start's byte end here
     edge : take (n + 1) a ++ (256 ∷ []) ≡ take n b ++ (get_or a n 0 ∷ (256 ∷ []))
-    edge = rw (take_more a n ha, same-front) (append_assoc (take n b) (get_or a n 0 ∷ []) (256 ∷ []))
+    edge = rw same-front at (behind_more a n ha)
 
     pub start-found : (w : List ℕ) → a ≺ w → w ≺ (take (n + 1) a ++ (256 ∷ [])) → (a ≺ w) × (w ≼ b)
     start-found w l u =
         let x = get_or a n 0 in
         let y = get_or b n 0 in
         let g : (take n b ++ (x ∷ (256 ∷ []))) ≺ (take n b ++ (y ∷ drop (n + 1) b)) =
-        ≺-behind (take n b) (x ∷ (256 ∷ [])) (y ∷ drop (n + 1) b) (≺-lower x y (256 ∷ []) (drop (n + 1) b) lower) in
+        ≺-behind (take n b) (x ∷ (256 ∷ [])) (y ∷ drop (n + 1) b) (≺-lower x y (256 ∷ []) (drop (n + 1) b) (common-below a b e ha hb h)) in
         let g' : (take n b ++ (x ∷ (256 ∷ []))) ≺ b = rw (split b n hb) at g in
         (l, less-asym w b (less-trans w (take n b ++ (x ∷ (256 ∷ []))) b (rw edge at u) g'))
 
@@ -67,7 +64,7 @@ module _ (a b : List ℕ) {n : ℕ} (e : n ≡ common_prefix_len a b) where
     pub both-none : {t : List ℕ} → (Accepts t 0 (λ w. (a ≺ w) × (w ≺ (take (n + 1) a ++ (256 ∷ [])))) → ⊥)
         → (Accepts t 0 (λ w. ((take n b ++ ((get_or a n 0 + 1) ∷ [])) ≼ w) × (w ≼ b)) → ⊥) → MatchBetween t 0 a b → ⊥
     both-none none₁ none₂ m =
-        by-test (less m.string (take n b ++ ((get_or a n 0 + 1) ∷ [])))
+        cases (less m.string (take n b ++ ((get_or a n 0 + 1) ∷ [])))
         (λ g. none₁ (record {
           string = m.string;
           hits = m.hits;

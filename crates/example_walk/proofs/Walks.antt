@@ -4,17 +4,22 @@ use mathlib.Core.List.{List, [], ◌∷◌, ◌++◌, append_assoc}
 use mathlib.Core.Bool.{false≢true}
 use mathlib.Core.Logic.{⊎_elim}
 use Prim.Native.Nat.{ℕ, ◌+◌, ◌≤◌, ◌<◌, zero-le}
-use native.Mathlib.Numerals.{add-one}
 use native.Mathlib.Omega.{arith}
 use lib.ListN.{length, get_or, take, drop, take-append-drop}
-use lib.Seq.{take-suc, take_all}
+use lib.Seq.{take_all}
+use borrow.Table.Steps.{cases}
+use Rattle.std.proofs.lemmas.List.{take_more, drop_more}
 use Rattle.keys.specs.Order.{less, ◌≺◌, ◌≼◌}
-use Rattle.keys.proofs.Order.{by-test, less-asym, ≼_refl, ≼-cases, ≺-≼-trans, ≼_trans, prefix-≼, prefix-≺}
+use Rattle.keys.proofs.Order.{less-asym, ≼_refl, ≼-cases, ≺-≼-trans, ≼_trans, prefix-≼, prefix-≺}
 use Rattle.automaton.specs.Table.{WellFormed, states, flag, next}
 use Rattle.automaton.specs.Words.{run, Hits, Accepts}
 use Rattle.automaton.proofs.Strings.{run_more}
-use Rattle.pruning.proofs.Intervals.{≺-lower, drop-byte}
+use Rattle.pruning.proofs.Intervals.{≺-lower}
 use Rattle.example_walk.proofs.Bounds.{≺-behind, ≼-behind, ≼-byte, next-string, next-byte}
+
+-- the front with the next byte, and what is above each byte behind it
+pub behind_more : (key : List ℕ) (i : ℕ) → i < length key → take (i + 1) key ++ (256 ∷ []) ≡ take i key ++ (get_or key i 0 ∷ (256 ∷ []))
+behind_more key i h = rw (take_more key i 0 h) (append_assoc (take i key) (get_or key i 0 ∷ []) (256 ∷ []))
 
 -- ---- a key's first bytes
 module _ (key : List ℕ) (i : ℕ) where
@@ -22,11 +27,8 @@ module _ (key : List ℕ) (i : ℕ) where
   front = subst (λ (x : List ℕ). take i key ≼ x) (take-append-drop i key) (prefix-≼ (take i key) (drop i key))
 
   module _ (h : i < length key) where
-    pub take_more : take (i + 1) key ≡ take i key ++ (get_or key i 0 ∷ [])
-    take_more = rw add-one (take-suc key i 0 h)
-
     pub split : take i key ++ (get_or key i 0 ∷ drop (i + 1) key) ≡ key
-    split = rw (← (drop-byte key i h)) (take-append-drop i key)
+    split = rw (← (drop_more key i 0 h)) (take-append-drop i key)
 
 -- ---- not above the key: the strings from m on, of which those below the first i bytes and low are passed
 pub record Upto (t key m : List ℕ) (i low s : ℕ) : Type 0 where
@@ -55,12 +57,12 @@ module _ {t key m : List ℕ} {i low s : ℕ} (z : Upto t key m i low s) where
     pub upto-leaving : (w : List ℕ) → (take i key ++ (low ∷ [])) ≼ w → w ≺ (take i key ++ (get_or key i 0 ∷ [])) → (m ≼ w) × (w ≼ key)
     upto-leaving w a b = (
       ≼_trans m (take i key ++ (low ∷ [])) w z.from-m a,
-      less-asym w key (≺-≼-trans w (take (i + 1) key) key (rw (take_more key i h) b) (front key (i + 1))),
+      less-asym w key (≺-≼-trans w (take (i + 1) key) key (rw (take_more key i 0 h) b) (front key (i + 1))),
     )
 
     from_more : m ≼ take (i + 1) key
     from_more =
-        rw (take_more key i h)
+        rw (take_more key i 0 h)
         (≼_trans m (take i key ++ (low ∷ [])) (take i key ++ (get_or key i 0 ∷ [])) z.from-m
         (≼-behind (take i key) (low ∷ []) (get_or key i 0 ∷ []) (≼-byte low (get_or key i 0) [] z.over)))
 
@@ -80,8 +82,8 @@ module _ {t key m : List ℕ} {i low s : ℕ} (z : Upto t key m i low s) where
       small = wf.closed s (get_or key i 0) z.small hk;
       over = zero-le;
       from-m = ≼_trans m (take (i + 1) key) (take (i + 1) key ++ (0 ∷ [])) from_more (prefix-≼ (take (i + 1) key) (0 ∷ []));
-      left = λ w hw a b. by-test (less w (take (i + 1) key))
-          (λ e. absurd (none (record { string = w; hits = hw; good = (z.left w hw a b, rw (take_more key i h) at e) })))
+      left = λ w hw a b. cases (less w (take (i + 1) key))
+          (λ e. absurd (none (record { string = w; hits = hw; good = (z.left w hw a b, rw (take_more key i 0 h) at e) })))
           (λ e. ⊎_elim
           (next-string (take (i + 1) key) w)
           (λ q. absurd (dead (ap (flag t) next-state ∙ subst (λ (x : List ℕ). flag t (run t 0 x) ≡ 1) (sym q) hw.ends)))
@@ -136,9 +138,6 @@ module _ {t key : List ℕ} {n i s : ℕ} (z : Over t key n i s) where
           below-n w b,
         )
 
-    behind_more : take (i + 1) key ++ (256 ∷ []) ≡ take i key ++ (get_or key i 0 ∷ (256 ∷ []))
-    behind_more = rw (take_more key i h) (append_assoc (take i key) (get_or key i 0 ∷ []) (256 ∷ []))
-
     pub over-turn : WellFormed t → get_or key i 0 < 256
         → (Accepts t 0 (λ w. ((take i key ++ ((get_or key i 0 + 1) ∷ [])) ≼ w) × (w ≺ (take i key ++ (256 ∷ [])))) → ⊥)
         → Over t key n (i + 1) (next t s (get_or key i 0))
@@ -146,11 +145,11 @@ module _ {t key : List ℕ} {n i s : ℕ} (z : Over t key n i s) where
       place = omega arith;
       state = ap (λ (x : ℕ). next t x (get_or key i 0)) z.state ∙ sym (run_more t 0 key i h);
       small = wf.closed s (get_or key i 0) z.small hk;
-      below = rw behind_more (≼_trans (take i key ++ (get_or key i 0 ∷ (256 ∷ []))) (take i key ++ (256 ∷ [])) (take n key ++ (256 ∷ []))
+      below = rw (behind_more key i h) (≼_trans (take i key ++ (get_or key i 0 ∷ (256 ∷ []))) (take i key ++ (256 ∷ [])) (take n key ++ (256 ∷ []))
           (less-asym (take i key ++ (get_or key i 0 ∷ (256 ∷ []))) (take i key ++ (256 ∷ []))
           (≺-behind (take i key) (get_or key i 0 ∷ (256 ∷ [])) (256 ∷ []) (≺-lower (get_or key i 0) 256 (256 ∷ []) [] hk)))
           z.below);
-      left = λ w hw a b. rw behind_more (next-byte (take i key) (get_or key i 0) w hw.bytes
-          (by-test (less w (take i key ++ ((get_or key i 0 + 1) ∷ []))) (λ e. e)
+      left = λ w hw a b. rw (behind_more key i h) (next-byte (take i key) (get_or key i 0) w hw.bytes
+          (cases (less w (take i key ++ ((get_or key i 0 + 1) ∷ []))) (λ e. e)
           (λ e. absurd (none (record { string = w; hits = hw; good = (e, z.left w hw a b) })))));
     }

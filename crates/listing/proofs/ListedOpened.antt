@@ -5,6 +5,7 @@ use mathlib.Core.List.{List}
 use Prim.Native.Nat.{ℕ}
 use lib.Dec.{ltb}
 use lib.ListN.{length}
+use Rattle.layout.proofs.Fronts.{all-kept}
 use Rattle.group.specs.Rows.{or_row}
 use Rattle.automaton.specs.Table.{table_no}
 use Rattle.index.specs.declared.SSTableIndexV3.{SSTableIndexV3}
@@ -14,7 +15,7 @@ use Rattle.index.specs.Lookups.{opened_bad, directory_at}
 use Rattle.index.proofs.Fits.{fits-passes}
 use Rattle.index.proofs.OpenFacts.{OpenFacts}
 use Rattle.listing.specs.Listing.{keys_outside, listing_no, separator_at}
-use Rattle.listing.proofs.Outside.{all-inside}
+use Rattle.listing.proofs.Outside.{outside-fronts}
 use Rattle.listing.proofs.Rows.{past-20}
 
 module _ {f : List ℕ} {opened : SSTableIndexV3} (o : OpenFacts (group_of opened) f opened) where
@@ -22,7 +23,7 @@ module _ {f : List ℕ} {opened : SSTableIndexV3} (o : OpenFacts (group_of opene
   opened-passes = fits-passes (group_of opened) opened (length f) o.fits
 
   pub opened_inside : keys_outside (directory_at opened f) opened.n opened.n ≡ false
-  opened_inside = rw (o.directory, o.count) (all-inside (directory_part f) (count_in f) (count_in f) o.sorted.inside)
+  opened_inside = rw (o.directory, o.count) (all-kept (outside-fronts (directory_part f) (count_in f)) (count_in f) o.sorted.inside)
 
   -- rows 21 to 23, then 24, for every table and room
   pub opened-list-no : (t : List ℕ) (room : ℕ) → listing_no opened f t room ≡ or_row (table_no t) (cond (ltb room opened.n) 24 0)

@@ -1,6 +1,6 @@
 -- The rows of a listing in their order: a row that is hit decides, and one that isn't leaves those after it.
-use mathlib.Core.Path.{◌≡◌, ◌∙◌}
-use mathlib.Core.Bool.{true, false, cond}
+use mathlib.Core.Path.{◌≡◌, sym, ◌∙◌}
+use mathlib.Core.Bool.{Bool, true, false, cond}
 use mathlib.Core.List.{List}
 use Prim.Native.Nat.{ℕ, ◌≤◌, ◌<◌}
 use lib.Dec.{ltb}
@@ -40,8 +40,14 @@ module _ (opened : SSTableIndexV3) (f t : List ℕ) (room : ℕ) where
 
 -- ---- the record and the directory, as the code has them
 module _ {L : ℕ} {o : SSTableIndexV3} {d : List ℕ} (opened : SSTableIndexV3) (f : List ℕ) (is : (o ≡ opened) × (d ≡ f) × (L ≡ 128)) where
-  pub passed-record : OpenedFits L o (length d) → opened_bad opened (length f) ≡ false
-  passed-record h = fits-passes 128 opened (length f) (rw (is.0, is.1, is.2) at h)
-
   pub same-directory : {n : ℕ} {b : List ℕ} → (n ≡ o.n) × (b ≡ directory_at o d) → (b ≡ directory_at opened f) × (n ≡ opened.n)
   same-directory e = (rw (is.0, is.1) at e.1, rw is.0 at e.0)
+
+  -- a record that fits, and the answer on its keys
+  pub keys-tried : OpenedFits L o (length d) → {n : ℕ} {b : List ℕ} → (n ≡ o.n) × (b ≡ directory_at o d)
+      → {t : Bool} → t ≡ keys_outside b n n
+      → (opened_bad opened (length f) ≡ false) × (keys_outside (directory_at opened f) opened.n opened.n ≡ t)
+  keys-tried h e told = (
+    fits-passes 128 opened (length f) (rw (is.0, is.1, is.2) at h),
+    rw (← (same-directory e).0, ← (same-directory e).1) (sym told),
+  )

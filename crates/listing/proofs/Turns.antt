@@ -10,8 +10,8 @@ use native.Mathlib.Omega.{arith}
 use lib.Dec.{eqb}
 use lib.ListN.{length, set, length-append, get_or-append}
 use lib.Seq.{sets, get_or_at}
+use Rattle.std.proofs.lemmas.Bool.{cases_eq}
 use Rattle.automaton.specs.Bits.{Exactly}
-use Rattle.automaton.proofs.Exact.{same_or}
 use Rattle.pruning.specs.Interval.{Marked}
 use Rattle.listing.specs.Marks.{start_at, Mark, Marks, count_ones}
 use Rattle.listing.specs.Listing.{Listing}
@@ -58,7 +58,7 @@ module _ (t : List ℕ) (separator : ℕ → List ℕ) where
     each = λ k h. ⊎_elim
         (λ (e : k ≡ i). rw (e, get_or_at ms x [] 0 i m.long) p)
         (λ d. rw (get_or-append ms (x ∷ []) 0 k (omega (arith, m.long))) (m.each k (omega arith)))
-        (same_or k i);
+        (cases_eq k i);
   }
 
   module _ (i count : ℕ) (marks written : List ℕ) (l : Listing t separator i marks written count) where

@@ -26,17 +26,14 @@ fn keys_outside(directory: Directory) -> bool
     (0..directory.n).any(|i| directory.key_outside(i))
 }
 
-// Whether a state behind bytes that the keys share can't match: then no key between them matches.
+// Whether a state behind bytes that the keys share can't match: then no key between them matches. Here and below start and end stay
+// two: they are neighbours in the directory, and a trail is of the one, then of the other.
 fn shares_dead(prepared: &Prepared, trail: &Trail, start_key: &[u8], end_key: &[u8]) -> bool
     requires { IsPrepared prepared.now.table.bytes.now prepared.now × IsTrail prepared.now.table.bytes.now start_key.now trail.now }
     ensures { result ≡ true → (trail.now.known ≤ common_prefix_len start_key.now end_key.now)
         × (MatchBetween prepared.now.table.bytes.now 0 start_key.now end_key.now → ⊥) }
 {
-    if !trail.is_dead(prepared) {
-        return false;
-    }
-    // By common_prefix_len, as the clause speaks of it; match_block takes it next.
-    keys::common_prefix_len(&start_key[..trail.known], end_key) == trail.known
+    trail.is_dead(prepared) && end_key.starts_with(&start_key[..trail.known])
 }
 
 // Marks block i with 0 or 1, and returns the mark. The marks are bytes that C lends and reads, and the caller adds them up.

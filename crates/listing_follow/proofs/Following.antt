@@ -7,13 +7,17 @@ use native.Mathlib.Nat.{le_refl, add-zero}
 use native.Mathlib.Omega.{arith}
 use lib.Dec.{eqb}
 use lib.ListN.{length, take, get_or, set, length-set, replicate}
-use lib.Seq.{get_or-set_same, get_or-set_other, take-take, sets}
+use lib.Seq.{get_or-set_same, get_or-set_other, sets}
+use mathlib.Core.Bool.{true, false≢true}
+use Rattle.std.specs.List.{starts_with}
+use Rattle.std.proofs.lemmas.Bool.{cases_eq}
+use borrow.Table.Steps.{cases}
 use Rattle.keys.specs.Order.{common_prefix_len}
-use Rattle.keys.proofs.Order.{by-test, common_prefix_len-take, common_prefix_len-right}
+use Rattle.keys.proofs.Order.{common_prefix_len-right}
+use Rattle.keys.proofs.Words.{common_prefix_len-front}
 use Rattle.automaton.specs.Bits.{bit}
 use Rattle.automaton.specs.Table.{WellFormed, states, next}
 use Rattle.automaton.specs.Words.{Bytes, run, Reach}
-use Rattle.automaton.proofs.Exact.{same_or}
 use Rattle.automaton.proofs.Strings.{run_more, run-states, bytes_take, word-any}
 use Rattle.pruning.specs.Interval.{MatchBetween}
 use Rattle.pruning.proofs.Intervals.{shared-run}
@@ -36,7 +40,7 @@ module _ (t : List ℕ) where
       each = λ j l. ⊎_elim
           (λ (q : j ≡ i + 1). rw (q, get_or-set_same kept (i + 1) v 0 (omega (arith, f.long))) e)
           (λ d. get_or-set_other kept (i + 1) j v 0 d ∙ f.each j (omega arith))
-          (same_or j (i + 1));
+          (cases_eq j (i + 1));
     }
 
     pub followed-state : (known j : ℕ) → Followed t key kept known → WellFormed t → Bytes key → j ≤ known → get_or kept j 0 < states t
@@ -58,23 +62,19 @@ module _ (t : List ℕ) where
 
 -- ---- what two keys share
 -- all of the first n bytes of the one
-pub front-common : (n : ℕ) (a b : List ℕ) → common_prefix_len (take n a) b ≡ n → n ≤ common_prefix_len a b
+pub front-common : (n : ℕ) (a b : List ℕ) → n ≤ length a → starts_with eqb b (take n a) ≡ true → n ≤ common_prefix_len a b
 unfolding common_prefix_len
-front-common zero a b e = zero-le
-front-common (suc n) [] b e = absurd (omega arith)
-front-common (suc n) (x ∷ a) [] e = absurd (omega arith)
-front-common (suc n) (x ∷ a) (y ∷ b) e =
-    by-test (eqb x y)
-    (λ q. let h : suc (common_prefix_len (take n a) b) ≡ suc n = simp q at e in simp q (suc-le-suc (front-common n a b (omega arith))))
-    (λ q. let h : 0 ≡ suc n = simp q at e in absurd (omega arith))
-
-same-front : (a b : List ℕ) (j : ℕ) → j ≤ common_prefix_len a b → take j a ≡ take j b
-same-front a b j h =
-    let n = common_prefix_len a b in
-    sym (take-take j n a h) ∙ ap (take j) (common_prefix_len-take a b) ∙ take-take j n b h
+front-common zero a b h e = zero-le
+front-common (suc n) [] b h e = absurd (omega arith)
+front-common (suc n) (x ∷ a) [] h e = absurd (false≢true e)
+front-common (suc n) (x ∷ a) (y ∷ b) h e =
+    cases (eqb x y)
+    (λ q. simp q (suc-le-suc (front-common n a b (omega arith) (simp q at e))))
+    (λ q. absurd (false≢true (simp q at e)))
 
 pub followed-next : (t a b kept : List ℕ) (known : ℕ) → Followed t a kept known → known ≤ common_prefix_len a b → Followed t b kept known
-followed-next t a b kept known f h = record { long = f.long; each = λ j g. f.each j g ∙ ap (run t 0) (same-front a b j (omega arith)) }
+followed-next t a b kept known f h =
+    record { long = f.long; each = λ j g. f.each j g ∙ ap (run t 0) (common_prefix_len-front j a b (omega arith)) }
 
 -- no key between them matches where the state behind bytes that they share can't match
 pub followed-dead : (t a b kept : List ℕ) (reach known : ℕ) → WellFormed t → Reach t reach → Bytes a → Followed t a kept known
@@ -82,7 +82,7 @@ pub followed-dead : (t a b kept : List ℕ) (reach known : ℕ) → WellFormed t
 followed-dead t a b kept reach known w r bytes f z h m =
     let s = followed-state t a kept known known f w bytes (le_refl known) in
     let one = r.down (get_or kept known 0) s
-    (word-any _ ((shared-run t 0 a b known (same-front a b known h) bytes (f.each known (le_refl known))).0 m)) in
+    (word-any _ ((shared-run t 0 a b known (common_prefix_len-front known a b h) bytes (f.each known (le_refl known))).0 m)) in
     omega (arith, z, one)
 
 -- ---- the states along a key, as the code keeps them

@@ -7,19 +7,17 @@ use mathlib.Core.Logic.Iff
 use mathlib.Core.Logic.{◌⊎◌, inl, inr, ⊎_elim, ◌↔◌}
 use Prim.Native.Nat.{ℕ, ◌+◌, ◌-◌, ◌≤◌, ◌<◌, zero-le}
 use native.Mathlib.Omega.{arith}
-use native.Mathlib.Numerals.{add-one}
 use lib.Dec.{eqb, ltb}
 use lib.ListN.{length, take, drop, get_or, take-append-drop, drop_of_length-le, length-drop}
-use lib.Seq.{drop-cons}
-use lib.Arith.{lt_of_le-ne}
 use borrow.Author.Tests.{eqb-true, eqb-false, ne_eqb, lt-ltb, ltb-true, ltb-false, le-ltb}
+use borrow.Table.Steps.{cases}
 use Rattle.keys.specs.Order.{less, ◌≺◌, ◌≼◌, common_prefix_len}
-use Rattle.keys.proofs.Order.{by-test, less-asym, less-append, prefix-≼, prefix-≺}
-use Rattle.keys.proofs.Order.{≺-≼-trans, common_prefix_len-take, common_prefix_len-differ, less-end-right, less-at}
+use Rattle.keys.proofs.Order.{less-asym, less-append, prefix-≼, prefix-≺}
+use Rattle.keys.proofs.Order.{≺-≼-trans, common_prefix_len-take, less-end-right, less-at}
 use Rattle.automaton.specs.Table.{flag, next}
 use Rattle.automaton.specs.Words.{Bytes, run, Hits, Accepts}
 use Rattle.automaton.specs.Live.{LiveByte}
-use Rattle.automaton.proofs.Refusal.{part-rest}
+use Rattle.std.proofs.lemmas.List.{take_rest, drop_more}
 use Rattle.automaton.proofs.Strings.{word-nil, word-cons, word-map, word-cases, byte_word, can-match-hits, bytes_take}
 use Rattle.pruning.specs.Interval.{start_of, AboveStart, Marked, MatchAbove, MatchBetween}
 
@@ -39,12 +37,12 @@ pub ≼-same : (x : ℕ) (a b : List ℕ) → a ≼ b → (x ∷ a) ≼ (x ∷ b
 
 pub ≺-heads : (x y : ℕ) (a b : List ℕ) → (x ∷ a) ≺ (y ∷ b) → (x < y) ⊎ ((x ≡ y) × (a ≺ b))
 unfolding less
-≺-heads x y a b p = by-test (eqb x y) (λ e. inr (eqb-true x y e, simp e at p)) (λ e. inl (ltb-true x y (simp e at p)))
+≺-heads x y a b p = cases (eqb x y) (λ e. inr (eqb-true x y e, simp e at p)) (λ e. inl (ltb-true x y (simp e at p)))
 
 pub ≼-heads : (x y : ℕ) (a b : List ℕ) → (x ∷ a) ≼ (y ∷ b) → (x < y) ⊎ ((x ≡ y) × (a ≼ b))
 unfolding less
 ≼-heads x y a b p =
-    by-test (eqb y x)
+    cases (eqb y x)
     (λ e. inr (sym (eqb-true y x e), simp e at p))
     (λ e. let l : ltb y x ≡ false = simp e at p in inl (omega (arith, ltb-false, eqb-false y x e)))
 
@@ -189,9 +187,6 @@ marked-none t end =
     )
 
 -- ---- a key from its byte i on
-pub drop-byte : (key : List ℕ) (i : ℕ) → i < length key → drop i key ≡ get_or key i 0 ∷ drop (i + 1) key
-drop-byte key i h = rw add-one (drop-cons key i 0 h)
-
 pub after-end : (t : List ℕ) (s : ℕ) (key : List ℕ) (i : ℕ) → length key ≤ i → MatchAbove t s (drop i key) ↔ LiveByte t s 0 256
 after-end t s key i h = rw (drop_of_length-le key h) (after-nil t s)
 
@@ -201,10 +196,10 @@ upto-end t s key i h = rw (drop_of_length-le key h) (upto-nil t s)
 -- the code's part of a key from byte n on, which isn't its end
 module _ (key : List ℕ) (n : ℕ) (h : n < length key) where
   pub part-some : 0 < length (take (length key - n) (drop n key))
-  part-some = rw (part-rest key n) (simp length-drop (omega arith))
+  part-some = rw (take_rest key n) (simp length-drop (omega arith))
 
   pub part-first : get_or (take (length key - n) (drop n key)) 0 0 ≡ get_or key n 0
-  part-first = rw (part-rest key n, drop-byte key n h)
+  part-first = rw (take_rest key n, drop_more key n 0 h)
 
 -- ---- two keys that share n bytes
 pub shared-run : (t : List ℕ) (s : ℕ) (a b : List ℕ) (n : ℕ) → take n a ≡ take n b → Bytes a → {base : ℕ} → base ≡ run t s (take n a)
@@ -222,10 +217,6 @@ module _ (t : List ℕ) (s : ℕ) (a b : List ℕ) {n : ℕ} (e : n ≡ common_p
   pub common-above : n < length a → n < length b → get_or b n 0 < get_or a n 0 → MatchBetween t s a b → ⊥
   common-above ha hb h =
       between_none t s a b (less-at a b (omega arith) (omega arith) ∙ rw (sym e) (le-ltb (get_or a n 0) (get_or b n 0) (omega arith)))
-
-  pub common-below : n < length a → n < length b → get_or a n 0 ≤ get_or b n 0 → get_or a n 0 < get_or b n 0
-  common-below ha hb h =
-      lt_of_le-ne h (subst (λ (k : ℕ). get_or a k 0 ≡ get_or b k 0 → ⊥) (sym e) (common_prefix_len-differ a b (omega arith) (omega arith)))
 
   module _ (bytes : Bytes a) {base : ℕ} (r : base ≡ run t s (take n a)) where
     pub common-run : MatchBetween t s a b ↔ MatchBetween t base (drop n a) (drop n b)

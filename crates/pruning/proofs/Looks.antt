@@ -8,14 +8,17 @@ use native.Mathlib.Omega.{arith}
 use lib.Dec.{ltb}
 use lib.ListN.{length, drop, get_or}
 use borrow.Author.Tests.{ltb-true, lt-ltb}
+use Rattle.std.proofs.lemmas.List.{drop_more}
 use Rattle.automaton.specs.Bits.{Exactly}
-use Rattle.automaton.specs.Table.{flag, next}
+use Rattle.automaton.specs.Table.{flag, next, states}
 use Rattle.automaton.specs.Words.{CanMatch}
 use Rattle.automaton.specs.Live.{LiveByte, FirstLive, EndLive}
+use Rattle.automaton_live.specs.declared.Prepared.{Prepared}
+use Rattle.automaton_live.specs.Prepared.{IsPrepared}
 use Rattle.automaton.proofs.Exact.{when_true, exactly-map}
 use Rattle.automaton.proofs.Strings.{word-any}
 use Rattle.pruning.specs.Interval.{MatchAbove, MatchBetween}
-use Rattle.pruning.proofs.Intervals.{Parted, past, after-cons, upto-split, upto-cons, drop-byte}
+use Rattle.pruning.proofs.Intervals.{Parted, past, between-heads, after-cons, upto-split, upto-cons}
 
 -- the test is true where P holds
 is-so : {P : Type 0} (r : Bool) → Exactly r P → P → r ≡ true
@@ -87,33 +90,46 @@ module _ (t : List ℕ) (s x y : ℕ) (a b : List ℕ) (l : x < y) (h : y < 256)
       (λ m. record { byte = m.byte; low = omega (arith, m.low); high = omega (arith, m.high); rest = m.rest })
       (λ m. byte_at y x (y + 1) (omega arith) (omega arith) (upto-can t (next t s y) b m)))
 
-  pub parted-low : (end : ℕ) → EndLive t s end → end ≤ x → Parted t s x y a b → ⊥
+  parted-low : (end : ℕ) → EndLive t s end → end ≤ x → Parted t s x y a b → ⊥
   parted-low end e g p =
       let m = parted-byte p in
       let k = end-above t s end e x (record { byte = m.byte; low = m.low; high = omega (arith, m.high); rest = m.rest }) in
       omega arith
 
-  pub parted-high : (first : ℕ) → FirstLive t s first → y < first → Parted t s x y a b → ⊥
+  parted-high : (first : ℕ) → FirstLive t s first → y < first → Parted t s x y a b → ⊥
   parted-high first f g p =
       let m = parted-byte p in
       let k = first_below t s first f (y + 1) (omega arith) (record { byte = m.byte; low = zero-le; high = m.high; rest = m.rest }) in
       omega arith
 
+-- ---- between two keys whose first bytes differ
+module _ (a b : List ℕ) {t : List ℕ} {s : ℕ} {p : Prepared}
+    (asked : IsPrepared t p × (s < states t) × (0 < length a) × (0 < length b) × (get_or a 0 0 < get_or b 0 0))
+    (h : get_or b 0 0 < 256) where
+  pub heads-parted : MatchBetween t s a b ↔ Parted t s (get_or a 0 0) (get_or b 0 0) (drop 1 a) (drop 1 b)
+  heads-parted = between-heads t s a b asked.2 asked.3 asked.4 h
+
+  pub none-low : (end : ℕ) → EndLive t s end → end ≤ get_or a 0 0 → MatchBetween t s a b → ⊥
+  none-low end e g m = parted-low t s (get_or a 0 0) (get_or b 0 0) (drop 1 a) (drop 1 b) asked.4 h end e g (heads-parted.0 m)
+
+  pub none-high : (first : ℕ) → FirstLive t s first → get_or b 0 0 < first → MatchBetween t s a b → ⊥
+  none-high first f g m = parted-high t s (get_or a 0 0) (get_or b 0 0) (drop 1 a) (drop 1 b) asked.4 h first f g (heads-parted.0 m)
+
 -- ---- a key from its byte i on
 module _ (key : List ℕ) (i : ℕ) (h : i < length key) (g : get_or key i 0 < 256) where
   pub after-decided-at : (t : List ℕ) (s end : ℕ) → EndLive t s end → (end ≡ get_or key i 0 + 1 → ⊥)
       → Exactly (ltb (get_or key i 0 + 1) end) (MatchAbove t s (drop i key))
-  after-decided-at t s end e n = rw (drop-byte key i h) (after-decided t s end e (get_or key i 0) (drop (i + 1) key) g n)
+  after-decided-at t s end e n = rw (drop_more key i 0 h) (after-decided t s end e (get_or key i 0) (drop (i + 1) key) g n)
 
   pub after-next-at : (t : List ℕ) (s end : ℕ) → EndLive t s end → end ≡ get_or key i 0 + 1
       → MatchAbove t s (drop i key) ↔ MatchAbove t (next t s (get_or key i 0)) (drop (i + 1) key)
-  after-next-at t s end e q = rw (drop-byte key i h) (after_next t s end e (get_or key i 0) (drop (i + 1) key) g q)
+  after-next-at t s end e q = rw (drop_more key i 0 h) (after_next t s end e (get_or key i 0) (drop (i + 1) key) g q)
 
   pub upto-decided-at : (t : List ℕ) (s first : ℕ) → FirstLive t s first → (first ≡ get_or key i 0 → ⊥)
       → Exactly (ltb first (get_or key i 0)) (MatchBetween t s [] (drop i key))
-  upto-decided-at t s first f n = rw (drop-byte key i h) (upto-decided t s first f (get_or key i 0) (drop (i + 1) key) g n)
+  upto-decided-at t s first f n = rw (drop_more key i 0 h) (upto-decided t s first f (get_or key i 0) (drop (i + 1) key) g n)
 
   pub upto-next-at : (t : List ℕ) (s first : ℕ) → FirstLive t s first → first ≡ get_or key i 0
       → MatchBetween t s [] (drop i key) ↔ ((flag t (next t s (get_or key i 0))
       ≡ 1) ⊎ MatchBetween t (next t s (get_or key i 0)) [] (drop (i + 1) key))
-  upto-next-at t s first f q = rw (drop-byte key i h) (upto_next t s first f (get_or key i 0) (drop (i + 1) key) g q)
+  upto-next-at t s first f q = rw (drop_more key i 0 h) (upto_next t s first f (get_or key i 0) (drop (i + 1) key) g q)

@@ -10,7 +10,8 @@ use automaton::table::Table;
 use automaton_live::Prepared;
 
 // Whether a string above `start_key` can match from `state` on. Where the highest byte that leads on is the key's,
-// the walk goes on behind it; a higher one matches, and below it the key's own leads nowhere.
+// the walk goes on behind it; a higher one matches, and below it the key's own leads nowhere. A loop here and below: each turn changes
+// what is prepared.
 fn match_range_start(prepared: &mut Prepared, start_key: &[u8], state: usize) -> bool
     requires { EndsReady prepared.old.table.bytes.now prepared.old × (state < states prepared.old.table.bytes.now) }
     ensures exactly { Exactly result (MatchAbove prepared.old.table.bytes.now state start_key.now) }
@@ -53,8 +54,8 @@ pub fn match_range_end(prepared: &mut Prepared, end_key: &[u8], state: usize) ->
     false
 }
 
-// The state after the bytes that a key begins with. A loop, since each step asks that the state before it is one of the table's:
-// the closure of a `fold` would owe that for any state.
+// The state after the bytes that a key begins with. A loop: that each state that the turns lead to is one of the table's is a
+// loop's invariant; of a `fold` it is an induction of its own.
 pub fn accept_prefix(table: Table, prefix: &[u8]) -> usize
     ensures { (result ≡ run table.entry.bytes.now 0 prefix.now) × (result < states table.entry.bytes.now) }
 {

@@ -15,7 +15,8 @@ use automaton_live::Prepared;
 use layout::refusals::Refusal;
 use pruning::block_match_automaton::{accept_prefix, match_between, match_range_end};
 
-// Whether a key above `start_key` and not above `end_key` can match, by the state behind the n bytes that they share.
+// Whether a key above `start_key` and not above `end_key` can match, by the state behind the n bytes that they share. Here and below
+// start and end stay two, as in pruning: C hands them apart, and the start may be absent.
 pub fn can_block_match_from(
     prepared: &mut Prepared,
     base: usize,
@@ -61,6 +62,7 @@ pub fn can_block_match(prepared: &mut Prepared, start_key: Option<&[u8]>, end_ke
     ensures exactly { Exactly result (Marked prepared.old.table.bytes.now (start_now start_key.entry) end_key.now) }
     ensures prepared { IsPrepared prepared.old.table.bytes.now prepared.new }
 {
+    // A match: two closures would each hold `prepared`; one condition over both cases would be no shorter.
     match start_key {
         Some(start_key) => can_block_match_automaton_with_start(prepared, start_key, end_key),
         None => {

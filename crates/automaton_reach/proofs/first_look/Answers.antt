@@ -2,7 +2,7 @@
 use Rattle.std.proofs.Common.{arith}
 use Rattle.automaton.specs.Table.{next}
 use Rattle.automaton.proofs.Built.{Holds}
-use Rattle.automaton.proofs.Rows.{row-inside, row-below, row-holds}
+use Rattle.automaton.proofs.Rows.{row-below, row-only, row-holds}
 use Rattle.automaton.proofs.SetBits.{passed-all}
 use Rattle.automaton.proofs.Predecessors.{sound_more, led-none, led-below, led-found, led-more}
 use Rattle.automaton_reach.proofs.first_look.Goals as goal
@@ -23,7 +23,7 @@ pub next_states-states-requires : goal.next_states-states-requires
 next_states-states-requires c =
     let w = c.args.table.well_formed in
     let below = led-below c.loop-p.invariant.led c.requires.unfound c.in-Some.p c.in-Some.ensures.steps.set in
-    (row-inside _ _ c.row.ensures w below, row-below _ _ c.row.ensures w below)
+    (c.row.ensures.row_len, row-below _ _ _ c.row.ensures.by_index w below)
 
 pub loop-p-preserved-then-states-found-ne0 : goal.loop-p-preserved-then-states-found-ne0
 loop-p-preserved-then-states-found-ne0 c =
@@ -33,7 +33,7 @@ loop-p-preserved-then-states-found-ne0 c =
     let row = c.next_states-states in
     record {
       sound = sound_more l.sound c.in-Some.p below took.below row.result
-          (rw c.row.ensures at row.ensures.by_index) c.if-states-found-ne0.true;
+          (λ s e. row-only _ _ _ c.row.ensures.by_index s (row.ensures.by_index s e)) c.if-states-found-ne0.true;
       led = led-found l.led c.in-Some.p took.set took.below _ took.rest;
       long = l.long;
     }
@@ -46,7 +46,7 @@ loop-p-preserved c =
     let below = led-below l.led c.requires.unfound c.in-Some.p took.set in
     let row = c.next_states-states in
     let h : Holds (next c.args.table.bytes.now c.in-Some.p) 256 row.result =
-    row-holds _ _ c.row.ensures (row.ensures.b_value c.if-states-found-ne0.false) row.ensures.by_index in
+    row-holds _ _ _ c.row.ensures.by_index (row.ensures.b_value c.if-states-found-ne0.false) row.ensures.by_index in
     record {
       sound = l.sound;
       led = led-more l.led c.in-Some.p took.set below row.result h c.mark.ensures.by_index c.mark.ensures.by_index_2 _ took.rest;

@@ -4,7 +4,7 @@ use Rattle.automaton.proofs.Eights.{Held}
 use Rattle.automaton_reach.proofs.next_states.Given as goal
 
 abbrev pub invariant-loop-quarter : goal.invariant-loop-quarter
-invariant-loop-quarter l = Held l.bytes l.at (64 * l.quarter) l.last l.word
+invariant-loop-quarter l = Held l.fn.row (64 * l.quarter-index) l.last l.word
 
-abbrev pub invariant-loop-k : goal.invariant-loop-k
-invariant-loop-k l = Held l.bytes l.at (64 * l.quarter + 8 * l.k) l.last l.word
+abbrev pub invariant-loop-bytes : goal.invariant-loop-bytes
+invariant-loop-bytes l = Held l.fn.row (64 * l.quarter-index + 8 * l.bytes-index) l.last l.word

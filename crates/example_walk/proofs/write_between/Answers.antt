@@ -2,13 +2,13 @@
 use Rattle.std.proofs.Common.{◌≡◌, ℕ, ◌+◌, ◌<◌, ◌≤◌, [], ◌∷◌, ◌++◌, refl, sym, ap, ◌∙◌, arith, length, get_or, take, zero-le}
 use lib.ListN.{length-take}
 use Rattle.keys.specs.Order.{◌≺◌, ◌≼◌}
-use Rattle.keys.proofs.Order.{common_prefix_len-left, common_prefix_len-right}
+use Rattle.keys.proofs.Order.{common_prefix_len-left, common_prefix_len-right, common-below}
 use Rattle.automaton.specs.Table.{next}
 use Rattle.automaton.specs.Words.{run}
 use Rattle.automaton.proofs.Strings.{run_more}
 use Rattle.pruning.proofs.Intervals.{common-none, common-above}
 use Rattle.example_walk.proofs.Found.{found_map, walked_map}
-use Rattle.example_walk.proofs.Split.{same-front, prefix-found, prefix-none, lower, start-found, end-found, both-none}
+use Rattle.example_walk.proofs.Split.{same-front, prefix-found, prefix-none, start-found, end-found, both-none}
 use Rattle.example_walk.proofs.write_between.Goals as goal
 
 pub returns-then-n-end_key : goal.returns-then-n-end_key
@@ -88,7 +88,7 @@ write_range_end-requires-2-clause-n_in_bounds c =
     let end = c.args.end_key.now in
     let l = common_prefix_len-left start end in
     let r = common_prefix_len-right start end in
-    let less = lower start end c.common_prefix_len-n.ensures (omega (arith, l)) (omega (arith, r)) c.if-end_key-n.false in
+    let less = common-below start end c.common_prefix_len-n.ensures (omega (arith, l)) (omega (arith, r)) c.if-end_key-n.false in
     (omega (arith, r), omega arith, omega (arith, c.requires.1, c.write_range_start.auto.out))
 
 pub returns : goal.returns

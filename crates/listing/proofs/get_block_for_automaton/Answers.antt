@@ -3,7 +3,7 @@ use Rattle.std.proofs.Common.{sym, ◌∙◌, arith}
 use Rattle.std.proofs.lemmas.Result.{err_from_is_err_and}
 use Rattle.layout.proofs.Numbers.{number_positive}
 use Rattle.listing.proofs.ListedOnce.{nothing-listed, all_listed}
-use Rattle.listing.proofs.Rows.{record-refused, keys-refused, table-refused, room-refused, none-refused, passed-record, same-directory}
+use Rattle.listing.proofs.Rows.{record-refused, keys-refused, table-refused, room-refused, none-refused, same-directory, keys-tried}
 use Rattle.listing.proofs.get_block_for_automaton.Goals as goal
 
 pub returns-in_err-check : goal.returns-in_err-check
@@ -16,19 +16,15 @@ returns-in_err-check c =
 pub returns-then-keys_outside : goal.returns-then-keys_outside
 returns-then-keys_outside c =
     let a = c.args in
-    let is = c.in_ok-check.ensures in
-    let fits = passed-record a.opened a.«data».now is c.in_ok-check.field-0.fits in
-    let directory = same-directory a.opened a.«data».now is c.directory-directory.ensures in
-    let outside = rw (directory.0, directory.1) at (sym c.if-keys_outside.ensures) in
+    let (fits, outside) = keys-tried a.opened a.«data».now c.in_ok-check.ensures c.in_ok-check.field-0.fits c.directory-directory.ensures
+    c.if-keys_outside.ensures in
     record { number = sym (keys-refused _ _ _ _ fits outside); leaves = nothing-listed _ (omega arith) }
 
 pub returns-in_err-table : goal.returns-in_err-table
 returns-in_err-table c =
     let a = c.args in
-    let is = c.in_ok-check.ensures in
-    let fits = passed-record a.opened a.«data».now is c.in_ok-check.field-0.fits in
-    let directory = same-directory a.opened a.«data».now is c.directory-directory.ensures in
-    let inside = rw (directory.0, directory.1) at (sym c.if-keys_outside.ensures) in
+    let (fits, inside) = keys-tried a.opened a.«data».now c.in_ok-check.ensures c.in_ok-check.field-0.fits c.directory-directory.ensures
+    c.if-keys_outside.ensures in
     let p = err_from_is_err_and c.from_residual-in_err-table.result c.from_residual-in_err-table.ensures.1 in
     let n = c.in_err-table.ensures.number in
     let some = number_positive c.in_err-table.field-0.0 in
@@ -40,10 +36,8 @@ returns-in_err-table c =
 pub returns-then-marks-opened : goal.returns-then-marks-opened
 returns-then-marks-opened c =
     let a = c.args in
-    let is = c.in_ok-check.ensures in
-    let fits = passed-record a.opened a.«data».now is c.in_ok-check.field-0.fits in
-    let directory = same-directory a.opened a.«data».now is c.directory-directory.ensures in
-    let inside = rw (directory.0, directory.1) at (sym c.if-keys_outside.ensures) in
+    let (fits, inside) = keys-tried a.opened a.«data».now c.in_ok-check.ensures c.in_ok-check.field-0.fits c.directory-directory.ensures
+    c.if-keys_outside.ensures in
     record {
       number = sym
           (room-refused _ _ _ _ fits inside (sym c.in_ok-table.ensures.number) c.if-marks-opened.true);
@@ -59,10 +53,9 @@ mark_blocks-requires c =
 pub returns : goal.returns
 returns c =
     let a = c.args in
-    let is = c.in_ok-check.ensures in
-    let fits = passed-record a.opened a.«data».now is c.in_ok-check.field-0.fits in
-    let directory = same-directory a.opened a.«data».now is c.directory-directory.ensures in
-    let inside = rw (directory.0, directory.1) at (sym c.if-keys_outside.ensures) in
+    let directory = same-directory a.opened a.«data».now c.in_ok-check.ensures c.directory-directory.ensures in
+    let (fits, inside) = keys-tried a.opened a.«data».now c.in_ok-check.ensures c.in_ok-check.field-0.fits c.directory-directory.ensures
+    c.if-keys_outside.ensures in
     record {
       number = sym (none-refused _ _ _ _ fits inside (sym c.in_ok-table.ensures.number) c.if-marks-opened.false);
       leaves = all_listed (rw (c.in_ok-table.ensures.bytes, directory.0, directory.1) at c.mark_blocks.ensures);

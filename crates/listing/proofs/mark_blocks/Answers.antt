@@ -1,19 +1,20 @@
 -- One block more is marked with each turn.
 use Rattle.std.proofs.Common.{◌≡◌, ◌+◌, ◌-◌, ◌<◌, arith}
 use native.Mathlib.Nat.{zero-add}
+use Rattle.layout.proofs.Fronts.{each-kept}
 use Rattle.automaton.specs.Bits.{Exactly}
 use Rattle.directory.specs.Read.{key_of}
 use Rattle.pruning.specs.Interval.{Marked}
 use Rattle.automaton_live.proofs.Kept.{same-prepared}
 use Rattle.listing.specs.Marks.{start_at}
-use Rattle.listing.proofs.Outside.{each-inside}
+use Rattle.listing.proofs.Outside.{outside-fronts}
 use Rattle.listing.proofs.Turns.{start-behind, listing_none, listing-turn, listing-count, one_at_most}
 use Rattle.listing.proofs.mark_blocks.Goals as goal
 
 pub key-requires : goal.key-requires
 key-requires c =
     let some : 0 < c.args.directory.n = omega (arith, c.args.directory.counted.0) in
-    (some, each-inside _ _ _ c.requires.0 0 some)
+    (some, each-kept (outside-fronts _ _) _ c.requires.0 0 some)
 
 pub loop-i-init : goal.loop-i-init
 loop-i-init c =
@@ -35,10 +36,10 @@ loop-i-init c =
 pub key-start_key-requires : goal.key-start_key-requires
 key-start_key-requires c =
     let h : c.loop-i.i - 1 < c.args.directory.n = omega (arith, c.loop-i.invariant.some) in
-    (h, each-inside _ _ _ c.requires.0 (c.loop-i.i - 1) h)
+    (h, each-kept (outside-fronts _ _) _ c.requires.0 (c.loop-i.i - 1) h)
 
 pub key-end_key-requires : goal.key-end_key-requires
-key-end_key-requires c = (c.loop-i-test.true, each-inside _ _ _ c.requires.0 c.loop-i.i c.loop-i-test.true)
+key-end_key-requires c = (c.loop-i-test.true, each-kept (outside-fronts _ _) _ c.requires.0 c.loop-i.i c.loop-i-test.true)
 
 pub overflow_add-count : goal.overflow_add-count
 overflow_add-count c =

@@ -1,11 +1,11 @@
 -- What is looked for behind the common prefix, from the state that it leads to.
 use Rattle.std.proofs.Common.{◌<◌, length, arith}
-use Rattle.keys.proofs.Order.{common_prefix_len-left, common_prefix_len-right}
+use Rattle.keys.proofs.Order.{common_prefix_len-left, common_prefix_len-right, common-below}
 use Rattle.automaton.specs.Words.{Bytes}
 use Rattle.automaton.proofs.Exact.{exactly-map}
-use Rattle.automaton.proofs.Refusal.{part-rest}
+use Rattle.std.proofs.lemmas.List.{take_rest}
 use Rattle.automaton.proofs.Strings.{bytes_of}
-use Rattle.pruning.proofs.Intervals.{part-some, part-first, common-none, common-above, common-below, common-run, common-end}
+use Rattle.pruning.proofs.Intervals.{part-some, part-first, common-none, common-above, common-run, common-end}
 use Rattle.pruning_match.proofs.can_block_match_from.Goals as goal
 
 pub returns-then-n-end_key-clause-exactly : goal.returns-then-n-end_key-clause-exactly
@@ -24,7 +24,7 @@ returns-then-n-start_key-clause-exactly c =
     let a = c.args in
     let bytes : Bytes a.start_key.now = bytes_of a.start_key.now (λ i. omega (arith, c.type_inv.start_key i)) in
     let i = common-end _ 0 a.start_key.now a.end_key.now c.requires.1 bytes c.requires.2 (omega arith) in
-    exactly-map c.match_range_end.result i.1 i.0 (rw (part-rest a.end_key.now a.n) at c.match_range_end.ensures.exactly)
+    exactly-map c.match_range_end.result i.1 i.0 (rw (take_rest a.end_key.now a.n) at c.match_range_end.ensures.exactly)
 
 pub bounds-end_key-n : goal.bounds-end_key-n
 bounds-end_key-n c = omega (arith, common_prefix_len-right c.args.start_key.now c.args.end_key.now)
@@ -58,7 +58,7 @@ match_between-requires c =
     let r = common_prefix_len-right a.start_key.now a.end_key.now in
     let ha : a.n < length a.start_key.now = omega (arith, l) in
     let hb : a.n < length a.end_key.now = omega (arith, r) in
-    let below = common-below a.prepared.now.table.bytes.now 0 a.start_key.now a.end_key.now c.requires.1 ha hb (omega arith) in (
+    let below = common-below a.start_key.now a.end_key.now c.requires.1 ha hb (omega arith) in (
       c.requires.0,
       c.requires.3,
       part-some a.start_key.now a.n ha,
@@ -72,4 +72,4 @@ returns-clause-exactly c =
     let bytes : Bytes a.start_key.now = bytes_of a.start_key.now (λ i. omega (arith, c.type_inv.start_key i)) in
     let i = common-run _ 0 a.start_key.now a.end_key.now c.requires.1 bytes c.requires.2 in
     exactly-map c.match_between.result i.1 i.0
-    (rw (part-rest a.start_key.now a.n, part-rest a.end_key.now a.n) at c.match_between.ensures.exactly)
+    (rw (take_rest a.start_key.now a.n, take_rest a.end_key.now a.n) at c.match_between.ensures.exactly)

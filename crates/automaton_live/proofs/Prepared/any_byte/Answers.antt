@@ -1,5 +1,5 @@
 -- `any` says of each byte whether its bit is set, and so whether it leads on.
-use Rattle.std.proofs.Common.{◌≡◌, ℕ, ◌+◌, ◌-◌, ◌*◌, ◌<◌, ◌≤◌, Bool, true, false, refl}
+use Rattle.std.proofs.Common.{◌≡◌, ℕ, ◌+◌, ◌-◌, ◌<◌, ◌≤◌, Bool, true, false, refl}
 use Rattle.std.proofs.Common.{MatchBool, get_or, length, rules, tests, arith, List, ap, sym, ◌∙◌}
 use Rattle.std.specs.List.{HoldsAt, AllWithin, range_with_len}
 use Rattle.std.proofs.lemmas.Iterator.{cases_from_any, YieldsList-from_range}
@@ -11,19 +11,19 @@ use Rattle.automaton.specs.Live.{LiveByte}
 use Rattle.automaton_live.proofs.Prepared.any_byte.Goals as goal
 
 -- the bit of the byte b's next state in the row is set
-abbrev IsSet : List ℕ → (reach row b : ℕ) → Type 0
-IsSet t reach row b = bit reach (get_or t (row + b) 0) ≡ 1
+abbrev IsSet : List ℕ → (reach b : ℕ) → Type 0
+IsSet row reach b = bit reach (get_or row b 0) ≡ 1
 
 -- the answer for the bytes from lo on and below hi, by their bits
 module _ {t : List ℕ} {reach : ℕ} (wf : WellFormed t) (i : Reach t reach) (s : ℕ) (h : s < states t) (lo hi : ℕ) (l : hi ≤ 256)
-    (row : ℕ) (e : row ≡ 1 + states t + s * 256) where
-  bit-at : (k : ℕ) → k < hi - lo → bit reach (get_or t (row + get_or (range_with_len lo (hi - lo)) k 0) 0) ≡ bit reach (next t s (lo + k))
-  bit-at k g = rw (get_or-range_with_len lo (hi - lo) k 0 g, e) refl
+    (row : List ℕ) (e : (b : ℕ) → b < 256 → get_or row b 0 ≡ next t s b) where
+  bit-at : (k : ℕ) → k < hi - lo → bit reach (get_or row (get_or (range_with_len lo (hi - lo)) k 0) 0) ≡ bit reach (next t s (lo + k))
+  bit-at k g = rw (get_or-range_with_len lo (hi - lo) k 0 g) (ap (bit reach) (e (lo + k) (omega arith)))
 
   of_bits : (r : Bool)
       → (let bytes = range_with_len lo (hi - lo) in
-      MatchBool r ((k : ℕ) × (k < length bytes) × HoldsAt (IsSet t reach row) bytes k)
-      (AllWithin (λ b. IsSet t reach row b → ⊥) bytes 0 (length bytes)))
+      MatchBool r ((k : ℕ) × (k < length bytes) × HoldsAt (IsSet row reach) bytes k)
+      (AllWithin (λ b. IsSet row reach b → ⊥) bytes 0 (length bytes)))
       → Exactly r (LiveByte t s lo hi)
   of_bits true (k, g, f) =
       let g' : k < hi - lo = rw (length-range_with_len lo (hi - lo)) at g in
@@ -45,7 +45,8 @@ pub returns : goal.returns
 returns c =
     let a = c.args in
     let p = a.self.now in
-    let Set = IsSet p.table.bytes.now p.reach c.row-row.result in
-    of_bits p.table.well_formed c.requires.0 a.state c.requires.1 a.lo a.hi c.requires.2 c.row-row.result c.row-row.ensures c.any.result
+    let Set = IsSet c.row-row.result.now p.reach in
+    of_bits p.table.well_formed c.requires.0 a.state c.requires.1
+    a.lo a.hi c.requires.2 c.row-row.result.now c.row-row.ensures.by_index c.any.result
     (cases_from_any _ _ _ Set (λ b. Set b → ⊥) c.any.ensures.ran (YieldsList-from_range a.lo a.hi (a.hi - a.lo) refl refl)
     (λ x q k. search (rules, tests)) (λ x q k. search (rules, tests)))

@@ -1,5 +1,6 @@
 -- Each turn writes a level and finds the next, which is at most the 64th.
-use Rattle.std.proofs.Common.{◌≡◌, ℕ, sym, subst, arith}
+use Rattle.std.proofs.Common.{◌≡◌, ℕ, ◌<◌, sym, subst, arith, length, take, length-take}
+use Rattle.std.proofs.lemmas.List.{get_or-take}
 use Rattle.automaton.specs.Bits.{bit}
 use Rattle.automaton.specs.Table.{states}
 use Rattle.automaton.proofs.Word.{bit_below}
@@ -20,13 +21,18 @@ loop-level-preserved c =
     let t = c.args.table.bytes.now in
     let steps = c.successors-steps.ensures in
     let lead = c.leading_to_level in
-    let small = rw c.states-m.ensures at lead.ensures.upper_bound in
+    let m = c.states-m.result in
+    let given = c.successors-steps.result in
+    let long : length (take m given) ≡ states t = simp length-take (omega (arith, c.states-m.ensures, c.args.table.well_formed.few)) in
+    let at = λ (q : ℕ) (h : q < states t). get_or-take m given q 0 (omega (arith, c.states-m.ensures)) in
+    let small = rw long at lead.ensures.upper_bound in
     let put = c.write_level.ensures in
     levels-turn c.args.table.well_formed c.loop-level.invariant (omega arith) lead.result small
-    (λ q b hq hb e. lead.ensures.by_index q _ (omega arith) (steps.by_index q b hq hb) e)
+    (λ q b hq hb e. lead.ensures.by_index q _ (omega (arith, long)) (rw (at q hq) (steps.by_index q b hq hb)) e)
     (λ q e.
     let (x, h, g) = lead.ensures.by_index_2 q e in
-    let (b, hb, n) = steps.by_index_2 q x (bit_below (states t) lead.result q small e) h in
+    let below = bit_below (states t) lead.result q small e in
+    let (b, hb, n) = steps.by_index_2 q x below (rw (at q below) at h) in
     (b, hb, subst (λ (y : ℕ). bit c.loop-level.level y ≡ 1) (sym n) g))
     _ put.distances_len put.by_index put.by_index_2
 

@@ -1,7 +1,7 @@
 -- Some byte leads to a nearer state, so that the last is left where no other does.
 use Rattle.std.proofs.Common.{◌≡◌, ℕ, ◌+◌, ◌<◌, sym, subst, ⊎_elim, arith, get_or, below_more}
+use Rattle.std.proofs.lemmas.Bool.{cases_eq}
 use Rattle.automaton.specs.Table.{next}
-use Rattle.automaton.proofs.Exact.{same_or}
 use Rattle.example_distance.proofs.Shortest.{some-nearer, one-nearer}
 use Rattle.example_walk.proofs.tail.nearer.Goals as goal
 
@@ -31,4 +31,4 @@ returns c =
     (λ e. subst (λ (k : ℕ). get_or d (next m.table.bytes.now state k) 0 + 1 ≡ get_or d state 0) e
     (one-nearer c.requires.0 state b wf c.requires.1 hb c.requires.3 less))
     (λ e. absurd (l.invariant b (omega arith) less))
-    (same_or b 255)
+    (cases_eq b 255)
