@@ -23,8 +23,8 @@ pub const LINE_LEN: usize = 2103;
 // A longer input isn't taken.
 pub const MAX_LEN: usize = 65536;
 
-// The address of a block of an opened index. Record and bytes come apart, as index_load answers them; that they belong together is
-// asked of each function.
+// The address of a block of an opened index. Record and bytes come apart, as index_load answers them: a struct of both would be made
+// anew from `loaded` for each piece. `block` and `line` ask that they belong together.
 fn block(opened: SSTableIndexV3, data: &[u8], id: usize) -> BlockAddr
     requires { Opens «data».now opened × (id < opened.n) }
     ensures { (result ≡ opened_block opened «data».now id) × NumbersOk result }
@@ -66,6 +66,7 @@ pub fn piece(loaded: Result<SSTableIndexV3, Refusal>, data: &[u8], i: usize) -> 
     if data.len() > MAX_LEN {
         return Piece::TooLong;
     }
+    // A match: `line` asks that the record is the bytes' own, which a closure would owe for any.
     match loaded {
         Ok(opened) => Piece::Block(line(opened, data, i)),
         Err(refusal) => Piece::Refused(Refused { refusal }),

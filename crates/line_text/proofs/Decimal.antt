@@ -8,9 +8,9 @@ use native.Mathlib.Omega.{arith}
 use borrow.Author.Tests.{lt-ltb, le-ltb}
 use lib.Dec.{ltb}
 use lib.ListN.{length, take, get_or}
-use Rattle.keys.proofs.Order.{by-test}
 use Rattle.std.specs.Fmt as Fmt
 use Rattle.std.proofs.lemmas.Fmt.{PrependsLastDigit, decimal_from_prepends, length-decimal-le}
+use borrow.Table.Steps.{cases}
 use Rattle.line_text.specs.Lines.{decimal_before, decimal, hex_digit, hex}
 
 -- ---- decimal
@@ -21,7 +21,7 @@ unfolding decimal_before
 length-decimal k zero n rest h = omega arith
 length-decimal zero (suc fuel) n rest h = rw (lt-ltb n 10 h) (omega arith)
 length-decimal (suc k) (suc fuel) n rest h =
-    by-test (ltb n 10)
+    cases (ltb n 10)
     (λ e. rw e (omega arith))
     (λ e. rw e (let q : n < 10 ^ suc k * 10 = rw pow-suc at h in
     omega (arith, length-decimal k fuel (n / 10) ((48 + n % 10) ∷ rest) (omega arith))))
@@ -31,7 +31,7 @@ pub length-fuel : (fuel n : ℕ) (rest : List ℕ) → length (decimal_before fu
 unfolding decimal_before
 length-fuel zero n rest = omega arith
 length-fuel (suc fuel) n rest =
-    by-test (ltb n 10) (λ e. rw e (omega arith)) (λ e. rw e (omega (arith, length-fuel fuel (n / 10) ((48 + n % 10) ∷ rest))))
+    cases (ltb n 10) (λ e. rw e (omega arith)) (λ e. rw e (omega (arith, length-fuel fuel (n / 10) ((48 + n % 10) ∷ rest))))
 
 -- digits in front of what follows, at most `room` of them
 before : ℕ → ℕ → List ℕ → List ℕ

@@ -6,7 +6,8 @@ ghost use Rattle.line_text.specs.Lines.{decimal, separator_text, line_of, refuse
 
 use crate::{Line, Refused};
 
-// Copies a part to the place `at`. Returns where the next part goes, as each of these does.
+// Copies a part to the place `at`. Returns where the next part goes, as each of these does. Output and place stay two: a part is written
+// at a place of the caller's area, and the clauses speak of all of that area.
 fn put(part: &[u8], out: &mut [u8], at: usize) -> usize
     requires { at + length part.now ≤ length out.old }
     ensures { (result ≡ at + length part.now) × (out.new ≡ sets out.old at part.now) }

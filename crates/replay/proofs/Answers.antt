@@ -3,6 +3,7 @@ use Prim.Native.Nat.{ℕ, zero, suc, ◌+◌, ◌-◌, ◌≤◌}
 use mathlib.Core.Path.{◌≡◌, refl, sym, ap, ap₂, ◌∙◌}
 use mathlib.Core.List.{List, [], ◌++◌}
 use Rattle.std.specs.Prelude.{Result, Ok, Err, MatchResult}
+use borrow.Table.Steps.{cases}
 use Rattle.layout.specs.declared.refusals.Refusal.{Refusal}
 use Rattle.layout.specs.Refusals.{number_of}
 use Rattle.layout.proofs.Numbers.{number_positive}
@@ -14,7 +15,6 @@ use lib.Dec.{ltb}
 use lib.ListN.{length, get_or, drop, replicate, length-replicate, get_or-append, get_or-eq_default}
 use lib.Seq.{sets, sets-eq, get_or-append-add, get_or-drop}
 use borrow.Author.Tests.{ltb-true, ltb-false, le-ltb}
-use Rattle.keys.proofs.Order.{by-test}
 use Rattle.group.specs.declared.BlockAddr.{BlockAddr}
 use Rattle.group.specs.Rows.{or_row}
 use Rattle.builder.specs.Index.{Settings}
@@ -34,16 +34,11 @@ zeros n = replicate n 0
 pub zeros-long : (n : ℕ) → n ≤ length (zeros n)
 zeros-long n = rw (length-replicate {A = ℕ} n 0) (le_refl n)
 
-pub zeros-zero : (n j : ℕ) → get_or (zeros n) j 0 ≡ 0
-zeros-zero zero j = refl
-zeros-zero (suc n) zero = refl
-zeros-zero (suc n) (suc j) = zeros-zero n j
-
 -- a run written over zeros, read at any place
 pub over_zeros : (l w : List ℕ) → length w ≤ length l → ((i : ℕ) → get_or l i 0 ≡ 0) → (i : ℕ) → get_or (sets l 0 w) i 0 ≡ get_or w i 0
 over_zeros l w h zeros i =
     rw (sets-eq w l 0 (omega arith), zero-add (length w))
-    (by-test (ltb i (length w))
+    (cases (ltb i (length w))
     (λ t. get_or-append w (drop (length w) l) 0 i (ltb-true i (length w) t))
     (λ t.
     let behind : length w ≤ i = ltb-false i (length w) t in

@@ -7,7 +7,7 @@ use native.Mathlib.Omega.{arith}
 use lib.Dec.{eqb}
 use lib.ListN.{length, take}
 use borrow.Author.Tests.{eqb-true, eqb-false}
-use Rattle.keys.proofs.Order.{by-test}
+use borrow.Table.Steps.{cases}
 use Rattle.serialize.proofs.Stores.{sets-part}
 use Rattle.builder.specs.Index.{Settings}
 use Rattle.builder.specs.Finish.{Finish}
@@ -104,7 +104,7 @@ module _ (s B K out : List ℕ) where
   pub list-opened : CheckedAs (open_number f) (list_settings s) (entries_of s B K) (take f.total f.out)
   unfolding open_number
   list-opened =
-      by-test (eqb f.total 0)
+      cases (eqb f.total 0)
       (λ t. rw (t, parts.none (eqb-true f.total 0 t)) (opens-none (list_settings s) (entries_of s B K)))
       (λ t. rw t (opened_some (eqb-false f.total 0 t)))
 

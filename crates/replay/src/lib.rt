@@ -69,7 +69,8 @@ fn replay_list(
     );
 }
 
-// Replays a list of calls and questions that anyone may have written, or says why not.
+// Replays a list of calls and questions that anyone may have written, or says why not. The four areas stay parameters, here and in
+// each part: the calls change blocks and keys, the finish the output, the questions read it, and all write answers.
 pub fn replay(
     calls: &[u8],
     blocks: &mut [u64],

@@ -8,14 +8,6 @@ use group::BlockAddr;
 use layout::refusals::{self, Refusal};
 use store::Located;
 
-// The address that is handed out where there is no block: C has no Option. By hand, since this is the only place that wants a block of
-// zeros: a Default of BlockAddr would offer one to each crate.
-pub const NO_BLOCK: BlockAddr = BlockAddr {
-    start: 0,
-    end: 0,
-    first_ordinal: 0,
-};
-
 // Hands out a count, and returns the answer's number.
 pub fn put_count(answer: Result<usize, Refusal>, count: &mut u64) -> u32
     ensures { (result ≡ no_of answer) × (count.new ≡ count_given answer) }
@@ -44,8 +36,8 @@ pub fn put_located(
     ensures { (result ≡ located_no answer) × (id.new ≡ located_id answer)
         × (block_with start.new end.new first_ordinal.new ≡ located_addr answer) }
 {
-    let (block_id, addr) = answer.map_or((0, NO_BLOCK), |found| (found.block_id, found.addr));
-    *id = block_id as u64;
-    put_address(addr, start, end, first_ordinal);
+    let found = answer.unwrap_or_default();
+    *id = found.block_id as u64;
+    put_address(found.addr, start, end, first_ordinal);
     refusals::number(answer)
 }

@@ -9,6 +9,7 @@ ghost use Rattle.rosmarel.specs.Answers.{block_with, finish_by, len_no, len_tota
 use crate::answers::put_count;
 use builder::SSTableIndexBuilder;
 use group::BlockAddr;
+use layout::refusals;
 
 // Adds a block behind the last one. A refusal leaves `n`.
 #[unsafe(no_mangle)]
@@ -69,18 +70,13 @@ pub extern "C" fn rosmarel_finish(
         ≡ finish_def standard (builder_of n) blocks.now keys.now out.old }
 {
     let builder = SSTableIndexBuilder::new(n as usize);
-    match builder_finish::finish(builder, blocks, keys, out) {
-        Ok(written) => {
-            *total = written.total as u64;
-            *directory_len = written.directory_len as u64;
-            0
-        }
-        Err(refused) => {
-            *total = 0;
-            *directory_len = 0;
-            u32::from(refused.refusal)
-        }
-    }
+    let written = builder_finish::finish(builder, blocks, keys, out).map_err(
+        |refused| refused.refusal,
+    );
+    let (len, directory) = written.map_or((0, 0), |written| (written.total, written.directory_len));
+    *total = len as u64;
+    *directory_len = directory as u64;
+    refusals::number(written)
 }
 
 // The total that a finish would need.

@@ -9,7 +9,7 @@ ghost use Rattle.batch.specs.Batch.{LocateWithKeys};
 ghost use Rattle.index.specs.Words.{opened_words, opened_at};
 ghost use Rattle.rosmarel.specs.Answers.{block_with};
 
-use crate::answers::{NO_BLOCK, put_address, put_count, put_located};
+use crate::answers::{put_address, put_count, put_located};
 use index::SSTableIndexV3;
 use layout::refusals;
 
@@ -47,7 +47,7 @@ pub extern "C" fn rosmarel_get_block(
         (block_with start.new end.new first_ordinal.new) }
 {
     let block = index_lookup::get_block(SSTableIndexV3::from(*opened), index, id);
-    put_address(block.unwrap_or(NO_BLOCK), start, end, first_ordinal);
+    put_address(block.unwrap_or_default(), start, end, first_ordinal);
     refusals::number(block)
 }
 

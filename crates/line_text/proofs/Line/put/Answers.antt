@@ -1,4 +1,4 @@
--- The line's parts, one behind the other.
+-- The line's parts, one behind the other. Each answer names what is written so far; a lemma for each length would be no shorter.
 use Rattle.std.proofs.Common.{[], ◌∷◌, arith}
 use Rattle.line_text.specs.Lines.{decimal, separator_text, line_of}
 use Rattle.line_text.proofs.Written.{parts-line}
