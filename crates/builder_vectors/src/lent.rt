@@ -64,6 +64,7 @@ impl Lent {
         let n = self.builder.n;
         let block = BlockAddr::from([*start, *end, *first_ordinal]);
         let answer = self.add(key, block);
+        // A match: map_or_else would take two closures.
         Ok(
             is_told(due, answer.map(|()| []))
                 && match answer {
@@ -112,6 +113,7 @@ impl Lent {
             next_key,
         );
         let answer = self.keep(called);
+        // A match: map_or_else would take two closures for these two lines.
         Ok(
             is_told(given, answer.map(|()| []))
                 && self.builder.n == n

@@ -7,7 +7,8 @@ use line_text::Refused;
 use std::alloc::{AllocError, Global};
 use std::rt::Files;
 
-// The lines of the blocks. Record and bytes come apart, as index_load answers them; that they belong together is asked for.
+// The lines of the blocks. Record and bytes come apart, as index_load answers them: a struct of both would be made for this one loop;
+// that they belong together is asked for.
 fn lines(alloc: Global, opened: SSTableIndexV3, data: &[u8]) -> Result<String, AllocError>
     requires { Opens «data».now opened }
 {

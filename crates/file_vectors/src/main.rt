@@ -12,6 +12,7 @@ use vectors::tally::Tallies;
 
 const ROWS: [&str; 3] = ["index files", "questions", "automata"];
 
+// A row's place in the list of names, as `Tallies::count` takes it.
 const ROW_OF_INDEXES: usize = 0;
 
 const ROW_OF_QUESTIONS: usize = 1;

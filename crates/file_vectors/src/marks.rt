@@ -4,18 +4,12 @@ use line_text::Refused;
 use std::alloc::{AllocError, Global};
 use std::rt::Files;
 
-// A mark's digit; no digit where it is neither 0 nor 1.
-fn digit(mark: u8) -> char {
-    match mark {
-        0 => '0',
-        1 => '1',
-        _ => '?',
-    }
-}
-
-// The marks' digits, and how many are 1.
+// The marks' digits, no digit where a mark is neither 0 nor 1; and how many are 1.
 fn line(alloc: Global, marks: &[u8], count: usize) -> Result<String, AllocError> {
-    let mut line: String = marks.iter().map(|mark| digit(*mark)).collect(alloc)?;
+    let mut line: String = marks
+        .iter()
+        .map(|mark| char::from_digit(u32::from(*mark), 2).unwrap_or('?'))
+        .collect(alloc)?;
     writeln!(line, " {count}")?;
     Ok(line)
 }

@@ -3,6 +3,7 @@ use crate::lookup::Lookup;
 use store::Located;
 use vectors::told::is_told;
 
+// A function: both types are other crates'.
 fn numbers(located: Located) -> [u64; 4] {
     let [start, end, first_ordinal] = <[u64; 3]>::from(located.addr);
     [located.block_id as u64, start, end, first_ordinal]

@@ -10,10 +10,10 @@ fn is_allowed<T: Drop, F: FnOnce(T) -> bool>(
 ) -> bool
     requires { F.IsAlwaysCallable is_good }
 {
-    match answer {
-        Ok(found) => is_good(found),
-        Err(refusal) => refusal == row || refusal == Refusal::Unfit,
-    }
+    answer.map_or_else(
+        |refusal| refusal == row || refusal == Refusal::Unfit,
+        is_good,
+    )
 }
 
 impl Lookup<'_> {

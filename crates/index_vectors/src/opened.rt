@@ -66,13 +66,14 @@ impl Opened {
         ))
     }
 
-    // N DIRECTORY LEN RECORDS LEN ADDRESSES LEN: this record from here on
+    // N DIRECTORY LEN RECORDS LEN ADDRESSES LEN: this record from here on. This and `block_count` are as in pattern_vectors: vectors, which
+    // both use, doesn't know index.
     pub fn sets_record(&mut self, given: &[u64]) -> bool {
-        let Some(numbers) = given.first_chunk::<7>() else {
+        let Ok(numbers) = <[u64; 7]>::try_from(given) else {
             return false;
         };
-        self.record = Some(SSTableIndexV3::from(*numbers));
-        given.len() == 7
+        self.record = Some(SSTableIndexV3::from(numbers));
+        true
     }
 
     // How many blocks the record says; 0 where there is none, so that no id is below it.

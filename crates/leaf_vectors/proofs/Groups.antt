@@ -10,8 +10,8 @@ use Rattle.serialize.specs.Digits.{le_bytes, DigitsBelow}
 use Rattle.bitpacker.specs.declared.BitPacker.{BitPacker}
 use Rattle.bitpacker.specs.Bits.{bytes_of}
 use Rattle.bitpacker.specs.Fields.{group_val, range_bit, ordinal_bit, group_bits}
-use Rattle.bitpacker.specs.Packer.{Waiting, leaving, packed_with}
-use Rattle.bitpacker.proofs.Packed.{Packed, packed_new, packed-wrote, packed-flushed, packed-room-write}
+use Rattle.bitpacker.specs.Packer.{Waiting}
+use Rattle.bitpacker.proofs.Packed.{Packed, packed_new, packed-wrote, packed-flushed, packed-room-write, Wrote}
 use Rattle.bitpacker.proofs.Fields.{group-none, group-range, group-ordinal, group-bits-none, group-bits-ordinal}
 use Rattle.bitpacker.proofs.Fields.{range-within, ordinal-within}
 use Rattle.leaf_vectors.specs.Fields.{ranges, ordinals}
@@ -29,9 +29,6 @@ pub pairs-all : (r o : ℕ) (fs d l : List ℕ) (p : BitPacker) (i n : ℕ) → 
 pairs-all r o fs d l p i n k e = rw e at k
 
 -- what `write` ensures of a field
-abbrev Wrote : BitPacker → List ℕ → ℕ → ℕ → BitPacker → List ℕ → Type 0
-Wrote p l v n p' l' = (p' ≡ packed_with p v n) × (l' ≡ sets l p.written (leaving p v n))
-
 -- every field fits its width
 pub record Small (r o : ℕ) (fs : List ℕ) : Type 0 where
   pub range : DigitsBelow r (ranges fs)

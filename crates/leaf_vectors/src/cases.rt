@@ -5,6 +5,7 @@ ghost use Rattle.slope.specs.Column.{ColumnOk};
 use crate::pack;
 use crate::pack::Widths;
 use slope::Column;
+use vectors::area::framed;
 
 pub const MARK: u8 = 0xa5;
 
@@ -21,22 +22,11 @@ const STRIDE: usize = 3;
 
 const BASE: u64 = 1000003;
 
-fn marks(area: &[u8]) -> bool {
-    area.iter().all(|byte| *byte == MARK)
-}
-
 // Whether `area` has `front` at PLACE, behind it what `whole` has behind as many bytes, and MARK everywhere else.
 fn holds(area: &Area, front: &[u8], whole: &[u8]) -> bool {
-    let len = whole.len();
-    if front.len() > len || len > area.len() - PLACE {
-        return false;
-    }
-    let middle = PLACE + front.len();
-    let end = PLACE + len;
-    marks(&area[..PLACE])
-        && &area[PLACE..middle] == front
-        && area[middle..end] == whole[front.len()..]
-        && marks(&area[end..])
+    framed(area, PLACE, whole.len(), MARK)
+        .and_then(|part| part.strip_prefix(front))
+        .is_some_and(|tail| whole.get(front.len()..) == Some(tail))
 }
 
 pub fn same_width(numbers: &[u64]) -> bool {

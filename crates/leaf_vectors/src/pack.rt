@@ -33,7 +33,7 @@ pub fn reads(data: &[u8], at: usize, width: u8, value: u64) -> bool
     u16::try_from(at).is_ok_and(|at| bitpacker::extract_bits(data, at, width) == value)
 }
 
-// The widths of fields in turn: a range's, and an ordinal's.
+// The widths of fields in turn: a range's, and an ordinal's. As group's, which this program doesn't know: it tests what lies below group.
 #[derive(Clone, Copy)]
 pub struct Widths {
     pub range: u8,
@@ -62,7 +62,8 @@ impl Widths {
         true
     }
 
-    // Writes a group's fields: `count` pairs of a range and an ordinal, then the last range. Returns how many bytes there are.
+    // Writes a group's fields: `count` pairs of a range and an ordinal, then the last range. Returns how many bytes there are. The count
+    // goes beside the fields, here and where it is called, since the clauses have them as so many pairs and one.
     pub fn pack_group(self, out: &mut [u8], fields: &[u64], count: usize) -> usize
         requires len { length fields.now ≡ 2 * count + 1 }
         requires digits_below { DigitsBelow self.range (ranges fields.now) × DigitsBelow self.ordinal (ordinals fields.now) }

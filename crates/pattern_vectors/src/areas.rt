@@ -25,7 +25,7 @@ pub fn holds_over_both<F: Fn(&mut Area) -> bool>(
 ) -> Result<bool, AllocError>
     requires { F.IsAlwaysCallable holds }
 {
-    // A loop, since the closure of `all` may not run out of memory.
+    // A loop: the stop would be an Err of try_for_each beside that of memory.
     for fill in [165, 90] {
         let bytes = vec![in alloc; fill; room]?;
         let mut area = Area { bytes, fill };

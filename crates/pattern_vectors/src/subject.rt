@@ -32,12 +32,11 @@ impl Subject {
         how: Table,
         case: Case<'_>,
     ) -> Result<bool, AllocError> {
-        let made = how.made(alloc, case, &self.table)?;
-        let is_good = made.is_some();
-        if let Some(table) = made {
-            self.table = table;
-        }
-        Ok(is_good)
+        let Some(table) = how.made(alloc, case, &self.table)? else {
+            return Ok(false);
+        };
+        self.table = table;
+        Ok(true)
     }
 
     // N, and the file: its count of blocks, 0 where it is refused
@@ -52,13 +51,14 @@ impl Subject {
         Ok(given == [self.block_count() as u64].as_slice())
     }
 
-    // N DIRECTORY LEN RECORDS LEN ADDRESSES LEN: this record from here on
+    // N DIRECTORY LEN RECORDS LEN ADDRESSES LEN: this record from here on. This and `block_count` are as in index_vectors: vectors, which
+    // both use, doesn't know index.
     pub fn sets_record(&mut self, given: &[u64]) -> bool {
-        let Some(numbers) = given.first_chunk::<7>() else {
+        let Ok(numbers) = <[u64; 7]>::try_from(given) else {
             return false;
         };
-        self.record = Some(SSTableIndexV3::from(*numbers));
-        given.len() == 7
+        self.record = Some(SSTableIndexV3::from(numbers));
+        true
     }
 
     // How many blocks the record says; 0 where there is none, as the lists have it.
@@ -96,6 +96,7 @@ impl Subject {
         let start = (has == 1).then_some(start);
         holds_over_both(alloc, room as usize, |area| {
             let answer = example::example(start, end, &self.table, &mut area.bytes);
+            // A match: map_or_else would take two closures.
             is_told(&[no], answer.map(|_| []))
                 && match answer {
                     Ok(len) => area

@@ -3,6 +3,7 @@ ghost use Rattle.std.specs.Prelude.{◌<◌, IfOk, IfSome};
 
 use std::alloc::{AllocError, Global};
 use vectors::Case;
+use vectors::draws::Draws;
 
 // How a line makes a table.
 #[derive(Clone, Copy)]
@@ -69,11 +70,10 @@ fn by_rule(
     Ok(Some(table))
 }
 
-// The next state that x draws among m: the last one for k draws of 256.
-fn drawn(x: u64, m: u64, k: u64) -> u8
+// The next state that v draws among m: the last one for k draws of 256.
+fn drawn(v: u64, m: u64, k: u64) -> u8
     requires { (0 < m) × (m < 256) }
 {
-    let v = x / 65536;
     let next = if v % 256 < k { m - 1 } else { v / 256 % m };
     next as u8
 }
@@ -84,14 +84,11 @@ fn by_draws(alloc: Global, flags: &[u8], seed: u64, k: u64) -> Result<Option<Vec
         return Ok(None);
     };
     let m = u64::from(m);
-    let mut x = seed;
+    let mut draws = Draws::new(seed);
     table.extend((0..256 * (m - 1)).map(
         |_|
             requires { (0 < m) × (m < 256) }
-        {
-            x = x.wrapping_mul(1103515245).wrapping_add(12345) % (1 << 31);
-            drawn(x, m, k)
-        },
+        { drawn(draws.draw(), m, k) },
     ))?;
     table.resize(table.len() + 256, (m - 1) as u8)?;
     Ok(Some(table))

@@ -46,6 +46,7 @@ fn replay(rt: &(impl AllocGlobal + Print), line: Line<'_>) -> io::Result<()> {
 // Replays all lists of the text.
 fn replay_all(rt: &(impl AllocGlobal + Print), text: &[u8]) -> io::Result<()> {
     let mut room = Room::new(rt.alloc(), 260, 256, 16_384)?;
+    // Counted by hand: a comment is no list, and only `parse` tells which line is one.
     let mut place: u64 = 0;
     for line in text.split_inclusive(|byte| *byte == b'\n') {
         let line = room.parse(line);

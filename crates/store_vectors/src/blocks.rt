@@ -7,6 +7,7 @@ use group::area::block_at;
 use layout::{MAX_BLOCKS, STORE_BLOCK_LEN};
 use std::alloc::{AllocError, Global};
 use store_write::AreaStore;
+use vectors::draws::Draws;
 
 pub const STRIDE: usize = 3;
 
@@ -28,7 +29,7 @@ fn is_followed(area: &[u64], i: usize) -> bool
     !block.join_bad(before) && !block.ordinal_bad(before)
 }
 
-// Whether the numbers of n blocks keep their limits.
+// Whether the numbers of n blocks keep their limits. Area and count, here and below, as the clauses of AreaStore have its blocks.
 fn have_legal_numbers(area: &[u64], n: usize) -> bool
     requires { 3 * n ≤ length area.now }
     ensures { result ≡ true → (i : ℕ) → i < n → NumbersOk (block_at area.now 3 i) }
@@ -62,19 +63,6 @@ pub fn legal(area: &[u64]) -> Option<AreaStore<'_>> {
     })
 }
 
-// The list's generator of numbers.
-#[derive(Drop)]
-struct Draws {
-    x: u64,
-}
-
-impl Draws {
-    fn next(&mut self) -> u64 {
-        self.x = (self.x % 0x8000_0000 * 1103515245 + 12345) % 0x8000_0000;
-        self.x / 65536
-    }
-}
-
 // The size of a block for a number that was drawn.
 fn size(drawn: u64, k: u64) -> u64
     requires { k < 64 }
@@ -86,16 +74,16 @@ fn size(drawn: u64, k: u64) -> u64
 pub fn generate(alloc: Global, seed: u64, count: usize) -> Result<Vec<u64>, AllocError> {
     let k = seed % 23;
     let j = seed / 23 % 23;
-    let mut draws = Draws { x: seed };
+    let mut draws = Draws::new(seed);
     let mut area = Vec::new(alloc);
-    let mut start = draws.next() << k;
-    let mut ordinal = draws.next();
-    // A `for`, since a fold's closure may not run out of memory, as pushing may.
+    let mut start = draws.draw() << k;
+    let mut ordinal = draws.draw();
+    // A `for`: a try_for_each's closure would change four values around it.
     for _ in 0..count {
-        let end = start.saturating_add(size(draws.next(), k));
+        let end = start.saturating_add(size(draws.draw(), k));
         area.extend_from_slice(&[start, end, ordinal])?;
         start = end;
-        ordinal = ordinal.saturating_add(1).saturating_add(draws.next() << j);
+        ordinal = ordinal.saturating_add(1).saturating_add(draws.draw() << j);
     }
     Ok(area)
 }

@@ -70,6 +70,7 @@ pub fn is_located(given: &[u64], store: &[u8]) -> bool {
         return false;
     };
     let block = BlockAddr::from([start, end, first_ordinal]);
+    // By field: a Located to compare with would be made of the line's number by a cast.
     stores::locate(store, n as usize, ord).is_some_and(|found| found.block_id as u64 == id
         && found.addr == block)
 }

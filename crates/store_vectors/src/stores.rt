@@ -11,7 +11,7 @@ use store::Located;
 use store::grouping::Grouping;
 use store_read::BlockAddrStore;
 use store_write::AreaStore;
-use vectors::area::front;
+use vectors::area::framed;
 
 // What fills an area before a store is written into it.
 const MARK: u8 = 0xa5;
@@ -48,7 +48,7 @@ pub fn written(alloc: Global, blocks: &AreaStore) -> Result<Option<Vec<u8>>, All
     let mut kept = vec![in alloc; 0u64; PLAN_LEN * grouping.group_count()]?;
     let mut out = vec![in alloc; MARK; AREA_LEN]?;
     let len = write(blocks, &mut kept, &mut out);
-    let Some(store) = len.and_then(|len| framed(&out, len)) else {
+    let Some(store) = len.and_then(|len| framed(&out, PLACE, len, MARK)) else {
         return Ok(None);
     };
     Ok(Some(store.to_vec(alloc)?))
@@ -65,7 +65,7 @@ pub fn is_written_from_slice(
         .collect(alloc)?;
     let mut out = vec![in alloc; MARK; AREA_LEN]?;
     let written = store_slice::serialize(&records, &mut out[PLACE..]);
-    Ok(written.is_ok_and(|len| framed(&out, len) == Some(store)))
+    Ok(written.is_ok_and(|len| framed(&out, PLACE, len, MARK) == Some(store)))
 }
 
 // Whether each block is found in the store.
@@ -73,14 +73,8 @@ pub fn are_found(blocks: &AreaStore, store: &[u8]) -> bool {
     (0..blocks.n).all(|id| get(store, blocks.n, id) == Some(block_at(blocks.area, STRIDE * id)))
 }
 
-// The `len` bytes from PLACE on, if all others are as they were.
-fn framed(area: &[u8], len: usize) -> Option<&[u8]> {
-    let (before, rest) = area.split_at_checked(PLACE)?;
-    let store = front(rest, len, MARK)?;
-    before.iter().all(|byte| *byte == MARK).then_some(store)
-}
-
-// The store in these bytes, if it has records for n blocks.
+// The store in these bytes, if it has records for n blocks. Bytes and count stay two, here and below, as a line gives them: each
+// question opens them anew.
 fn open(store: &[u8], n: usize) -> Option<BlockAddrStore<'_>> {
     if !(1..=MAX_BLOCKS).contains(&n) {
         return None;

@@ -3,6 +3,7 @@
 #![tactic(auto)]
 
 pub mod area;
+pub mod draws;
 pub mod driver;
 pub mod tally;
 pub mod told;
@@ -21,7 +22,8 @@ pub struct Span {
 }
 
 // What a line holds, in the order of its tokens: its numbers, and the bytes of its byte strings with the places of each, since
-// they lie in lent areas, so that reading a line can't run out of memory.
+// they lie in lent areas, so that reading a line can't run out of memory. Most functions of the programs take its numbers and strings
+// one by one, and so name what their kind of line holds.
 #[derive(Clone, Copy, Debug)]
 pub struct Case<'a> {
     pub kind: u8,
@@ -57,25 +59,6 @@ impl<'a> Case<'a> {
             .and_then(|span| self.bytes.get(span.from..span.end))
             .unwrap_or(&[])
     }
-
-    // Whether it holds no more than so many numbers, byte strings, and bytes of these.
-    pub fn is_within(self, numbers: usize, strings: usize, bytes: usize) -> bool
-        ensures { result ≡ true → (length self.entry.numbers.now ≤ numbers)
-            × (length self.entry.spans.now ≤ strings) × (length self.entry.bytes.now ≤ bytes) }
-    {
-        self.numbers.len() <= numbers && self.spans.len() <= strings && self.bytes.len() <= bytes
-    }
-}
-
-// The value of a lower-case hex digit. std's to_digit and from_str_radix take upper case, too.
-fn hex_digit(byte: u8) -> Option<u8>
-    ensures { IfSome result (λ digit. digit < 16) }
-{
-    match byte {
-        b'0'..=b'9' => Some(byte - b'0'),
-        b'a'..=b'f' => Some(byte - b'a' + 10),
-        _ => None,
-    }
 }
 
 // The decimal number that a token spells, if it is one of at most 2^64 - 1.
@@ -88,17 +71,16 @@ fn decimal(token: &[u8]) -> Option<u64> {
 }
 
 // Puts the bytes that hex digits spell, two each, to the front of the area. How many, if they are digits and have room.
-fn hex(digits: &[u8], area: &mut [u8]) -> Option<usize>
+fn put_bytes(digits: &[u8], area: &mut [u8]) -> Option<usize>
     ensures { (length area.new ≡ length area.old) × IfSome result (λ n. n ≤ length area.new) }
 {
-    let (pairs, []) = digits.as_chunks::<2>() else {
+    // The crate hex takes upper case, too.
+    if digits.iter().any(|byte| byte.is_ascii_uppercase()) {
         return None;
-    };
-    let front = area.get_mut(..pairs.len())?;
-    for (byte, [high, low]) in front.iter_mut().zip(pairs) {
-        *byte = 16 * hex_digit(*high)? + hex_digit(*low)?;
     }
-    Some(pairs.len())
+    let len = digits.len() / 2;
+    hex::decode_to_slice(digits, area.get_mut(..len)?).ok()?;
+    Some(len)
 }
 
 // Reads a line, with or without the byte that ends it. Its numbers go to the front of `numbers`, the bytes of its byte strings and
@@ -164,7 +146,7 @@ fn take_tokens(
         match token.strip_prefix(b"x") {
             Some(digits) => {
                 let from = held.bytes;
-                held.bytes += hex(digits, &mut bytes[from..])?;
+                held.bytes += put_bytes(digits, &mut bytes[from..])?;
                 *spans.get_mut(held.strings)? = Span {
                     from,
                     end: held.bytes,

@@ -17,6 +17,7 @@ fn are(given: &[u64], no: u32, others: &[u64]) -> bool
 pub fn is_told<const N: usize>(given: &[u64], answer: Result<[u64; N], Refusal>) -> bool
     ensures { (result ≡ true) ↔ (given.now ≡ told N answer.entry) }
 {
+    // A match: map_or_else would take two closures for these two lines.
     match answer {
         Ok(numbers) => are(given, 0, &numbers),
         Err(refusal) => are(given, u32::from(refusal), &[0; N]),
