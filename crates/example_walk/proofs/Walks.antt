@@ -145,7 +145,8 @@ module _ {t key : List ℕ} {n i s : ℕ} (z : Over t key n i s) where
       place = omega arith;
       state = ap (λ (x : ℕ). next t x (get_or key i 0)) z.state ∙ sym (run_more t 0 key i h);
       small = wf.closed s (get_or key i 0) z.small hk;
-      below = rw (behind_more key i h) (≼_trans (take i key ++ (get_or key i 0 ∷ (256 ∷ []))) (take i key ++ (256 ∷ [])) (take n key ++ (256 ∷ []))
+      below = rw (behind_more key i h) (≼_trans (take i key ++ (get_or key i 0 ∷ (256 ∷ []))) (take i key ++ (256 ∷ []))
+          (take n key ++ (256 ∷ []))
           (less-asym (take i key ++ (get_or key i 0 ∷ (256 ∷ []))) (take i key ++ (256 ∷ []))
           (≺-behind (take i key) (get_or key i 0 ∷ (256 ∷ [])) (256 ∷ []) (≺-lower (get_or key i 0) 256 (256 ∷ []) [] hk)))
           z.below);
