@@ -186,7 +186,7 @@ impl<'a> Column<'a> {
     }
 
     // The largest |v - slope × i|. Not inlined, so that its loop has the registers. The larger less the smaller: of abs_diff's two
-    // differences the compiler makes sums that take a third more time a value.
+    // differences the compiler makes sums that take three tenths more time a value.
     #[inline(never)]
     pub fn max_derivation(&self, slope: u32) -> u64
         ensures { result ≡ max_derivation slope 1 (values self.now) }
