@@ -9,7 +9,7 @@ use lib.Seq.{sets}
 use borrow.Rule.Slice.PartMut.{put_mid}
 use Rattle.serialize.specs.Digits.{le_bytes}
 use Rattle.serialize.proofs.Digits.{length-digits_of}
-use Rattle.serialize.proofs.Stores.{sets-append, sets-in-part, copied, copied-in-part}
+use Rattle.serialize.proofs.Stores.{sets-append, sets-in-part, copied-in-part}
 pub use Rattle.keys.proofs.Shorten.{length_rest}
 use Rattle.directory.specs.Directory.{pairs, key_bytes, directory_bytes}
 use Rattle.directory.specs.Keys.{length_at, key_at, keys_at}

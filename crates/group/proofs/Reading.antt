@@ -1,6 +1,6 @@
 -- Laws of a group read: row 15 as plain facts, and a value in range as a sum.
-use mathlib.Core.Path.{◌≡◌, refl, sym, ap₂}
-use mathlib.Core.Bool.{Bool, true, false, ◌||◌}
+use mathlib.Core.Path.{◌≡◌, refl, ap₂}
+use mathlib.Core.Bool.{false, ◌||◌}
 use Prim.Native.Nat.{zero, ℕ, suc, ◌+◌, ◌-◌, ◌*◌, ◌/◌, ◌%◌, ◌^◌, ◌≤◌, ◌<◌}
 use native.Mathlib.Nat.{mod-lt, lt_of_lt_of_le, lt_of_not-le, le_of_suc-le-suc}
 use native.Mathlib.Numerals.{sub-one}
