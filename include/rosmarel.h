@@ -29,7 +29,7 @@ extern "C" {
 #endif
 
 /* The interface that these declarations are of: rosmarel_interface() of an archive that fits them. */
-#define ROSMAREL_INTERFACE 3
+#define ROSMAREL_INTERFACE 4
 
 /* The most keys of a batch, and the entry of a key that has no block. */
 #define ROSMAREL_MAX_BATCH_KEYS 64
@@ -44,9 +44,9 @@ typedef struct rosmarel_block_addr {
 
 /*
  * What the calls return: the first row that is hit, in the order of their numbers but for three places. Lookups try 20
- * before 17, 18 and 19. A batch tries 20 on the record, then 26, then 20 on what its searches read. Opening tries 10 for
- * a file under 8 bytes, then 11, then the rest of 10: a directory length of 0 is 11 in any file of 8 bytes or more.
- * The check has opening's rows, in opening's order, before its own 27.
+ * before 17, 18, 19 and 29. A batch tries 20 on the record, then 26, then 20 on what its searches read. Opening tries 10
+ * for a file under 8 bytes, then 11, then the rest of 10: a directory length of 0 is 11 in any file of 8 bytes or more.
+ * The check has opening's rows 10 to 16, in opening's order, before its own 27; it never has 28.
  */
 enum rosmarel_no {
     ROSMAREL_OK = 0,
@@ -76,7 +76,9 @@ enum rosmarel_no {
     ROSMAREL_ROOM = 24,          /* list: under n bytes; example: under the longer key + 64 (an absent start is none) */
     ROSMAREL_NO_EXAMPLE = 25,    /* example: no accepted string in the interval */
     ROSMAREL_KEY_LIST = 26,      /* batch: half a pair, over 64 keys, one beyond the bytes, a falling offset, few ids */
-    ROSMAREL_NOT_CANONICAL = 27  /* check: an index that opens, but isn't the one that finish makes of what it holds */
+    ROSMAREL_NOT_CANONICAL = 27, /* check: an index that opens, but isn't the one that finish makes of what it holds */
+    ROSMAREL_TERMS = 28,         /* open: the number of terms isn't above the last block's first ordinal */
+    ROSMAREL_NO_TERM = 29        /* by ordinal: not below the number of terms */
 };
 
 /* The number of the archive's interface, one more where calls are added or changed, or the opened record is. */
@@ -116,36 +118,54 @@ uint64_t rosmarel_common_prefix_len(const uint8_t *left, size_t left_len, const 
 
 /*
  * Opening and lookups. An index is opened once; the opened record is n, then offset and length in the index of the
- * directory, the group records and the address bytes. A lookup over bytes and a record that don't come from one
- * successful opening is safe: it answers an id below the record's n with an address in range, or its own number or 20;
- * a batch has such ids or ROSMAREL_NO_ID. Where they do come from one opening no lookup answers 20.
+ * directory, the group records and the address bytes, and as word 7 the number of terms. A lookup over bytes and a record
+ * that don't come from one successful opening is safe: it answers an id below the record's n with an address in range, or
+ * one of its own numbers or 20; a batch has such ids or ROSMAREL_NO_ID. Where they do come from one opening no lookup
+ * answers 20. The number of terms counts in the lookup by ordinal alone.
  */
 
 /* Opens the bytes of an index that anyone may have written. They have no magic number and no checksum: opening shows
-   that they keep the rules, not that they are the ones that you wrote. */
-uint32_t rosmarel_open(const uint8_t *index, size_t index_len, uint64_t opened[7]);
+   that they keep the rules, not that they are the ones that you wrote. terms is the number of terms in the key file, which
+   the index doesn't hold: an ordinal at or above it has no block. 28, after 10 to 16, where it isn't above the last block's
+   first ordinal; it has no upper limit.
+
+   Where nobody knows it, take the least that opens, the last block's first ordinal + 1:
+
+       uint64_t opened[8], start, end, first_ordinal;
+       uint32_t no = rosmarel_open(UINT64_MAX, index, index_len, opened);
+       if (no == ROSMAREL_OK) {
+           rosmarel_get_block(index, index_len, opened, opened[0] - 1, &start, &end, &first_ordinal);
+           opened[7] = first_ordinal + 1;
+       }
+
+   This no is never 28, since first ordinals lie below 2^48, and opened is the record that opening again with
+   first_ordinal + 1 gives. Of the last block's ordinals its first alone is found then. */
+uint32_t rosmarel_open(uint64_t terms, const uint8_t *index, size_t index_len, uint64_t opened[8]);
 
 /* Whether an index is canonical: byte for byte the one that rosmarel_finish makes of the blocks and separators read in it.
    0 where it is; 10 to 16 as rosmarel_open says them; 27 where it opens but has gaps between groups, wider fields than
    needed, other slopes, padding that isn't 0, or the like. Two canonical files of one list are equal, and whatever
-   rosmarel_finish wrote of two blocks or more is canonical. It needs no opened record and writes nothing. */
+   rosmarel_finish wrote of two blocks or more is canonical. It needs no opened record and no number of terms, and writes
+   nothing. */
 uint32_t rosmarel_check_canonical(const uint8_t *index, size_t index_len);
 
 /* The address of block id; 17 where id isn't below n. */
-uint32_t rosmarel_get_block(const uint8_t *index, size_t index_len, const uint64_t opened[7], uint64_t id,
+uint32_t rosmarel_get_block(const uint8_t *index, size_t index_len, const uint64_t opened[8], uint64_t id,
                             uint64_t *start, uint64_t *end, uint64_t *first_ordinal);
 
-/* The last block whose first ordinal isn't above ord, and its address; 18 where ord is below the first block's. */
-uint32_t rosmarel_locate_with_ord(const uint8_t *index, size_t index_len, const uint64_t opened[7], uint64_t ord,
+/* The last block whose first ordinal isn't above ord, and its address; 18 where ord is below the first block's, 29 where
+   it isn't below the number of terms. Whatever bytes and record are, a block is found only for an ord below opened[7], and
+   18 comes before 29: an ord below the first ordinal in the first group record that the record names never gets 29. */
+uint32_t rosmarel_locate_with_ord(const uint8_t *index, size_t index_len, const uint64_t opened[8], uint64_t ord,
                                   uint64_t *id, uint64_t *start, uint64_t *end, uint64_t *first_ordinal);
 
 /* The first block with a separator at or above key, of any length; 19 where all are below it. It is the only block that
    can hold the key. */
-uint32_t rosmarel_locate_with_key(const uint8_t *index, size_t index_len, const uint64_t opened[7],
+uint32_t rosmarel_locate_with_key(const uint8_t *index, size_t index_len, const uint64_t opened[8],
                                   const uint8_t *key, size_t key_len, uint64_t *id);
 
 /* The same with the block's address. */
-uint32_t rosmarel_get_block_with_key(const uint8_t *index, size_t index_len, const uint64_t opened[7],
+uint32_t rosmarel_get_block_with_key(const uint8_t *index, size_t index_len, const uint64_t opened[8],
                                      const uint8_t *key, size_t key_len, uint64_t *id, uint64_t *start,
                                      uint64_t *end, uint64_t *first_ordinal);
 
@@ -159,13 +179,13 @@ uint32_t rosmarel_get_block_with_key(const uint8_t *index, size_t index_len, con
        rosmarel_locate_with_keys(index, index_len, opened, pairs, 6, (const uint8_t *)"ebbg", 4, ids, 3);
 
    asks for e, bb and g, and ids is 2, 1 and ROSMAREL_NO_ID. */
-uint32_t rosmarel_locate_with_keys(const uint8_t *index, size_t index_len, const uint64_t opened[7],
+uint32_t rosmarel_locate_with_keys(const uint8_t *index, size_t index_len, const uint64_t opened[8],
                                    const uint64_t *pairs, size_t pairs_len, const uint8_t *keys, size_t keys_len,
                                    uint64_t *ids, size_t ids_len);
 
 /* Where the separator of block id stands in the index. A miss (id not below n, or a hit on 20) is 0 and 0; an empty
    separator has an offset above 0. */
-void rosmarel_separator(const uint8_t *index, size_t index_len, const uint64_t opened[7], uint64_t id,
+void rosmarel_separator(const uint8_t *index, size_t index_len, const uint64_t opened[8], uint64_t id,
                         uint64_t *offset, uint64_t *len);
 
 /*
@@ -179,7 +199,7 @@ void rosmarel_separator(const uint8_t *index, size_t index_len, const uint64_t o
 
 /* Writes a mark for each of the n blocks, 1 where the automaton accepts some string of its interval, else 0, to the
    front of marks; *count is the number of ones. */
-uint32_t rosmarel_list(const uint8_t *index, size_t index_len, const uint64_t opened[7], const uint8_t *automaton,
+uint32_t rosmarel_list(const uint8_t *index, size_t index_len, const uint64_t opened[8], const uint8_t *automaton,
                        size_t automaton_len, uint8_t *marks, size_t marks_len, uint64_t *count);
 
 /* *matches is 1 where an accepted string is above start and not above end, else 0. */

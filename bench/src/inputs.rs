@@ -210,6 +210,9 @@ pub fn areas(keys: &[Vec<u8>], blocks: &[BlockAddr]) -> (Vec<u64>, Vec<u8>) {
     (numbers, bytes)
 }
 
+/// The terms in the last block.
+const LAST_TERMS: u64 = 100;
+
 /// An index, and its record after opening.
 pub struct Input {
     pub n: usize,
@@ -227,7 +230,8 @@ impl Input {
         let blocks = Steps::Random.blocks(n);
         let mut index = Vec::new();
         rust_builder(&keys, &blocks).serialize(&mut index);
-        let opened = ffi::open(&index).expect("an index of the Rust opens");
+        let terms = blocks[n - 1].first_ordinal + LAST_TERMS;
+        let opened = ffi::open(terms, &index).expect("an index of the Rust opens");
         Input {
             n,
             kind,
@@ -236,5 +240,15 @@ impl Input {
             index,
             opened,
         }
+    }
+
+    /// The number of terms that the record has.
+    pub fn terms(&self) -> u64 {
+        self.opened[7]
+    }
+
+    /// The least number of terms that the index opens with.
+    pub fn least_terms(&self) -> u64 {
+        self.blocks[self.n - 1].first_ordinal + 1
     }
 }

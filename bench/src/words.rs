@@ -42,11 +42,13 @@ pub const METHOD: &str = "\
 - Shorten: 256 pairs of neighbours, spread over the index; each lower key is the only one of its builder. Builders are set back
   between rounds, outside the time.
 - Opening: the plain pass sums bytes in 32-bit numbers, which the compiler vectorises; a sum in 64-bit numbers it leaves scalar, and
-  that one isn't the bar. The bar is for long keys; short ones are shown without.
+  that one isn't the bar. The bar is for long keys; short ones are shown without. The number of terms is the least that opens, one
+  above the last block's first ordinal.
 - Check canonical: the same indexes as for opening, all of them canonical, so that every group is looked at. The other side opens the
   index and finishes its blocks and keys into a buffer that is there, three times each.
-- Lookups: 4,096 questions made beforehand, spread over the whole index at random. Ids are all there; ordinals reach from 0 to 99
-  after the last block's first; of the keys half are separators and half are a separator and one more byte, 00.
+- Lookups: 4,096 questions made beforehand, spread over the whole index at random. Ids are all there; so are ordinals, from 0 to 99
+  after the last block's first, which is the last below the number of terms; of the keys half are separators and half are a
+  separator and one more byte, 00.
 - Locate 64 keys: the same 4,096 keys in 64 lists. Areas and pairs are filled beforehand, each key's bytes right after those of the
   key before it; ids go into an area that is there. A call is 64 keys on every side.
 - Listing: equal work on both sides, once as marks alone and once with the address of each marked block. Inside the time the Rust's

@@ -92,10 +92,11 @@ static void spoil(const uint64_t *opened, const uint64_t *pairs, size_t count, c
     if (fault("batch_last_of_64") && count == MOST_KEYS) ids[63] = ids[62];
 }
 
-uint32_t rosmarel_locate_with_keys(const uint8_t *index, size_t index_len, const uint64_t opened[7], const uint64_t *pairs,
+uint32_t rosmarel_locate_with_keys(const uint8_t *index, size_t index_len, const uint64_t opened[8], const uint64_t *pairs,
                                    size_t pairs_len, const uint8_t *keys, size_t keys_len, uint64_t *ids, size_t ids_len) {
     size_t count = pairs_len / 2;
-    uint64_t before = ids_len > 0 ? ids[0] : 0, own[7];
+    uint64_t before = ids_len > 0 ? ids[0] : 0;
+    if (fault("batch_terms_20") && few_terms(opened)) return 20;
     bool unfit = record_bad(opened, index_len), bad = list_bad(pairs, pairs_len, keys_len, ids_len);
     if (!unfit && !bad && refuses(pairs, pairs_len, keys_len, ids_len)) return 26;
     if (!unfit && bad && takes(pairs, pairs_len, keys_len, ids_len))
@@ -111,13 +112,12 @@ uint32_t rosmarel_locate_with_keys(const uint8_t *index, size_t index_len, const
     if (fault("batch_26_first") && no == 20 && bad) no = 26;
     if (fault("batch_other_row") && no == 26) no = 24;
     if (fault("batch_clears_rest") && no == 0 && ids_len > count) ids[count] = UINT64_MAX;
-    if (fault("batch_free_id") && no == 0 && count > 0 && (right_open(index, index_len, own) || memcmp(own, opened, sizeof own)))
-        ids[count - 1] = opened[0];
+    if (fault("batch_free_id") && no == 0 && count > 0 && !own_record(index, index_len, opened)) ids[count - 1] = opened[0];
     if (fault("batch_changes_pairs") && no == 0 && count > 0) ((uint64_t *)pairs)[0] ^= 1;
     if (fault("batch_changes_keys") && no == 0 && keys_len > 0) ((uint8_t *)keys)[keys_len - 1] ^= 1;
     if (fault("batch_writes_before_ids") && no == 0) ids[-1] = 0;
     if (fault("batch_reads_after_index")) touch(index + index_len);
-    if (fault("batch_reads_after_record")) touch(opened + 7);
+    if (fault("batch_reads_after_record")) touch(opened + OPENED_LEN);
     if (fault("batch_reads_after_pairs")) touch(pairs + pairs_len);
     if (fault("batch_reads_after_keys")) touch(keys + keys_len);
     if (fault("batch_reads_after_ids")) touch(ids + ids_len);

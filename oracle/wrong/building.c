@@ -1,10 +1,18 @@
 /* add, shorten, finish, finish_len, store and common_prefix_len, with faults. */
 #include "wrong.h"
 
+static const char *chosen(void) {
+    static const char *name;
+    if (!name) name = getenv("FAULT") ? getenv("FAULT") : "";
+    return name;
+}
+
 bool fault(const char *name) {
-    static const char *chosen;
-    if (!chosen) chosen = getenv("FAULT") ? getenv("FAULT") : "";
-    return strcmp(chosen, name) == 0;
+    return strcmp(chosen(), name) == 0;
+}
+
+bool fault_begins(const char *front) {
+    return strncmp(chosen(), front, strlen(front)) == 0;
 }
 
 uint32_t rosmarel_add(uint64_t *n, uint64_t *blocks, size_t blocks_len, uint8_t *keys, size_t keys_len,

@@ -74,9 +74,9 @@ static bool own_checks(void) {
 }
 
 uint32_t rosmarel_check_canonical(const uint8_t *index, size_t index_len) {
-    uint64_t opened[7];
+    uint64_t opened[OPENED_LEN];
     uint32_t no = right_check_canonical(index, index_len);
-    bool opens = right_open(index, index_len, opened) == 0;
+    bool opens = right_open(UINT64_MAX, index, index_len, opened) == 0;
     if (opens && own_checks()) no = own_check(index, opened) ? 0 : 27;
     if (fault("canonical_lengths_only") && opens) no = same_length(index, opened) ? 0 : 27;
     if (fault("canonical_always_0")) no = 0;

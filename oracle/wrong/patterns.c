@@ -28,11 +28,12 @@ static void lose_long(const uint8_t *index, const uint64_t *opened, uint8_t *mar
     }
 }
 
-uint32_t rosmarel_list(const uint8_t *index, size_t index_len, const uint64_t opened[7], const uint8_t *automaton,
+uint32_t rosmarel_list(const uint8_t *index, size_t index_len, const uint64_t opened[8], const uint8_t *automaton,
                        size_t automaton_len, uint8_t *marks, size_t marks_len, uint64_t *count) {
-    uint64_t before = *count, own[7];
+    uint64_t before = *count;
+    if (fault("list_terms_20") && few_terms(opened)) return *count = 0, 20;
     uint32_t no = right_list(index, index_len, opened, automaton, automaton_len, marks, marks_len, count);
-    bool ours = no == 0 && right_open(index, index_len, own) == 0 && memcmp(own, opened, sizeof own) == 0;
+    bool ours = no == 0 && own_record(index, index_len, opened);
     if (fault("list_last_mark") && no == 0 && opened[0] > 200) marks[opened[0] - 1] ^= 1;
     if (fault("list_count") && no == 0) ++*count;
     if (fault("list_20_writes") && no == 20 && marks_len > 0) marks[0] = 0;

@@ -1,11 +1,16 @@
 /* open, the lookups and separator, with faults. */
 #include "wrong.h"
 
+bool own_record(const uint8_t *index, size_t index_len, const uint64_t *opened) {
+    uint64_t own[OPENED_LEN];
+    return right_open(UINT64_MAX, index, index_len, own) == 0 && memcmp(own, opened, TERMS * sizeof *own) == 0;
+}
+
 /* The record that a file would have. */
-static void fill(const uint8_t *index, size_t len, uint64_t opened[7]) {
+static void fill(uint64_t terms, const uint8_t *index, size_t len, uint64_t opened[8]) {
     uint64_t directory = number(index + len - 8, 8), records = number(index + directory, 8);
-    uint64_t places[7] = {number(index, 4), 0, directory, directory + 8, records, directory + 8 + records,
-                          len - 8 - directory - 8 - records};
+    uint64_t places[OPENED_LEN] = {number(index, 4), 0, directory, directory + 8, records, directory + 8 + records,
+                                   len - 8 - directory - 8 - records, terms};
     memcpy(opened, places, sizeof places);
 }
 
@@ -55,21 +60,59 @@ static bool blocks_before_last(const uint8_t *index, const uint64_t *opened, uin
 
 /* A large file that breaks this row at its end alone is taken. */
 static bool missed_late(const uint8_t *index, size_t len, uint32_t no) {
-    uint64_t opened[7], n = number(index, 4), groups = (n + GROUP_LEN - 1) / GROUP_LEN;
+    uint64_t opened[OPENED_LEN], n = number(index, 4), groups = (n + GROUP_LEN - 1) / GROUP_LEN;
     if (no == 12) return fault("open_late_12") && n > 1 && n <= 65536 && 4 + 8 * n < len && pairs_before_last(index, n);
     if (no < 13) return false;
-    fill(index, len, opened);
+    fill(0, index, len, opened);
     if (no == 13) return fault("open_late_13") && keys_before_last(index, opened);
     if (no == 14) return fault("open_late_14") && opened[4] == GROUP_RECORD * groups + 1;
     if (no == 15) return fault("open_late_15") && groups_before_last(index, opened, groups);
     return fault("open_late_16") && blocks_before_last(index, opened, groups);
 }
 
-uint32_t rosmarel_open(const uint8_t *index, size_t index_len, uint64_t opened[7]) {
-    uint64_t before[7];
+/* Faults with the number of terms, in a file that opens with some: the number in place of the right one. */
+static uint32_t spoil_terms(uint64_t terms, const uint8_t *index, const uint64_t *own, uint32_t no) {
+    uint64_t last = own_block(index, own, own[0] - 1).first_ordinal, group = (own[0] - 1) / GROUP_LEN * GROUP_LEN;
+    if (fault("open_terms_ignored")) return 0;
+    if (fault("open_28_last_plus_1")) return terms <= last + 1 ? 28 : 0;
+    if (fault("open_28_last_taken")) return terms < last ? 28 : 0;
+    if (fault("open_28_group_first")) return terms <= own_block(index, own, group).first_ordinal ? 28 : 0;
+    if (fault("open_28_first_ordinal")) return terms <= own_block(index, own, 0).first_ordinal ? 28 : 0;
+    if (fault("open_28_last_start")) return terms <= own_block(index, own, own[0] - 1).start ? 28 : 0;
+    if (fault("open_28_count")) return terms <= own[0] ? 28 : 0;
+    if (fault("open_28_limit") && terms > LIMIT) return 28;
+    if (fault("open_28_signed")) return (int64_t)terms <= (int64_t)last ? 28 : 0;
+    if (fault("open_28_32_bits")) return (uint32_t)terms <= (uint32_t)last ? 28 : 0;
+    return no;
+}
+
+/* Faults with the number of terms, in the number and in the record's last word. */
+static uint32_t wrong_terms(uint64_t terms, const uint8_t *index, size_t index_len, uint64_t *opened, uint32_t no, uint64_t before) {
+    uint64_t own[OPENED_LEN];
+    if ((fault_begins("open_28_") || fault_begins("open_terms_")) && right_open(UINT64_MAX, index, index_len, own) == 0) {
+        no = spoil_terms(terms, index, own, no);
+        if (no == 0) fill(terms, index, index_len, opened);
+        if (no != 0) memset(opened, 0, sizeof own);
+        if (fault("open_terms_not_carried") && no == 0) opened[TERMS] = before;
+        if (fault("open_terms_least") && no == 0) opened[TERMS] = own_block(index, own, own[0] - 1).first_ordinal + 1;
+        if (fault("open_terms_32_bits")) opened[TERMS] = (uint32_t)opened[TERMS];
+        if (fault("open_28_returns") && no == 28) fill(terms, index, index_len, opened);
+        if (fault("open_28_terms_kept") && no == 28) opened[TERMS] = before;
+        if (fault("open_28_other_row") && no == 28) no = 16;
+    }
+    if (fault("open_28_before_16") && no == 16 && terms == 0) no = 28;
+    if (fault("open_28_before_15") && no == 15 && terms == 0) no = 28;
+    if (fault("open_28_before_12") && no == 12 && terms == 0) no = 28;
+    if (fault("open_28_before_all") && no != 0 && terms == 0) no = 28;
+    if (fault("open_refused_terms") && no != 0) opened[TERMS] = terms;
+    return no;
+}
+
+uint32_t rosmarel_open(uint64_t terms, const uint8_t *index, size_t index_len, uint64_t opened[8]) {
+    uint64_t before[OPENED_LEN];
     memcpy(before, opened, sizeof before);
-    uint32_t no = right_open(index, index_len, opened);
-    if (index_len >= LARGE && no >= 12 && missed_late(index, index_len, no)) fill(index, index_len, opened), no = 0;
+    uint32_t no = right_open(terms, index, index_len, opened);
+    if (index_len >= LARGE && no >= 12 && no <= 16 && missed_late(index, index_len, no)) fill(terms, index, index_len, opened), no = 0;
     if (fault("open_late_10") && no == 10 && index_len >= LARGE && number(index + index_len - 8, 8) == index_len - 15) no = 14;
     if (fault("open_late_11") && no == 11 && index_len >= LARGE) no = 12;
     if (fault("open_other_row") && no == 16) no = 15;
@@ -81,13 +124,14 @@ uint32_t rosmarel_open(const uint8_t *index, size_t index_len, uint64_t opened[7
     if (fault("open_writes_inside") && no == 13) ((uint8_t *)index)[index_len - 1] ^= 1;
     if (fault("open_reads_after_index")) touch(index + index_len);
     if (fault("open_reads_before_index") && index_len > 8) touch(index - 1);
-    if (fault("open_writes_after_record")) opened[7] = 0;
-    return no;
+    if (fault("open_writes_after_record")) opened[OPENED_LEN] = 0;
+    return wrong_terms(terms, index, index_len, opened, no, before[TERMS]);
 }
 
-uint32_t rosmarel_get_block(const uint8_t *index, size_t index_len, const uint64_t opened[7], uint64_t id,
+uint32_t rosmarel_get_block(const uint8_t *index, size_t index_len, const uint64_t opened[8], uint64_t id,
                             uint64_t *start, uint64_t *end, uint64_t *first_ordinal) {
-    uint64_t before = *end, own[7];
+    uint64_t before = *end;
+    if (fault("id_terms_20") && few_terms(opened)) return *start = *end = *first_ordinal = 0, 20;
     uint32_t no = right_get_block(index, index_len, opened, id, start, end, first_ordinal);
     if (fault("id_last_end") && no == 0 && id == 127) ++*end;
     if (fault("id_other_row") && no == 17 && id == opened[0] + 1) no = 20;
@@ -99,10 +143,10 @@ uint32_t rosmarel_get_block(const uint8_t *index, size_t index_len, const uint64
     if (fault("id_wrong_group") && no == 0 && id >= 32768)
         right_get_block(index, index_len, opened, id - GROUP_LEN, start, end, first_ordinal);
     if (fault("id_reads_after_index")) touch(index + index_len);
-    if (fault("id_reads_after_record")) touch(opened + 7);
+    if (fault("id_reads_after_record")) touch(opened + OPENED_LEN);
     bool swapped = fault("id_one_order");
     bool own_reads = swapped || fault("own_reader") || fault("id_place_13_bits");
-    if (own_reads && no == 0 && right_open(index, index_len, own) == 0 && !memcmp(own, opened, sizeof own)) {
+    if (own_reads && no == 0 && own_record(index, index_len, opened)) {
         const uint8_t *record = index + opened[3] + GROUP_RECORD * (id / GROUP_LEN);
         /* a group of one block has no ordinal field to be taken for the other */
         if (swapped && number(record + 34, 2) == 0) return no;
@@ -112,10 +156,41 @@ uint32_t rosmarel_get_block(const uint8_t *index, size_t index_len, const uint64
     return no;
 }
 
-uint32_t rosmarel_locate_with_ord(const uint8_t *index, size_t index_len, const uint64_t opened[7], uint64_t ord,
+/* Whether an ordinal that isn't below the number of terms is looked for all the same. */
+static bool looked_for(const uint8_t *index, size_t index_len, const uint64_t *opened, uint64_t ord) {
+    if (fault("ord_terms_ignored")) return true;
+    if (fault("ord_found_at_terms")) return ord == opened[TERMS];
+    return fault("ord_free_above_terms") && !own_record(index, index_len, opened);
+}
+
+/* Whether an ordinal that a block was found for gets 29. */
+static bool found_as_29(const uint64_t *opened, uint64_t ord, uint64_t id, uint64_t first_ordinal) {
+    if (fault("ord_29_last_term") && ord + 1 == opened[TERMS]) return true;
+    return fault("ord_29_from_last") && id + 1 == opened[0] && ord > first_ordinal;
+}
+
+/* Another row where a lookup with so many terms is refused. */
+static uint32_t other_refusal(const uint8_t *index, size_t index_len, const uint64_t *opened, uint64_t ord, uint32_t no) {
+    bool above = ord >= opened[TERMS];
+    if (fault("ord_29_where_18") && no == 18 && above) return 29;
+    if (fault("ord_free_29_where_18") && no == 18 && above && !own_record(index, index_len, opened)) return 29;
+    if (fault("ord_29_before_20") && no == 20 && above) return 29;
+    if (fault("ord_29_as_18") && no == 29) return 18;
+    if (fault("ord_29_as_20") && no == 29) return 20;
+    return no;
+}
+
+uint32_t rosmarel_locate_with_ord(const uint8_t *index, size_t index_len, const uint64_t opened[8], uint64_t ord,
                                   uint64_t *id, uint64_t *start, uint64_t *end, uint64_t *first_ordinal) {
-    uint64_t before = *id;
+    uint64_t before = *id, any[OPENED_LEN];
+    if (fault("ord_terms_20") && few_terms(opened)) return *id = *start = *end = *first_ordinal = 0, 20;
     uint32_t no = right_locate_with_ord(index, index_len, opened, ord, id, start, end, first_ordinal);
+    memcpy(any, opened, sizeof any), any[TERMS] = UINT64_MAX;
+    if (no == 29 && looked_for(index, index_len, opened, ord))
+        no = right_locate_with_ord(index, index_len, any, ord, id, start, end, first_ordinal);
+    if (no == 0 && found_as_29(opened, ord, *id, *first_ordinal)) no = 29, *id = *start = *end = *first_ordinal = 0;
+    no = other_refusal(index, index_len, opened, ord, no);
+    if (fault("ord_29_kept") && no == 29) *id = before;
     if (fault("ord_group_first") && no == 0 && *id == 128 && ord == *first_ordinal) --*id;
     if (fault("ord_other_row") && no == 18) no = 17;
     if (fault("ord_free_id") && no == 20 && opened[0] == 4) no = 0, *id = 4;
@@ -128,6 +203,7 @@ uint32_t rosmarel_locate_with_ord(const uint8_t *index, size_t index_len, const 
         right_get_block(index, index_len, opened, --*id, start, end, first_ordinal);
     if (fault("ord_last_group") && no == 0 && *id >= 65280) *id -= 1;
     if (fault("ord_reads_after_index")) touch(index + index_len);
+    if (fault("ord_reads_after_record")) touch(opened + OPENED_LEN);
     return no;
 }
 
@@ -144,14 +220,10 @@ static uint64_t by_front(const uint8_t *index, const uint64_t *opened, const uin
     return id;
 }
 
-static bool own_record(const uint8_t *index, size_t index_len, const uint64_t *opened) {
-    uint64_t own[7];
-    return right_open(index, index_len, own) == 0 && memcmp(own, opened, sizeof own) == 0;
-}
-
-uint32_t rosmarel_locate_with_key(const uint8_t *index, size_t index_len, const uint64_t opened[7],
+uint32_t rosmarel_locate_with_key(const uint8_t *index, size_t index_len, const uint64_t opened[8],
                                   const uint8_t *key, size_t key_len, uint64_t *id) {
     uint64_t before = *id;
+    if (fault("key_terms_20") && few_terms(opened)) return *id = 0, 20;
     uint32_t no = right_locate_with_key(index, index_len, opened, key, key_len, id);
     if (fault("key_block_0") && no == 0) *id = 0;
     if (fault("key_other_row") && no == 19) no = 17;
@@ -159,7 +231,7 @@ uint32_t rosmarel_locate_with_key(const uint8_t *index, size_t index_len, const 
     if (fault("key_reads_after_key")) touch(key + key_len);
     if (fault("key_reads_before_key")) touch(key - 1);
     if (fault("key_reads_after_index")) touch(index + index_len);
-    if (fault("key_reads_after_record")) touch(opened + 7);
+    if (fault("key_reads_after_record")) touch(opened + OPENED_LEN);
     if (no != 0 || !(fault("key_equal_next") || fault("key_long_front")) || !own_record(index, index_len, opened)) return no;
     size_t len;
     const uint8_t *separator = own_separator(index, opened, *id, &len);
@@ -169,10 +241,11 @@ uint32_t rosmarel_locate_with_key(const uint8_t *index, size_t index_len, const 
     return no;
 }
 
-uint32_t rosmarel_get_block_with_key(const uint8_t *index, size_t index_len, const uint64_t opened[7],
+uint32_t rosmarel_get_block_with_key(const uint8_t *index, size_t index_len, const uint64_t opened[8],
                                      const uint8_t *key, size_t key_len, uint64_t *id, uint64_t *start,
                                      uint64_t *end, uint64_t *first_ordinal) {
     uint64_t before = *start;
+    if (fault("address_terms_20") && few_terms(opened)) return *id = *start = *end = *first_ordinal = 0, 20;
     uint32_t no = right_get_block_with_key(index, index_len, opened, key, key_len, id, start, end, first_ordinal);
     if (fault("address_ordinal") && no == 0 && *id == 1) ++*first_ordinal;
     if (fault("address_refusal_returns") && no == 19) *id = opened[0];
@@ -183,14 +256,15 @@ uint32_t rosmarel_get_block_with_key(const uint8_t *index, size_t index_len, con
     return no;
 }
 
-void rosmarel_separator(const uint8_t *index, size_t index_len, const uint64_t opened[7], uint64_t id,
+void rosmarel_separator(const uint8_t *index, size_t index_len, const uint64_t opened[8], uint64_t id,
                         uint64_t *offset, uint64_t *len) {
     right_separator(index, index_len, opened, id, offset, len);
+    if (fault("separator_terms_20") && few_terms(opened)) *offset = *len = 0;
     if (fault("separator_miss") && id == opened[0]) *offset = 1;
     if (fault("separator_long") && *offset > 0 && id == 128) *len += 1;
     if (fault("separator_before") && *offset > 0 && id >= 1000) right_separator(index, index_len, opened, id - 1, offset, len);
     if (fault("separator_from_keys") && *offset > 0 && id > 0 && *offset > 4 + 8 * opened[0]) *offset -= 4 + 8 * opened[0];
     if (fault("separator_outside") && *offset > 0 && !own_record(index, index_len, opened)) *len = index_len;
     if (fault("separator_reads_after_index")) touch(index + index_len);
-    if (fault("separator_reads_after_record")) touch(opened + 7);
+    if (fault("separator_reads_after_record")) touch(opened + OPENED_LEN);
 }

@@ -15,15 +15,25 @@
 #define GROUP_LEN 128
 #define GROUP_RECORD 36
 #define STRIDE 5
+/* the record's numbers, and the place of the number of terms among them */
+#define OPENED_LEN 8
+#define TERMS 7
 /* files from here on are large */
 #define LARGE 20000
 
 /* Whether this fault is on. */
 bool fault(const char *name);
+/* Whether a fault is on whose name begins so. */
+bool fault_begins(const char *front);
 
 /* Reads a byte that isn't lent. */
 static inline void touch(const void *at) {
     (void)*(volatile const uint8_t *)at;
+}
+
+/* Whether the record has fewer terms than blocks, which no opening gives. */
+static inline bool few_terms(const uint64_t *opened) {
+    return opened[TERMS] < opened[0];
 }
 
 static inline uint64_t number(const uint8_t *at, int bytes) {
@@ -39,6 +49,8 @@ bool own_writer(void);
 
 /* reader.c: the block by id of a file whose record is its own, with document 01's first error. */
 rosmarel_block_addr own_block(const uint8_t *index, const uint64_t *opened, uint64_t id);
+/* reading.c: whether opening the file gives this record, whatever its number of terms. */
+bool own_record(const uint8_t *index, size_t index_len, const uint64_t *opened);
 /* A separator of such a file. */
 const uint8_t *own_separator(const uint8_t *index, const uint64_t *opened, uint64_t id, size_t *len);
 
@@ -48,7 +60,7 @@ uint32_t right_finish(uint64_t, const uint64_t *, size_t, const uint8_t *, size_
 uint32_t right_finish_len(uint64_t, const uint64_t *, size_t, const uint8_t *, size_t, uint64_t *);
 uint32_t right_store(const rosmarel_block_addr *, size_t, uint8_t *, size_t, uint64_t *);
 uint64_t right_common_prefix_len(const uint8_t *, size_t, const uint8_t *, size_t);
-uint32_t right_open(const uint8_t *, size_t, uint64_t *);
+uint32_t right_open(uint64_t, const uint8_t *, size_t, uint64_t *);
 uint32_t right_check_canonical(const uint8_t *, size_t);
 uint32_t right_get_block(const uint8_t *, size_t, const uint64_t *, uint64_t, uint64_t *, uint64_t *, uint64_t *);
 uint32_t right_locate_with_ord(const uint8_t *, size_t, const uint64_t *, uint64_t, uint64_t *, uint64_t *, uint64_t *, uint64_t *);

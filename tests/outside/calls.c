@@ -223,32 +223,41 @@ static void storing(void) {
 
 /* ---- opening and lookups */
 
-static uint32_t open_part(part index, uint64_t opened[7]) {
-    for (size_t i = 0; i < 7; i++) opened[i] = 77;
-    uint32_t no = rosmarel_open(index.at, index.len, opened);
+static uint32_t open_terms(uint64_t terms, part index, uint64_t opened[8]) {
+    for (size_t i = 0; i < 8; i++) opened[i] = 77;
+    uint32_t no = rosmarel_open(terms, index.at, index.len, opened);
     WANT(stays(index));
-    for (size_t i = 0; i < 7 && no != ROSMAREL_OK; i++) WANT(opened[i] == 0);
+    for (size_t i = 0; i < 8 && no != ROSMAREL_OK; i++) WANT(opened[i] == 0);
+    if (no == ROSMAREL_OK) WANT(opened[7] == terms);
     return no;
 }
 
-/* Opens the worked index with one number put in another's place. */
+/* With more terms than any first ordinal. */
+static uint32_t open_part(part index, uint64_t opened[8]) { return open_terms(UINT64_MAX, index, opened); }
+
+/* Opens the worked index with one number put in another's place; its fault comes before a number of terms that is too low. */
 static uint32_t opened_with(size_t at, uint64_t number, size_t len) {
-    uint64_t opened[7];
+    uint64_t opened[8];
     part index = part_of(worked, sizeof worked);
     put(index, at, number, len);
     uint32_t no = open_part(index, opened);
+    WANT(open_terms(0, index, opened) == no && open_terms(9, index, opened) == no && open_terms(12, index, opened) == no);
     drop(index);
     return no;
 }
 
 static void opening(void) {
-    static const uint64_t parts[7] = {3, 0, 31, 39, 36, 75, 2};
-    uint64_t opened[7];
+    static const uint64_t parts[8] = {3, 0, 31, 39, 36, 75, 2, 12};
+    uint64_t opened[8];
     part index = part_of(worked, sizeof worked);
-    WANT(open_part(index, opened) == ROSMAREL_OK && memcmp(opened, parts, sizeof parts) == 0);
+    WANT(open_terms(12, index, opened) == ROSMAREL_OK && memcmp(opened, parts, sizeof parts) == 0);
+    for (uint64_t terms = 0; terms < 20; terms++)
+        WANT(open_terms(terms, index, opened) == (terms > 9 ? ROSMAREL_OK : ROSMAREL_TERMS));
+    WANT(open_terms(UINT64_C(1) << 55, index, opened) == ROSMAREL_OK && open_part(index, opened) == ROSMAREL_OK);
     for (size_t len = 0; len < sizeof worked; len++) {
         part front = part_of(worked, len), rear = part_of(worked + sizeof worked - len, len);
         WANT(open_part(front, opened) >= ROSMAREL_FOOTER && open_part(rear, opened) >= ROSMAREL_FOOTER);
+        WANT(open_terms(0, front, opened) == open_part(front, opened) && open_terms(0, rear, opened) == open_part(rear, opened));
         drop(front), drop(rear);
     }
     WANT(opened_with(77, UINT64_MAX, 8) == ROSMAREL_FOOTER);
@@ -287,7 +296,7 @@ static uint32_t checked_with_byte(size_t at, uint8_t byte, uint64_t offset) {
     memcpy(bytes + at + 1, worked + at, sizeof worked - at);
     part index = part_of(bytes, sizeof bytes);
     put(index, 39, offset, 8);
-    uint64_t opened[7];
+    uint64_t opened[8];
     WANT(open_part(index, opened) == ROSMAREL_OK);
     uint32_t no = check(index);
     drop(index);
@@ -296,7 +305,7 @@ static uint32_t checked_with_byte(size_t at, uint8_t byte, uint64_t offset) {
 
 static void checking(void) {
     part index = part_of(worked, sizeof worked), nothing = filled(0, 0);
-    uint64_t opened[7];
+    uint64_t opened[8];
     WANT(check(index) == ROSMAREL_OK && check(nothing) == ROSMAREL_FOOTER);
     for (size_t len = 0; len < sizeof worked; len++) {
         part front = part_of(worked, len), rear = part_of(worked + sizeof worked - len, len);
@@ -334,18 +343,18 @@ static bool is_zero(found f) { return f.id == 0 && f.start == 0 && f.end == 0 &&
 
 static const found unset = {77, 77, 77, 77};
 
-static uint32_t by_id(part index, const uint64_t opened[7], uint64_t id, found *f) {
+static uint32_t by_id(part index, const uint64_t opened[8], uint64_t id, found *f) {
     *f = unset;
     f->id = 0;
     return rosmarel_get_block(index.at, index.len, opened, id, &f->start, &f->end, &f->first_ordinal);
 }
 
-static uint32_t by_ordinal(part index, const uint64_t opened[7], uint64_t ord, found *f) {
+static uint32_t by_ordinal(part index, const uint64_t opened[8], uint64_t ord, found *f) {
     *f = unset;
     return rosmarel_locate_with_ord(index.at, index.len, opened, ord, &f->id, &f->start, &f->end, &f->first_ordinal);
 }
 
-static uint32_t by_key(part index, const uint64_t opened[7], const char *text, found *f) {
+static uint32_t by_key(part index, const uint64_t opened[8], const char *text, found *f) {
     part key = part_of(text, strlen(text));
     uint64_t id = 77;
     *f = unset;
@@ -356,22 +365,24 @@ static uint32_t by_key(part index, const uint64_t opened[7], const char *text, f
     return no;
 }
 
-static bool separator_is(part index, const uint64_t opened[7], uint64_t id, uint64_t offset, uint64_t len) {
+static bool separator_is(part index, const uint64_t opened[8], uint64_t id, uint64_t offset, uint64_t len) {
     uint64_t at = 77, long_ = 77;
     rosmarel_separator(index.at, index.len, opened, id, &at, &long_);
     return at == offset && long_ == len;
 }
 
 static void lookups(void) {
-    uint64_t opened[7];
+    uint64_t opened[8];
     found f;
     part index = part_of(worked, sizeof worked);
-    WANT(open_part(index, opened) == ROSMAREL_OK);
+    WANT(open_terms(12, index, opened) == ROSMAREL_OK);
     WANT(by_id(index, opened, 1, &f) == ROSMAREL_OK && f.start == 10 && f.end == 25 && f.first_ordinal == 4);
     WANT(by_id(index, opened, 3, &f) == ROSMAREL_ID && is_zero(f));
     WANT(by_id(index, opened, UINT64_MAX, &f) == ROSMAREL_ID && is_zero(f));
     WANT(by_ordinal(index, opened, 8, &f) == ROSMAREL_OK && is_block(f, 1));
-    WANT(by_ordinal(index, opened, UINT64_MAX, &f) == ROSMAREL_OK && is_block(f, 2));
+    WANT(by_ordinal(index, opened, 11, &f) == ROSMAREL_OK && is_block(f, 2));
+    WANT(by_ordinal(index, opened, 12, &f) == ROSMAREL_NO_TERM && is_zero(f));
+    WANT(by_ordinal(index, opened, UINT64_MAX, &f) == ROSMAREL_NO_TERM && is_zero(f));
     WANT(by_key(index, opened, "", &f) == ROSMAREL_OK && is_block(f, 0));
     WANT(by_key(index, opened, "bb", &f) == ROSMAREL_OK && is_block(f, 1));
     WANT(by_key(index, opened, "f", &f) == ROSMAREL_OK && is_block(f, 2));
@@ -382,10 +393,49 @@ static void lookups(void) {
     drop(index);
 }
 
+/* The example of the header. */
+static void least_terms_example(void) {
+    part lent = part_of(worked, sizeof worked);
+    const uint8_t *index = lent.at;
+    size_t index_len = lent.len;
+    uint64_t same[8];
+
+    uint64_t opened[8], start, end, first_ordinal;
+    uint32_t no = rosmarel_open(UINT64_MAX, index, index_len, opened);
+    if (no == ROSMAREL_OK) {
+        WANT(rosmarel_get_block(index, index_len, opened, opened[0] - 1, &start, &end, &first_ordinal) == ROSMAREL_OK);
+        opened[7] = first_ordinal + 1;
+    }
+    WANT(no == ROSMAREL_OK && opened[7] == 10);
+    WANT(open_terms(10, lent, same) == ROSMAREL_OK && memcmp(opened, same, sizeof same) == 0);
+    drop(lent);
+}
+
+/* Word 7 put in by hand, with the first ordinal 3: a block is found below it alone, and 18 comes before 29. */
+static void terms_by_hand(void) {
+    uint64_t opened[8];
+    found f, same;
+    part index = part_of(worked, sizeof worked);
+    put(index, 55, 3, 8); /* all ordinals are 3 higher: 3, 7 and 12 */
+    WANT(open_part(index, opened) == ROSMAREL_OK);
+    for (uint64_t terms = 0; terms < 30; terms++) {
+        opened[7] = terms;
+        for (uint64_t ord = 0; ord < 40; ord++) {
+            uint32_t no = by_ordinal(index, opened, ord, &f);
+            WANT(no == (ord < 3 ? ROSMAREL_BELOW : ord >= terms ? ROSMAREL_NO_TERM : ROSMAREL_OK));
+            uint64_t id = ord < 7 ? 0 : ord < 12 ? 1 : 2;
+            WANT(no == ROSMAREL_OK ? f.id == id && by_id(index, opened, id, &same) == ROSMAREL_OK && f.start == same.start : is_zero(f));
+        }
+        WANT(by_key(index, opened, "e", &f) == ROSMAREL_OK && f.id == 2 && separator_is(index, opened, 1, 29, 1));
+    }
+    WANT(stays(index));
+    drop(index);
+}
+
 /* ---- batches */
 
 /* The keys are parts of text; words is twice their number. The ids begin as they were kept. */
-static uint32_t by_keys(part index, const uint64_t opened[7], const uint64_t *pairs, size_t words, const char *text, part ids) {
+static uint32_t by_keys(part index, const uint64_t opened[8], const uint64_t *pairs, size_t words, const char *text, part ids) {
     part lent = part_of(pairs, words * sizeof *pairs), keys = part_of(text, strlen(text));
     memcpy(ids.at, ids.kept, ids.len);
     uint32_t no = rosmarel_locate_with_keys(index.at, index.len, opened, numbers(lent), words, keys.at, keys.len, numbers(ids),
@@ -411,8 +461,8 @@ static void batch_example(void) {
     part lent = part_of(worked, sizeof worked);
     const uint8_t *index = lent.at;
     size_t index_len = lent.len;
-    uint64_t opened[7];
-    WANT(rosmarel_open(index, index_len, opened) == ROSMAREL_OK);
+    uint64_t opened[8];
+    WANT(rosmarel_open(12, index, index_len, opened) == ROSMAREL_OK);
 
     const uint64_t pairs[6] = {0, 1, 1, 2, 3, 1};
     uint64_t ids[3];
@@ -423,7 +473,7 @@ static void batch_example(void) {
 
 static void batches(void) {
     const uint64_t most = UINT64_MAX;
-    uint64_t opened[7], pairs[2 * 65] = {0};
+    uint64_t opened[8], pairs[2 * 65] = {0};
     part index = part_of(worked, sizeof worked), nothing = filled(0, 0);
     part ids = filled(0xcc, 4 * 8), full = filled(0xcc, 64 * 8), more = filled(0xcc, 65 * 8);
     WANT(open_part(index, opened) == ROSMAREL_OK);
@@ -456,11 +506,11 @@ static void batches(void) {
 
 /* Records that no opening gave: each lookup refuses them, or answers some block. */
 static void foreign_records(void) {
-    uint64_t opened[7];
+    uint64_t opened[8];
     found f;
     part index = part_of(worked, sizeof worked), nothing = filled(0, 0), ids = filled(0xcc, 8);
     WANT(open_part(index, opened) == ROSMAREL_OK);
-    for (size_t i = 0; i < 7; i++) {
+    for (size_t i = 0; i < 7; i++) { /* word 7 is free */
         uint64_t was = opened[i];
         opened[i] = UINT64_MAX;
         WANT(by_id(index, opened, 0, &f) == ROSMAREL_OPENED && is_zero(f));
@@ -471,7 +521,7 @@ static void foreign_records(void) {
         opened[i] = was;
     }
     WANT(by_id(nothing, opened, 0, &f) == ROSMAREL_OPENED && is_zero(f));
-    put(index, 55, 3, 8); /* the first ordinal is 3 now */
+    put(index, 55, 3, 8); /* all ordinals are 3 higher */
     WANT(open_part(index, opened) == ROSMAREL_OK);
     WANT(by_ordinal(index, opened, 2, &f) == ROSMAREL_BELOW && is_zero(f));
     drop(index), drop(nothing), drop(ids);
@@ -489,7 +539,7 @@ static part one_byte(uint8_t byte) {
     return table;
 }
 
-static uint32_t list(part index, const uint64_t opened[7], part table, part marks, uint64_t *count) {
+static uint32_t list(part index, const uint64_t opened[8], part table, part marks, uint64_t *count) {
     *count = 77;
     uint32_t no = rosmarel_list(index.at, index.len, opened, table.at, table.len, marks.at, marks.len, count);
     WANT(stays(index) && stays(table));
@@ -498,7 +548,7 @@ static uint32_t list(part index, const uint64_t opened[7], part table, part mark
 }
 
 static void listings(void) {
-    uint64_t opened[7], count;
+    uint64_t opened[8], count;
     part index = part_of(worked, sizeof worked), table = one_byte('c'), marks = filled(0xcc, 3), tight = filled(0xcc, 2);
     WANT(open_part(index, opened) == ROSMAREL_OK);
     WANT(list(index, opened, table, tight, &count) == ROSMAREL_ROOM);
@@ -561,7 +611,7 @@ static size_t key_of(size_t i, uint8_t *key) {
 }
 
 /* The keys of 64 blocks from all over the index, in one batch. */
-static void batch_of_groups(part index, const uint64_t opened[7], size_t n) {
+static void batch_of_groups(part index, const uint64_t opened[8], size_t n) {
     uint8_t bytes[64 * 101];
     uint64_t pairs[2 * 64];
     size_t len = 0;
@@ -579,7 +629,7 @@ static void batch_of_groups(part index, const uint64_t opened[7], size_t n) {
 }
 
 /* The same blocks, the fields of the first two groups in each other's place. */
-static void exchanged_groups(part index, const uint64_t opened[7]) {
+static void exchanged_groups(part index, const uint64_t opened[8]) {
     part other = part_of(index.at, index.len);
     const uint8_t *records = index.at + opened[3], *fields = index.at + opened[5];
     size_t first = 0, both = 0;
@@ -588,9 +638,9 @@ static void exchanged_groups(part index, const uint64_t opened[7]) {
     memcpy(other.at + opened[5] + (both - first), fields, first);
     memcpy(other.kept, other.at, other.len);
     put(other, opened[3], both - first, 8), put(other, opened[3] + 36, 0, 8);
-    uint64_t again[7];
+    uint64_t again[8];
     found f;
-    WANT(open_part(other, again) == ROSMAREL_OK && memcmp(again, opened, sizeof again) == 0);
+    WANT(open_terms(opened[7], other, again) == ROSMAREL_OK && memcmp(again, opened, sizeof again) == 0);
     WANT(by_id(other, again, 130, &f) == ROSMAREL_OK && f.start == 130 * 130);
     WANT(check(other) == ROSMAREL_NOT_CANONICAL);
     drop(other);
@@ -598,7 +648,7 @@ static void exchanged_groups(part index, const uint64_t opened[7]) {
 
 static void several_groups(size_t n) {
     uint8_t key[101];
-    uint64_t total, directory_len, opened[7];
+    uint64_t total, directory_len, opened[8];
     found f;
     areas a = areas_for(n, n * sizeof key);
     for (size_t i = 0; i < n; i++) {
@@ -609,9 +659,11 @@ static void several_groups(size_t n) {
     part index = filled(0xcc, total);
     WANT(finish(a, index, &total, &directory_len) == ROSMAREL_OK && total == index.len);
     memcpy(index.kept, index.at, index.len);
-    WANT(open_part(index, opened) == ROSMAREL_OK && opened[0] == n);
+    WANT(open_terms(3 * (n - 1), index, opened) == ROSMAREL_TERMS);
+    WANT(open_terms(3 * n, index, opened) == ROSMAREL_OK && opened[0] == n);
     WANT(check(index) == ROSMAREL_OK);
     exchanged_groups(index, opened);
+    WANT(by_ordinal(index, opened, 3 * n, &f) == ROSMAREL_NO_TERM && is_zero(f));
     for (size_t i = 0; i < n; i++) {
         WANT(by_id(index, opened, i, &f) == ROSMAREL_OK && f.start == i * i && f.end == (i + 1) * (i + 1));
         WANT(by_ordinal(index, opened, 3 * i + 2, &f) == ROSMAREL_OK && f.id == i);
@@ -633,6 +685,8 @@ int main(void) {
     opening();
     checking();
     lookups();
+    least_terms_example();
+    terms_by_hand();
     batch_example();
     batches();
     foreign_records();

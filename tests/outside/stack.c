@@ -58,7 +58,7 @@ static void measure(const char *name, void (*call)(void)) {
 
 /* ---- what the calls are lent */
 
-static uint64_t n, opened[7], word[4];
+static uint64_t n, terms, ord, opened[8], word[4];
 static uint64_t blocks[5 * MOST];
 static rosmarel_block_addr addrs[MOST];
 static uint8_t *keys, *out, marks[MOST];
@@ -111,7 +111,7 @@ static void call_finish_len(void) { answer = rosmarel_finish_len(n, blocks, 5 * 
 
 static void call_store(void) { answer = rosmarel_store(addrs, n, out, out_len, &word[0]); }
 
-static void call_open(void) { answer = rosmarel_open(out, index_len, opened); }
+static void call_open(void) { answer = rosmarel_open(terms, out, index_len, opened); }
 
 static void call_check_canonical(void) { answer = rosmarel_check_canonical(out, index_len); }
 
@@ -120,7 +120,7 @@ static void call_get_block(void) {
 }
 
 static void call_locate_with_ord(void) {
-    answer = rosmarel_locate_with_ord(out, index_len, opened, addrs[n - 1].first_ordinal, &word[0], &word[1], &word[2], &word[3]);
+    answer = rosmarel_locate_with_ord(out, index_len, opened, ord, &word[0], &word[1], &word[2], &word[3]);
 }
 
 static void call_locate_with_key(void) {
@@ -242,10 +242,15 @@ static void checks(void) {
 }
 
 static void lookups(void) {
+    ord = terms = addrs[n - 1].first_ordinal;
+    ANSWERED(28, open);
+    terms += 1;
     ANSWERED(0, open);
     checks();
     ANSWERED(0, get_block);
     ANSWERED(0, locate_with_ord);
+    ord = terms;
+    ANSWERED(29, locate_with_ord);
     write_key(end_key, key_len, 2 * n - 3);
     ANSWERED(0, locate_with_key);
     ANSWERED(0, get_block_with_key);

@@ -141,7 +141,7 @@ fn looking_up(input: &Input) {
     let (id, key) = (input.n as u64 / 3, &input.keys[input.n / 3][..]);
     let ord = input.blocks[input.n / 3].first_ordinal;
     let taken = stack(|| {
-        black_box(ffi::open(index).unwrap());
+        black_box(ffi::open(input.least_terms(), index).unwrap());
     });
     let of_rust = allocations(|| {
         black_box(access::Index::load(shared.clone()));

@@ -36,7 +36,7 @@ fn measure(report: &mut Report, input: &Input) {
     }
     let index = &input.index[..];
     let (numbers, bytes) = areas(&input.keys, &input.blocks);
-    let n = input.n as u64;
+    let (n, terms) = (input.n as u64, input.least_terms());
     let mut out = vec![0; index.len()];
     if report.first_pass() {
         compare(index);
@@ -46,12 +46,12 @@ fn measure(report: &mut Report, input: &Input) {
     let ours = side(|| ffi::check_canonical(black_box(index)).unwrap());
     let both = side(|| {
         for _ in 0..TIMES {
-            let _ = black_box(ffi::open(black_box(index)).unwrap());
+            let _ = black_box(ffi::open(terms, black_box(index)).unwrap());
             let (numbers, bytes) = black_box((&numbers[..], &bytes[..]));
             let _ = black_box(ffi::finish(n, numbers, bytes, black_box(&mut out)).unwrap());
         }
     });
-    let opening = side(|| ffi::open(black_box(index)).unwrap());
+    let opening = side(|| ffi::open(terms, black_box(index)).unwrap());
     let sides = vec![
         ("ours", ours),
         ("3 × (opening + finish)", both),

@@ -144,7 +144,7 @@ impl<'a> Listing<'a> {
         let listing = Listing {
             input,
             table,
-            ours: rosmarel::Index::open(&input.index).unwrap(),
+            ours: rosmarel::Index::open(&input.index, input.terms()).unwrap(),
             automaton: Automaton::from_table(table).unwrap(),
             rust: access::Index::open(&input.index),
             rust_automaton: Table::read(table).unwrap(),

@@ -27,7 +27,8 @@ const STRIDE: usize = 5;
 /// builder.add_block(b"abzz", BlockAddr::new(10..25, 4))?;
 /// let bytes = builder.finish()?;
 ///
-/// let index = Index::open(&bytes)?;
+/// // 9 keys in all
+/// let index = Index::open(&bytes, 9)?;
 /// assert_eq!(index.separator(0), Some(&b"abce"[..]));
 /// assert_eq!(index.locate_with_key(b"abf"), Some(1));
 /// # Ok::<(), rosmarel::Refusal>(())

@@ -5,8 +5,9 @@
 
 use crate::{BlockAddr, Refusal};
 
-/// The opened record: n, then offset and length of the directory, the group records and the address bytes.
-pub type Opened = [u64; 7];
+/// The opened record: n, then offset and length of the directory, the group records and the address bytes, then the number
+/// of terms.
+pub type Opened = [u64; 8];
 
 /// What finish returns beside its number.
 #[derive(Clone, Copy, Debug, PartialEq, Eq)]
@@ -68,7 +69,7 @@ unsafe extern "C" {
         out_len: usize,
         len: *mut u64,
     ) -> u32;
-    fn rosmarel_open(index: *const u8, index_len: usize, opened: *mut Opened) -> u32;
+    fn rosmarel_open(terms: u64, index: *const u8, index_len: usize, opened: *mut Opened) -> u32;
     fn rosmarel_check_canonical(index: *const u8, index_len: usize) -> u32;
     fn rosmarel_get_block(
         index: *const u8,
@@ -291,11 +292,11 @@ pub fn store(blocks: &[BlockAddr], out: &mut [u8]) -> Result<usize, Refusal> {
     answer(number, len as usize)
 }
 
-/// Opens an index.
-pub fn open(index: &[u8]) -> Result<Opened, Refusal> {
-    let mut opened = [0; 7];
+/// Opens an index of a file with so many terms.
+pub fn open(terms: u64, index: &[u8]) -> Result<Opened, Refusal> {
+    let mut opened = [0; 8];
     // SAFETY: as in `add`.
-    let number = unsafe { rosmarel_open(index.as_ptr(), index.len(), &mut opened) };
+    let number = unsafe { rosmarel_open(terms, index.as_ptr(), index.len(), &mut opened) };
     answer(number, opened)
 }
 
@@ -324,7 +325,7 @@ pub fn get_block(index: &[u8], opened: &Opened, id: u64) -> Result<BlockAddr, Re
     answer(number, block)
 }
 
-/// The last block whose first ordinal is at or below `ord`.
+/// The last block whose first ordinal is at or below `ord`, which is below the number of terms.
 pub fn locate_with_ord(
     index: &[u8],
     opened: &Opened,

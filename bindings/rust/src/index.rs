@@ -10,10 +10,16 @@ pub const MAX_BATCH_KEYS: usize = 64;
 /// What stands in a batch's ids for a key that has no block.
 pub const NO_ID: u64 = u64::MAX;
 
+/// Where the number of terms stands in the opened record.
+const TERMS: usize = 7;
+
 /// An index that was opened: which block of a sorted key file to read.
 ///
 /// Opening looks at every block and every separator, so a file that breaks a rule anywhere is refused at once, and every
 /// lookup in an index that opened has an answer. The index borrows its bytes; it is small and can be copied.
+///
+/// The number of terms, which are the sorted file's keys, isn't in an index, so opening is told: an ordinal from it on has
+/// no block.
 ///
 /// Ids count the blocks from 0. Block i holds keys above separator i - 1 (block 0: from the empty key on) and not above
 /// separator i.
@@ -27,14 +33,17 @@ pub const NO_ID: u64 = u64::MAX;
 /// builder.add_block(b"f", BlockAddr::new(25..30, 9))?;
 /// let bytes = builder.finish()?;
 ///
-/// let index = Index::open(&bytes)?;
+/// // 12 keys in all: 4, 5 and 3
+/// let index = Index::open(&bytes, 12)?;
 /// assert_eq!(index.len(), 3);
 /// assert_eq!(index.get_block(2), Some(BlockAddr::new(25..30, 9)));
 /// assert_eq!(index.get_block(3), None);
 /// assert_eq!(index.locate_with_key(b"c"), Some(1));
+/// assert_eq!(index.locate_with_ord(11), Some((2, BlockAddr::new(25..30, 9))));
+/// assert_eq!(index.locate_with_ord(12), None);
 /// # Ok::<(), rosmarel::Refusal>(())
 /// ```
-// The record is of these bytes and of no others: only `open` makes one, and both stay together.
+// The record is of these bytes and of no others: only the two openings make one, and both stay together.
 #[derive(Clone, Copy)]
 pub struct Index<'a> {
     bytes: &'a [u8],
@@ -44,23 +53,65 @@ pub struct Index<'a> {
 // An index has two blocks or more, so `is_empty` would say nothing.
 #[allow(clippy::len_without_is_empty)]
 impl<'a> Index<'a> {
-    /// Opens an index, whoever wrote its bytes.
+    /// Opens an index, whoever wrote its bytes, of a file that has so many terms: any number above the last block's first
+    /// ordinal. [`open_unknown_terms`](Index::open_unknown_terms) is for files of which nobody knows it.
     ///
     /// # Errors
     ///
     /// The first rule of an index file that these bytes break, from [`Footer`](Refusal::Footer) (10) to
     /// [`Block`](Refusal::Block) (16) in the order of their numbers; but a footer of 8 bytes whose directory length is
-    /// 0 is [`DirectoryMissing`](Refusal::DirectoryMissing), however short the file.
+    /// 0 is [`DirectoryMissing`](Refusal::DirectoryMissing), however short the file. Then, for a good file,
+    /// [`TooFewTerms`](Refusal::TooFewTerms) (28).
     ///
     /// ```
-    /// use rosmarel::{Index, Refusal};
+    /// use rosmarel::{BlockAddr, Builder, Index, Refusal};
     ///
-    /// assert_eq!(Index::open(&[]).unwrap_err(), Refusal::Footer);
-    /// assert_eq!(Index::open(&[0; 8]).unwrap_err(), Refusal::DirectoryMissing);
+    /// assert_eq!(Index::open(&[], 12).unwrap_err(), Refusal::Footer);
+    /// assert_eq!(Index::open(&[0; 8], 12).unwrap_err(), Refusal::DirectoryMissing);
+    ///
+    /// let mut builder = Builder::new();
+    /// builder.add_block(b"b", BlockAddr::new(0..10, 0))?;
+    /// builder.add_block(b"d", BlockAddr::new(10..25, 4))?;
+    /// let bytes = builder.finish()?;
+    /// // ordinal 4 is there, so there are 5 terms or more
+    /// assert_eq!(Index::open(&bytes, 4).unwrap_err(), Refusal::TooFewTerms);
+    /// assert_eq!(Index::open(&bytes, 5)?.terms(), 5);
+    /// assert_eq!(Index::open(&bytes, u64::MAX)?.terms(), u64::MAX);
+    /// # Ok::<(), Refusal>(())
     /// ```
-    pub fn open(bytes: &'a [u8]) -> Result<Index<'a>, Refusal> {
-        let opened = ffi::open(bytes)?;
+    pub fn open(bytes: &'a [u8], terms: u64) -> Result<Index<'a>, Refusal> {
+        let opened = ffi::open(terms, bytes)?;
         Ok(Index { bytes, opened })
+    }
+
+    /// As [`open`](Index::open), of a file whose number of terms nobody knows, with the least that it can have: the last
+    /// block's first ordinal plus one. The other ordinals of the last block aren't found then; all else is.
+    ///
+    /// # Errors
+    ///
+    /// Those of [`open`](Index::open) but the last: never [`TooFewTerms`](Refusal::TooFewTerms).
+    ///
+    /// ```
+    /// use rosmarel::{BlockAddr, Builder, Index, Refusal};
+    ///
+    /// let mut builder = Builder::new();
+    /// builder.add_block(b"b", BlockAddr::new(0..10, 0))?;
+    /// builder.add_block(b"d", BlockAddr::new(10..25, 4))?;
+    /// let bytes = builder.finish()?;
+    ///
+    /// let index = Index::open_unknown_terms(&bytes)?;
+    /// assert_eq!(index.terms(), 5);
+    /// assert_eq!(index.locate_with_ord(4), Some((1, BlockAddr::new(10..25, 4))));
+    /// assert_eq!(index.locate_with_ord(5), None);
+    /// assert_eq!(Index::open_unknown_terms(&[]).unwrap_err(), Refusal::Footer);
+    /// # Ok::<(), Refusal>(())
+    /// ```
+    pub fn open_unknown_terms(bytes: &'a [u8]) -> Result<Index<'a>, Refusal> {
+        // first ordinals lie below 2^48: this many terms are enough for any file
+        let mut index = Index::open(bytes, u64::MAX)?;
+        // the record of an opening with the least number, since records for other numbers differ in this word alone
+        index.opened[TERMS] = index.block(index.len() - 1).first_ordinal + 1;
+        Ok(index)
     }
 
     /// The bytes that were opened.
@@ -73,16 +124,34 @@ impl<'a> Index<'a> {
         self.opened[0]
     }
 
+    /// The number of terms that the index was opened with: [`locate_with_ord`](Index::locate_with_ord) finds a block for
+    /// no other ordinals than those below it. It is above the last block's first ordinal.
+    ///
+    /// ```
+    /// # use rosmarel::{BlockAddr, Builder, Index};
+    /// # let mut builder = Builder::new();
+    /// # builder.add_block(b"b", BlockAddr::new(0..10, 0))?;
+    /// # builder.add_block(b"d", BlockAddr::new(10..25, 4))?;
+    /// # let bytes = builder.finish()?;
+    /// // first ordinals 0 and 4
+    /// assert_eq!(Index::open(&bytes, 9)?.terms(), 9);
+    /// assert_eq!(Index::open_unknown_terms(&bytes)?.terms(), 5);
+    /// # Ok::<(), rosmarel::Refusal>(())
+    /// ```
+    pub fn terms(&self) -> u64 {
+        self.opened[TERMS]
+    }
+
     /// The block with this id; none from [`len`](Index::len) on.
     pub fn get_block(&self, id: u64) -> Option<BlockAddr> {
         found(
             ffi::get_block(self.bytes, &self.opened, id),
-            Refusal::UnknownId,
+            &[Refusal::UnknownId],
         )
     }
 
     /// The block that holds an ordinal, and its id: the last one whose first ordinal isn't above. An ordinal below the
-    /// first block's has none; one past the last key belongs to the last block.
+    /// first block's has none, nor has one at or above the number of [`terms`](Index::terms).
     ///
     /// ```
     /// # use rosmarel::{BlockAddr, Builder, Index};
@@ -90,17 +159,19 @@ impl<'a> Index<'a> {
     /// # builder.add_block(b"b", BlockAddr::new(0..10, 2))?;
     /// # builder.add_block(b"d", BlockAddr::new(10..25, 4))?;
     /// # let bytes = builder.finish()?;
-    /// // first ordinals 2 and 4
-    /// let index = Index::open(&bytes)?;
+    /// // first ordinals 2 and 4, and 9 is the last
+    /// let index = Index::open(&bytes, 10)?;
     /// assert_eq!(index.locate_with_ord(1), None);
     /// assert_eq!(index.locate_with_ord(3), Some((0, BlockAddr::new(0..10, 2))));
-    /// assert_eq!(index.locate_with_ord(1_000_000), Some((1, BlockAddr::new(10..25, 4))));
+    /// assert_eq!(index.locate_with_ord(9), Some((1, BlockAddr::new(10..25, 4))));
+    /// assert_eq!(index.locate_with_ord(10), None);
+    /// assert_eq!(index.locate_with_ord(1_000_000), None);
     /// # Ok::<(), rosmarel::Refusal>(())
     /// ```
     pub fn locate_with_ord(&self, ord: u64) -> Option<(u64, BlockAddr)> {
         found(
             ffi::locate_with_ord(self.bytes, &self.opened, ord),
-            Refusal::OrdinalBelowFirst,
+            &[Refusal::OrdinalBelowFirst, Refusal::OrdinalBeyondTerms],
         )
     }
 
@@ -114,7 +185,7 @@ impl<'a> Index<'a> {
     /// # builder.add_block(b"d", BlockAddr::new(10..25, 4))?;
     /// # let bytes = builder.finish()?;
     /// // separators b and d
-    /// let index = Index::open(&bytes)?;
+    /// let index = Index::open(&bytes, 9)?;
     /// assert_eq!(index.locate_with_key(b""), Some(0));
     /// assert_eq!(index.locate_with_key(b"b"), Some(0));
     /// assert_eq!(index.locate_with_key(b"bb"), Some(1));
@@ -124,7 +195,7 @@ impl<'a> Index<'a> {
     pub fn locate_with_key(&self, key: &[u8]) -> Option<u64> {
         found(
             ffi::locate_with_key(self.bytes, &self.opened, key),
-            Refusal::KeyAboveLast,
+            &[Refusal::KeyAboveLast],
         )
     }
 
@@ -132,7 +203,7 @@ impl<'a> Index<'a> {
     pub fn get_block_with_key(&self, key: &[u8]) -> Option<(u64, BlockAddr)> {
         found(
             ffi::get_block_with_key(self.bytes, &self.opened, key),
-            Refusal::KeyAboveLast,
+            &[Refusal::KeyAboveLast],
         )
     }
 
@@ -149,7 +220,7 @@ impl<'a> Index<'a> {
     /// # builder.add_block(b"d", BlockAddr::new(10..25, 4))?;
     /// # let bytes = builder.finish()?;
     /// // separators b and d
-    /// let index = Index::open(&bytes)?;
+    /// let index = Index::open(&bytes, 9)?;
     /// let ids = index.locate_with_keys(&["dd", "c", "", "c"]);
     /// assert_eq!(ids, [None, Some(1), Some(0), Some(1)]);
     /// # Ok::<(), rosmarel::Refusal>(())
@@ -193,7 +264,7 @@ impl<'a> Index<'a> {
     /// builder.add_block(b"b", BlockAddr::new(0..10, 0))?;
     /// builder.add_block(b"d", BlockAddr::new(10..25, 4))?;
     /// let bytes = builder.finish()?;
-    /// let index = Index::open(&bytes)?;
+    /// let index = Index::open(&bytes, 9)?;
     ///
     /// // az, z and c, parts of four bytes
     /// let (keys, mut ids) = (b"az,c", [7; 4]);
@@ -224,7 +295,7 @@ impl<'a> Index<'a> {
     /// # builder.add_block(b"d", BlockAddr::new(10..25, 4))?;
     /// # let bytes = builder.finish()?;
     /// // an empty separator, and d
-    /// let index = Index::open(&bytes)?;
+    /// let index = Index::open(&bytes, 9)?;
     /// assert_eq!(index.separator(0), Some(&b""[..]));
     /// assert_eq!(index.separator(1), Some(&b"d"[..]));
     /// assert_eq!(index.separator(2), None);
@@ -247,7 +318,7 @@ impl<'a> Index<'a> {
     /// # builder.add_block(b"d", BlockAddr::new(10..25, 4))?;
     /// # let bytes = builder.finish()?;
     /// // separators b and d
-    /// let index = Index::open(&bytes)?;
+    /// let index = Index::open(&bytes, 9)?;
     /// assert_eq!(index.interval(0), Some((None, &b"b"[..])));
     /// assert_eq!(index.interval(1), Some((Some(&b"b"[..]), &b"d"[..])));
     /// assert_eq!(index.interval(2), None);
@@ -267,7 +338,7 @@ impl<'a> Index<'a> {
     /// # builder.add_block(b"b", BlockAddr::new(0..10, 0))?;
     /// # builder.add_block(b"d", BlockAddr::new(10..25, 4))?;
     /// # let bytes = builder.finish()?;
-    /// let index = Index::open(&bytes)?;
+    /// let index = Index::open(&bytes, 9)?;
     /// for (id, block) in index.blocks() {
     ///     println!("{id} {} {} {}", block.start, block.end, block.first_ordinal);
     /// }
@@ -300,7 +371,7 @@ impl<'a> Index<'a> {
     /// builder.add_block(b"d", BlockAddr::new(10..25, 4))?;
     /// builder.add_block(b"f", BlockAddr::new(25..30, 9))?;
     /// let bytes = builder.finish()?;
-    /// let index = Index::open(&bytes)?;
+    /// let index = Index::open(&bytes, 12)?;
     ///
     /// // keys that begin with d: the key d itself, and those behind it
     /// let pattern = Automaton::from_fn(3, |state| state == 1, |state, byte| match state {
@@ -339,10 +410,10 @@ fn front(key: &[u8]) -> &[u8] {
     &key[..key.len().min(MAX_KEY_LEN + 1)]
 }
 
-/// What a lookup found; `none` says that there is nothing.
-fn found<T>(answer: Result<T, Refusal>, none: Refusal) -> Option<T> {
+/// What a lookup found; each of `none` says that there is nothing.
+fn found<T>(answer: Result<T, Refusal>, none: &[Refusal]) -> Option<T> {
     match answer {
-        Err(refusal) if refusal == none => None,
+        Err(refusal) if none.contains(&refusal) => None,
         answer => Some(sure(answer)),
     }
 }
@@ -357,6 +428,7 @@ impl fmt::Debug for Index<'_> {
         f.debug_struct("Index")
             .field("len", &self.len())
             .field("bytes", &self.bytes.len())
+            .field("terms", &self.terms())
             .finish()
     }
 }

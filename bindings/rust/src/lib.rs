@@ -9,7 +9,7 @@
 //! hands on its answers, is tested.
 //!
 //! - [`Builder`] takes blocks and keys and writes an index.
-//! - [`Index`] opens one, which anyone may have written, and looks blocks up.
+//! - [`Index`] opens one, which anyone may have written, given the number of terms, and looks blocks up.
 //! - [`check_canonical`] says whether an index is, byte for byte, the one that [`Builder::finish`] would write.
 //! - [`Automaton`] is a pattern, for [`Index::get_block_for_automaton`].
 //! - [`Refusal`] says why a call was refused.
@@ -25,9 +25,11 @@
 //! builder.add_block(b"yew", BlockAddr::new(8_000..11_500, 260))?;
 //! let bytes = builder.finish()?;
 //!
-//! let index = Index::open(&bytes)?;
+//! // the file has 400 keys
+//! let index = Index::open(&bytes, 400)?;
 //! assert_eq!(index.get_block_with_key(b"fir"), Some((2, BlockAddr::new(8_000..11_500, 260))));
 //! assert_eq!(index.locate_with_ord(130), Some((1, BlockAddr::new(4_096..8_000, 120))));
+//! assert_eq!(index.locate_with_ord(400), None);
 //! assert_eq!(index.locate_with_keys(&["oak", "ash", "zelkova"]), [Some(2), Some(0), None]);
 //!
 //! // keys that begin with b
@@ -41,8 +43,8 @@
 //! ```
 //!
 //! An index has 2 to 65,536 blocks. Each starts where the one before it ends, and has a higher first ordinal; ends and
-//! ordinals lie below 2^48. Separators rise and have at most 1,024 bytes. Byte strings compare as unsigned bytes, a
-//! prefix being smaller.
+//! first ordinals lie below 2^48. The number of terms, which opening is told, is above all first ordinals and has no limit.
+//! Separators rise and have at most 1,024 bytes. Byte strings compare as unsigned bytes, a prefix being smaller.
 
 #![deny(unsafe_code)]
 #![warn(missing_docs, unsafe_op_in_unsafe_fn)]
@@ -83,8 +85,8 @@ pub fn interface() -> u64 {
 ///
 /// # Errors
 ///
-/// What [`Index::open`] refuses, for the same reason (10 to 16); [`NotCanonical`](Refusal::NotCanonical) (27) for a file
-/// that opens but isn't that one.
+/// What [`Index::open`] refuses in a file, for the same reason (10 to 16); [`NotCanonical`](Refusal::NotCanonical) (27) for
+/// a file that opens but isn't that one. The number of terms isn't asked for, so 28 isn't among them.
 ///
 /// ```
 /// use rosmarel::{BlockAddr, Builder, Index, Refusal};
@@ -97,7 +99,7 @@ pub fn interface() -> u64 {
 ///
 /// // a byte more in front of the footer: it opens, with the same blocks
 /// bytes.insert(bytes.len() - 8, 0);
-/// assert_eq!(Index::open(&bytes)?.get_block(1), Some(BlockAddr::new(10..25, 4)));
+/// assert_eq!(Index::open(&bytes, 9)?.get_block(1), Some(BlockAddr::new(10..25, 4)));
 /// assert_eq!(rosmarel::check_canonical(&bytes), Err(Refusal::NotCanonical));
 ///
 /// // no footer: refused as opening refuses it

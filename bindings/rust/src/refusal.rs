@@ -8,14 +8,14 @@ macro_rules! refusals {
         /// A refused call has changed nothing. `Display` gives the sentence and the number.
         ///
         /// This crate doesn't return all of them. 1, 8, 20 and 24 are for callers of the archive that lend it areas and
-        /// opened records of their own; in place of 17 to 19 and 25, that nothing was found, it has `None`. 26 comes from
-        /// [`Index::locate_with_keys_into`](crate::Index::locate_with_keys_into) alone, 27 from
-        /// [`check_canonical`](crate::check_canonical).
+        /// opened records of their own; in place of 17 to 19, 25 and 29, that nothing was found, it has `None`. 26 comes
+        /// from [`Index::locate_with_keys_into`](crate::Index::locate_with_keys_into) alone, 27 from
+        /// [`check_canonical`](crate::check_canonical), 28 from [`Index::open`](crate::Index::open).
         ///
         /// ```
         /// use rosmarel::{Index, Refusal};
         ///
-        /// let refusal = Index::open(b"short").unwrap_err();
+        /// let refusal = Index::open(b"short", 12).unwrap_err();
         /// assert_eq!(refusal, Refusal::Footer);
         /// assert_eq!(refusal.number(), 10);
         /// assert_eq!(
@@ -87,6 +87,8 @@ refusals! {
     25 NoExample "the automaton accepts no string of the interval",
     26 KeyList "the key list has half a pair, more than 64 keys, a key outside its bytes, an offset that falls, or too few ids",
     27 NotCanonical "the index opens, but isn't the one that finish makes of the blocks and separators in it",
+    28 TooFewTerms "the number of terms isn't above the last block's first ordinal",
+    29 OrdinalBeyondTerms "the ordinal isn't below the number of terms",
 }
 
 impl Refusal {

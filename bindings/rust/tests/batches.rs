@@ -72,7 +72,7 @@ fn lists_of_every_length() {
     for n in [2, 3, 127, 128, 129, 1_000, 4_095, 4_096, 4_097, 9_000] {
         let entries = draw.entries(n);
         let bytes = entries.index();
-        let index = Index::open(&bytes).unwrap();
+        let index = Index::open_unknown_terms(&bytes).unwrap();
         for count in (0..=66).chain([127, 128, 129, 500]) {
             let keys: Vec<_> = (0..count).map(|_| some_key(&mut draw, &entries)).collect();
             agree(&index, &keys);
@@ -89,7 +89,7 @@ fn orders() {
     for n in [2, 300, 2_000] {
         let entries = draw.entries(n);
         let bytes = entries.index();
-        let index = Index::open(&bytes).unwrap();
+        let index = Index::open_unknown_terms(&bytes).unwrap();
         for count in [1, 63, 64, 65] {
             let mut keys: Vec<_> = (0..count).map(|_| some_key(&mut draw, &entries)).collect();
             keys.sort();
@@ -116,7 +116,7 @@ fn parts_of_one_area() {
     let mut draw = Draw::new(22);
     for n in [2, 5, 130, 4_096] {
         let index = draw.entries(n).index();
-        let index = Index::open(&index).unwrap();
+        let index = Index::open_unknown_terms(&index).unwrap();
         for _ in 0..500 {
             let bytes = draw.key(40);
             let len = bytes.len() as u64;
@@ -142,7 +142,7 @@ fn long_keys() {
         assert_eq!(entries.add(key, BlockAddr::new(i..i + 1, i)), 0);
     }
     let bytes = entries.index();
-    let index = Index::open(&bytes).unwrap();
+    let index = Index::open_unknown_terms(&bytes).unwrap();
     let mut longer = Vec::new();
     for len in [1_022, 1_023, 1_024, 1_025, 1_026, 5_000] {
         for byte in [b'j', b'k', b'l', b'm'] {
@@ -168,7 +168,7 @@ fn the_largest_index() {
     entries.keys = (0..65_536).map(|i| key(2 * i).to_vec()).collect();
     entries.blocks = (0..65_536).map(|i| BlockAddr::new(i..i + 1, i)).collect();
     let bytes = entries.index();
-    let index = Index::open(&bytes).unwrap();
+    let index = Index::open_unknown_terms(&bytes).unwrap();
     let wanted = |i: u64| (i <= 131_070).then_some(i.div_ceil(2));
     let mut draw = Draw::new(23);
     for count in [1, 7, 8, 63, 64, 65, 1_000] {
@@ -191,7 +191,7 @@ fn the_largest_index() {
 #[test]
 fn kinds_of_keys() {
     let bytes = worked();
-    let index = Index::open(&bytes).unwrap();
+    let index = Index::open_unknown_terms(&bytes).unwrap();
     let found = [Some(0), Some(1), None];
     assert_eq!(index.locate_with_keys(&["a", "c", "g"]), found);
     assert_eq!(index.locate_with_keys(&[b"a", b"c", b"g"]), found);
@@ -210,7 +210,7 @@ fn kinds_of_keys() {
 #[test]
 fn no_keys() {
     let bytes = worked();
-    let index = Index::open(&bytes).unwrap();
+    let index = Index::open_unknown_terms(&bytes).unwrap();
     for keys in [&b""[..], b"bd"] {
         assert_eq!(index.locate_with_keys_into(&[], keys, &mut []), Ok(()));
         let mut ids = [77; 3];
@@ -222,7 +222,7 @@ fn no_keys() {
 /// The list is refused, and the ids stay.
 fn refused(pairs: &[u64], keys: &[u8], places: usize) {
     let bytes = worked();
-    let index = Index::open(&bytes).unwrap();
+    let index = Index::open_unknown_terms(&bytes).unwrap();
     let mut ids = vec![77; places];
     let answer = index.locate_with_keys_into(pairs, keys, &mut ids);
     assert_eq!(answer, Err(Refusal::KeyList), "{pairs:?} in {keys:?}");
@@ -231,7 +231,7 @@ fn refused(pairs: &[u64], keys: &[u8], places: usize) {
 
 fn accepted(pairs: &[u64], keys: &[u8], ids: &[u64]) {
     let bytes = worked();
-    let index = Index::open(&bytes).unwrap();
+    let index = Index::open_unknown_terms(&bytes).unwrap();
     let mut written = vec![77; ids.len()];
     let answer = index.locate_with_keys_into(pairs, keys, &mut written);
     assert_eq!(

@@ -80,9 +80,9 @@ impl Parts {
     /// It opens, holds the same list, and isn't the file that finish makes of it.
     fn foreign(&self) {
         let bytes = self.bytes();
-        assert_eq!(model::open(&bytes).as_ref(), Ok(&self.entries));
+        assert_eq!(model::read(&bytes).as_ref(), Ok(&self.entries));
         assert_eq!(
-            Index::open(&bytes).unwrap().len(),
+            Index::open_unknown_terms(&bytes).unwrap().len(),
             self.entries.keys.len() as u64
         );
         assert_eq!(checked(&bytes), 27);

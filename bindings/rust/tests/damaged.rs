@@ -3,21 +3,33 @@
 mod model;
 
 use model::{Draw, Entries};
-use rosmarel::{Automaton, BlockAddr, Index};
+use rosmarel::{Automaton, BlockAddr, Index, Refusal};
 
 /// Files that opened.
 fn check(bytes: &[u8], any: &Automaton) -> bool {
     let checked = rosmarel::check_canonical(bytes).map_or_else(|refusal| refusal.number(), |()| 0);
     assert_eq!(checked, model::canonical_no(bytes), "{bytes:02x?}");
-    let index = match (Index::open(bytes), model::open(bytes)) {
+    let opening = |terms: u64| Index::open(bytes, terms).map_err(Refusal::number);
+    let read = model::read(bytes);
+    let index = match (Index::open_unknown_terms(bytes), &read) {
         (Ok(index), Ok(entries)) => {
-            consistent(&index, &entries, any);
+            let least = entries.least_terms();
+            assert_eq!(index.terms(), least);
+            for terms in [0, least - 1] {
+                assert_eq!(opening(terms).unwrap_err(), 28, "{bytes:02x?}");
+            }
+            consistent(&index, entries, any);
+            consistent(&opening(least + 1).unwrap(), entries, any);
             return true;
         }
         (index, _) => index,
     };
+    // whatever the number of terms, it is the file's own fault
     let number = index.unwrap_err().number();
-    assert_eq!(Err(number), model::open(bytes), "{bytes:02x?}");
+    assert_eq!(Err(number), read, "{bytes:02x?}");
+    for terms in [0, 10, u64::MAX] {
+        assert_eq!(opening(terms).unwrap_err(), number, "{bytes:02x?}");
+    }
     false
 }
 
@@ -34,8 +46,14 @@ fn consistent(index: &Index, entries: &Entries, any: &Automaton) {
             Some((id, *block))
         );
         let before = block.first_ordinal.wrapping_sub(1);
-        assert_eq!(index.locate_with_ord(before), entries.by_ord(before));
+        assert_eq!(
+            index.locate_with_ord(before),
+            entries.by_ord(before, index.terms())
+        );
     }
+    let last = index.terms() - 1;
+    assert_eq!(index.locate_with_ord(last), entries.by_ord(last, last + 1));
+    assert_eq!(index.locate_with_ord(last + 1), None);
     let ids = index.locate_with_keys(&entries.keys);
     assert!(ids.into_iter().eq((0..n).map(Some)));
     assert_eq!((index.get_block(n), index.separator(n)), (None, None));
@@ -117,7 +135,7 @@ fn other_lengths() {
 fn spare_address_bytes() {
     let good = worked();
     let more = [&good[..77], &[1, 2, 3], &good[77..]].concat();
-    let index = Index::open(&more).unwrap();
+    let index = Index::open(&more, 12).unwrap();
     assert_eq!(index.get_block(2), Some(BlockAddr::new(25..30, 9)));
 }
 

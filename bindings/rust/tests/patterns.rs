@@ -13,7 +13,7 @@ fn listings() {
         let n = 2 + draw.below(if round % 10 == 0 { 300 } else { 20 }) as usize;
         let entries = draw.entries(n);
         let bytes = entries.index();
-        let index = Index::open(&bytes).unwrap();
+        let index = Index::open_unknown_terms(&bytes).unwrap();
         for _ in 0..4 {
             let table = draw.table();
             let automaton = Automaton::from_table(&table).unwrap();
@@ -181,7 +181,7 @@ fn empty_separator() -> Result<(), Refusal> {
     builder.add_block(b"", BlockAddr::new(0..1, 0))?;
     builder.add_block(b"a", BlockAddr::new(1..2, 1))?;
     let bytes = builder.finish()?;
-    let index = Index::open(&bytes)?;
+    let index = Index::open_unknown_terms(&bytes)?;
     assert_eq!(index.separator(0), Some(&b""[..]));
     let empty = Automaton::from_fn(2, |state| state == 0, |_, _| 1)?;
     let ids: Vec<u64> = index

@@ -40,9 +40,9 @@ fn add_refused(key: &[u8], block: BlockAddr, refusal: Refusal) {
 fn numbers_and_sentences() {
     let all: Vec<Refusal> = (0..=100).filter_map(Refusal::from_number).collect();
     let numbers: Vec<u32> = all.iter().map(|refusal| refusal.number()).collect();
-    assert_eq!(numbers, Vec::from_iter(1..=27));
+    assert_eq!(numbers, Vec::from_iter(1..=29));
     let sentences: BTreeSet<&str> = all.iter().map(|refusal| refusal.sentence()).collect();
-    assert_eq!(sentences.len(), 27);
+    assert_eq!(sentences.len(), 29);
     for refusal in all {
         let error: Box<dyn Error + Send + Sync> = Box::new(refusal);
         let number = u32::from(refusal);
@@ -143,7 +143,7 @@ fn add_7() {
     );
     assert_eq!(builder.len(), most);
     let bytes = builder.finish().unwrap();
-    let index = Index::open(&bytes).unwrap();
+    let index = Index::open(&bytes, 3 * most).unwrap();
     assert_eq!(index.len(), most);
     assert!(index.blocks().eq((0..most).map(|i| (i, block(i)))));
     assert!(index.separators().eq((0..most).map(key)));
@@ -151,6 +151,7 @@ fn add_7() {
         assert_eq!(index.get_block_with_key(&key(i)), Some((i, block(i))));
         assert_eq!(index.locate_with_ord(3 * i + 2), Some((i, block(i))));
     }
+    assert_eq!(index.locate_with_ord(3 * most), None);
 }
 
 #[test]
@@ -178,7 +179,7 @@ fn finish_of_none_and_one() {
     let mut out = [0x5a; 4];
     assert_eq!(builder.finish_into(&mut out), Ok(0));
     assert_eq!(out, [0x5a; 4]);
-    assert_eq!(Index::open(b"").unwrap_err(), Refusal::Footer);
+    assert_eq!(Index::open(b"", 1).unwrap_err(), Refusal::Footer);
 }
 
 #[test]
@@ -239,12 +240,15 @@ fn store_3_4_5_7_9() {
     assert_eq!(out[store.len()], 0x5a);
 }
 
-/// A file with one thing changed.
+/// A file with one thing changed. Its fault comes before a number of terms that is too low.
 fn opened(change: impl Fn(&mut Vec<u8>)) -> Refusal {
     let mut bytes = two().finish().unwrap();
     change(&mut bytes);
-    let refusal = Index::open(&bytes).unwrap_err();
-    assert_eq!(model::open(&bytes), Err(refusal.number()));
+    let refusal = Index::open_unknown_terms(&bytes).unwrap_err();
+    for terms in [0, 1, 9, 10, 1 << 48, 1 << 55, u64::MAX] {
+        assert_eq!(Index::open(&bytes, terms).unwrap_err(), refusal, "{terms}");
+        assert_eq!(model::open(&bytes, terms), Err(refusal.number()));
+    }
     assert_eq!(rosmarel::check_canonical(&bytes), Err(refusal));
     refusal
 }
@@ -300,6 +304,23 @@ fn open_10_to_16() {
         }),
         Refusal::Group
     );
+}
+
+/// The blocks have the first ordinals 5 and 9.
+#[test]
+fn open_28() {
+    let bytes = two().finish().unwrap();
+    for terms in 0..=9 {
+        assert_eq!(
+            Index::open(&bytes, terms).unwrap_err(),
+            Refusal::TooFewTerms
+        );
+    }
+    for terms in [10, 11, 1 << 48, 1 << 55, u64::MAX] {
+        assert_eq!(Index::open(&bytes, terms).unwrap().terms(), terms);
+    }
+    assert_eq!(Index::open_unknown_terms(&bytes).unwrap().terms(), 10);
+    assert_eq!(rosmarel::check_canonical(&bytes), Ok(()));
 }
 
 #[test]

@@ -112,10 +112,12 @@ fn lists_of_calls() {
 
 /// Every lookup gives what the entries give.
 fn look_up(draw: &mut Draw, bytes: &[u8], entries: &Entries) {
-    let index = Index::open(bytes).unwrap();
-    assert_eq!(model::open(bytes).as_ref(), Ok(entries));
+    let least = entries.least_terms();
+    let terms = draw.of(&[least, least + 1, least + 500, LIMIT, u64::MAX]);
+    let index = Index::open(bytes, terms).unwrap();
+    assert_eq!(model::open(bytes, terms).as_ref(), Ok(entries));
     let n = entries.blocks.len() as u64;
-    assert_eq!(index.len(), n);
+    assert_eq!((index.len(), index.terms()), (n, terms));
     assert_eq!(index.as_bytes(), bytes);
     for id in (0..n + 2).chain([1 << 32, u64::MAX]) {
         let at = usize::try_from(id).unwrap();
@@ -126,13 +128,15 @@ fn look_up(draw: &mut Draw, bytes: &[u8], entries: &Entries) {
         let interval = separator.map(|end| (start.map(|key| &key[..]), end));
         assert_eq!(index.interval(id), interval);
     }
-    let by_ord = |ord| assert_eq!(index.locate_with_ord(ord), entries.by_ord(ord));
+    let by_ord = |ord| assert_eq!(index.locate_with_ord(ord), entries.by_ord(ord, terms));
     for block in &entries.blocks {
         by_ord(block.first_ordinal);
         by_ord(block.first_ordinal + 1);
         by_ord(block.first_ordinal.saturating_sub(1));
     }
     by_ord(0);
+    by_ord(terms - 1);
+    by_ord(terms);
     by_ord(u64::MAX);
     (0..50).for_each(|_| by_ord(draw.below(LIMIT)));
     let mut batch = Vec::new();
@@ -180,7 +184,7 @@ fn iterate(index: &Index, entries: &Entries) {
 fn separators_are_parts() {
     let bytes = Draw::new(2).entries(200).index();
     let separators: Vec<&[u8]> = {
-        let index = Index::open(&bytes).unwrap();
+        let index = Index::open_unknown_terms(&bytes).unwrap();
         (0..200).map(|id| index.separator(id).unwrap()).collect()
     };
     let mut place = 4 + 8 * 200;
@@ -225,7 +229,7 @@ fn common_prefixes() {
 fn shared_by_threads() {
     let entries = Draw::new(5).entries(1_000);
     let bytes = entries.index();
-    let index = Index::open(&bytes).unwrap();
+    let index = Index::open_unknown_terms(&bytes).unwrap();
     std::thread::scope(|scope| {
         for _ in 0..4 {
             scope.spawn(|| {

@@ -44,7 +44,7 @@ fn a_small_stack_is_enough_for_batches() {
     let indexes = indexes().map(|entries| (entries.index(), entries.keys));
     on_a_small_stack(move || {
         for (bytes, all) in &indexes {
-            let index = Index::open(bytes).unwrap();
+            let index = Index::open_unknown_terms(bytes).unwrap();
             for keys in [&all[..1], all] {
                 let ids = index.locate_with_keys(keys);
                 assert!(ids.into_iter().eq((0..keys.len() as u64).map(Some)));

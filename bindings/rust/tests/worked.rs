@@ -68,14 +68,17 @@ fn check_of_three_blocks() {
 #[test]
 fn lookups_in_three_blocks() {
     let bytes = index();
-    let index = Index::open(&bytes).unwrap();
-    assert_eq!(index.len(), 3);
+    let index = Index::open(&bytes, 12).unwrap();
+    assert_eq!((index.len(), index.terms()), (3, 12));
     assert_eq!(index.get_block(2), Some(blocks()[2]));
     assert_eq!(index.get_block(3), None);
     assert_eq!(index.get_block(u64::MAX), None);
-    for (ord, id) in [(0, 0), (3, 0), (4, 1), (1_000_000, 2), (u64::MAX, 2)] {
+    for (ord, id) in [(0, 0), (3, 0), (4, 1), (8, 1), (9, 2), (11, 2)] {
         let block = blocks()[id as usize];
         assert_eq!(index.locate_with_ord(ord), Some((id, block)));
+    }
+    for ord in [12, 13, 1_000_000, u64::MAX] {
+        assert_eq!(index.locate_with_ord(ord), None);
     }
     for (key, id) in [
         ("", Some(0)),
@@ -95,11 +98,11 @@ fn lookups_in_three_blocks() {
     assert_eq!(ids, [&[None], &some[..], &[None]].concat());
 }
 
-/// The lines that the program `blocks` prints for these bytes.
+/// The lines that the program `blocks` prints for these bytes; it knows no number of terms.
 #[test]
 fn lines_of_three_blocks() {
     let bytes = index();
-    let index = Index::open(&bytes).unwrap();
+    let index = Index::open_unknown_terms(&bytes).unwrap();
     let mut lines = String::new();
     for ((id, block), separator) in index.blocks().zip(index.separators()) {
         let hex: String = separator.iter().map(|byte| format!("{byte:02x}")).collect();
@@ -222,7 +225,13 @@ fn model_agrees() {
     assert_eq!(model::best_slope(&[4, 9]), (5, 2));
     assert_eq!(model::best_slope(&[1 << 40]), (0, 42));
     assert_eq!(model::best_slope(&[]), (0, 1));
-    let opened = model::open(&index()).unwrap();
+    let opened = model::open(&index(), 12).unwrap();
     assert_eq!(opened.blocks, blocks());
     assert_eq!(opened.index(), index());
+    assert_eq!(
+        (opened.least_terms(), model::open(&index(), 9)),
+        (10, Err(28))
+    );
+    assert_eq!(opened.by_ord(11, 12), Some((2, blocks()[2])));
+    assert_eq!(opened.by_ord(12, 12), None);
 }

@@ -13,7 +13,7 @@ use std::io::{Read, Write};
 fn print<W: Write>(out: &mut W, data: &[u8]) -> io::Result<()>
     ensures { OnOk result (Appends (W.contents out.old) (W.contents out.new) (blocks_text «data».now)) }
 {
-    let loaded = index_load::load(data);
+    let loaded = index_load::load_least(data);
     // A fixed area, so that a text can't end in its middle for want of memory.
     let mut text = [0u8; LINE_LEN];
     for i in 0..block_lines::pieces(loaded, data) {

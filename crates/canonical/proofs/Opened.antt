@@ -21,20 +21,21 @@ use Rattle.layout.specs.declared.refusals.Refusal.{Refusal}
 use Rattle.layout.specs.Refusals.{number_of}
 use Rattle.layout.proofs.Numbers.{number_positive}
 use Rattle.group.proofs.RowOrder.{or_row-first}
-use Rattle.index.specs.Answers.{load_no}
 use Rattle.index.specs.Parts.{group_records_part, addrs_part, count_in}
-use Rattle.index.specs.Opening.{open_no, opened_of, open_def, OpensBy}
+use Rattle.index.specs.Opening.{file_no, opened_of, open_def, OpensBy, least_terms}
 use Rattle.index.proofs.OpenFacts.{OpenFacts, opens-facts-by}
-use Rattle.index.proofs.OpeningRows.{open-ok, load-number}
+use Rattle.index.proofs.OpeningRows.{file-ok}
+use Rattle.index.proofs.Terms.{least-number}
 use Rattle.canonical.specs.Canonical.{canonical_no}
 use Rattle.index.proofs.OpeningJoined.{length-records_part}
 use Rattle.canonical.proofs.Parts.{canonical-parts}
 
-pub refused-number : (S : Settings) (f : List ℕ) (r : Refusal) → open_def S.len_of_group f ≡ Err r → number_of r ≡ canonical_no S f
+pub refused-number : (S : Settings) (f : List ℕ) (r : Refusal)
+    → open_def S.len_of_group (least_terms S.len_of_group f) f ≡ Err r → number_of r ≡ canonical_no S f
 unfolding canonical_no
 refused-number S f r e =
-    let no : number_of r ≡ open_no S.len_of_group f = sym (ap load_no e) ∙ load-number S.len_of_group f in
-    no ∙ sym (or_row-first (open_no S.len_of_group f) _ (λ z. let some = number_positive r in omega arith))
+    let no = least-number S.len_of_group f r e in
+    no ∙ sym (or_row-first (file_no S.len_of_group f) _ (λ z. omega (arith, number_positive r, no)))
 
 module _ (L : ℕ) (f : List ℕ) (opened : SSTableIndexV3) (len : GroupLenOk L) (opens : OpensBy L f opened) where
   facts : OpenFacts L f opened
@@ -63,7 +64,7 @@ module _ (L : ℕ) (f : List ℕ) (opened : SSTableIndexV3) (len : GroupLenOk L)
 
   pub store_kept : store_no L (take (opened.addrs - opened.metas) (drop opened.metas f))
       (take (opened.addrs + opened.addrs_len - opened.addrs) (drop opened.addrs f)) opened.n ≡ 0
-  store_kept = rw (records-lent, addrs-lent, facts.count) (open-ok L f facts.accepted).store
+  store_kept = rw (records-lent, addrs-lent, facts.count) (file-ok L f facts.accepted).store
 
   -- and the number by its answer
   pub number_by : (r : Bool) → DigitsBelow 8 f

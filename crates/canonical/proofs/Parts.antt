@@ -20,8 +20,8 @@ use Rattle.store_canonical.proofs.Blocks.{length-blocks_from}
 use Rattle.store_canonical.proofs.Same.{same_self, same_true, same-equal, same_differs, differs-same}
 use Rattle.builder.specs.Index.{Settings, index_bytes}
 use Rattle.index.specs.Parts.{len_of_directory, group_records_len, group_records_part, addrs_part, count_in, block_in}
-use Rattle.index.specs.Opening.{open_no}
-use Rattle.index.proofs.OpeningRows.{footer-ok, records-ok, open-ok, length-directory_part}
+use Rattle.index.specs.Opening.{file_no}
+use Rattle.index.proofs.OpeningRows.{footer-ok, records-ok, file-ok, length-directory_part}
 use Rattle.canonical.specs.Canonical.{blocks_in, separators_in, rewritten, canonical_no}
 use Rattle.index.proofs.OpeningJoined.{length-records_part, directory-bytes, file-is}
 
@@ -69,7 +69,7 @@ index-by : (S : Settings) (bs : List BlockAddr) (ks : List (List ℕ)) (n d m : 
 unfolding index_bytes store_bytes
 index-by S bs ks n d m en ed em = rw (em, en, ed)
 
-module _ (S : Settings) (f : List ℕ) (len : GroupLenOk S.len_of_group) (bytes : DigitsBelow 8 f) (opened : open_no S.len_of_group f ≡ 0)
+module _ (S : Settings) (f : List ℕ) (len : GroupLenOk S.len_of_group) (bytes : DigitsBelow 8 f) (opened : file_no S.len_of_group f ≡ 0)
   where
     -- the records and the address bytes made anew
     abbrev records-anew : List ℕ
@@ -87,7 +87,7 @@ module _ (S : Settings) (f : List ℕ) (len : GroupLenOk S.len_of_group) (bytes 
         (len_of_directory f))
     unfolding rewritten
     rewritten-is =
-        let ok = open-ok S.len_of_group f opened in
+        let ok = file-ok S.len_of_group f opened in
         index-by S (blocks_in S.len_of_group f) (separators_in f) (count_in f) (len_of_directory f) (group_records_len f) length-blocks_in
         (ap length (sym (directory-bytes S.len_of_group f bytes opened)) ∙ length-directory_part f (footer-ok f ok.footer))
         (records-ok S.len_of_group f ok.records).exact

@@ -21,8 +21,8 @@ use Rattle.builder.specs.Finish.{area_directory, area_index, finish_def}
 use Rattle.builder.specs.declared.SSTableIndexBuilder.{SSTableIndexBuilder}
 use Rattle.builder.proofs.FinishNumbers.{finish-taken}
 use Rattle.index.specs.Parts.{count_in, block_in}
-use Rattle.index.specs.Opening.{open_no}
-use Rattle.index.proofs.OpeningRows.{footer-ok, directory-ok, open-ok}
+use Rattle.index.specs.Opening.{file_no}
+use Rattle.index.proofs.OpeningRows.{footer-ok, directory-ok, file-ok}
 use Rattle.canonical.specs.Canonical.{blocks_in, separators_in, rewritten, canonical_no, AreasHold}
 
 -- ---- the number
@@ -37,16 +37,16 @@ either false = inr refl
 
 module _ (S : Settings) (f : List ℕ) where
   -- a file that gets 0 opens
-  pub canonical-opens : canonical_no S f ≡ 0 → open_no S.len_of_group f ≡ 0
+  pub canonical-opens : canonical_no S f ≡ 0 → file_no S.len_of_group f ≡ 0
   unfolding canonical_no
-  canonical-opens e = (or_row-zero (open_no S.len_of_group f) _ e).0
+  canonical-opens e = (or_row-zero (file_no S.len_of_group f) _ e).0
 
   -- a refused file gets opening's number
-  pub canonical-refused : (open_no S.len_of_group f ≡ 0 → ⊥) → canonical_no S f ≡ open_no S.len_of_group f
+  pub canonical-refused : (file_no S.len_of_group f ≡ 0 → ⊥) → canonical_no S f ≡ file_no S.len_of_group f
   unfolding canonical_no
-  canonical-refused refused = or_row-first (open_no S.len_of_group f) _ refused
+  canonical-refused refused = or_row-first (file_no S.len_of_group f) _ refused
 
-  module _ (opened : open_no S.len_of_group f ≡ 0) where
+  module _ (opened : file_no S.len_of_group f ≡ 0) where
     number : canonical_no S f ≡ cond (same_bytes f (rewritten S f)) 0 27
     unfolding canonical_no
     number = ap (λ (k : ℕ). or_row k (cond (same_bytes f (rewritten S f)) 0 27)) opened
@@ -73,11 +73,11 @@ canonical-unique S f g p q blocks separators = canonical-is S f p ∙ rw (blocks
 
 -- ---- finish
 
-module _ (S : Settings) (f : List ℕ) (opened : open_no S.len_of_group f ≡ 0) (b : SSTableIndexBuilder) (B K : List ℕ)
+module _ (S : Settings) (f : List ℕ) (opened : file_no S.len_of_group f ≡ 0) (b : SSTableIndexBuilder) (B K : List ℕ)
     (hold : AreasHold b B K (blocks_in S.len_of_group f) (separators_in f)) where
   count : 2 ≤ b.n
   count =
-      let ok = open-ok S.len_of_group f opened in
+      let ok = file-ok S.len_of_group f opened in
       let there = (directory-ok f (footer-ok f ok.footer) ok.directory).some in
       let same : b.n ≡ count_in f = sym (length-blocks_at B stride 0 b.n) ∙ ap length hold.blocks-are ∙ length-blocks_from (block_in
       S.len_of_group f) 0 (count_in f) in

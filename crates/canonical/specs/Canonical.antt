@@ -9,7 +9,7 @@ use Rattle.builder.specs.Index.{Settings, index_bytes}
 use Rattle.builder.specs.Finish.{list_no, area_keys}
 use Rattle.builder.specs.declared.SSTableIndexBuilder.{SSTableIndexBuilder}
 use Rattle.index.specs.Parts.{directory_part, count_in, block_in}
-use Rattle.index.specs.Opening.{open_no}
+use Rattle.index.specs.Opening.{file_no}
 use Rattle.store_canonical.specs.Same.{same_bytes}
 use Rattle.store_canonical.specs.Canonical.{blocks_from}
 
@@ -26,7 +26,7 @@ rewritten S f = index_bytes S (blocks_in S.len_of_group f) (separators_in f)
 
 -- rows 10 to 16, then 27: a file that opens but isn't that index; 0 where it is
 unfoldable pub canonical_no : Settings → List ℕ → ℕ
-canonical_no S f = or_row (open_no S.len_of_group f) (cond (same_bytes f (rewritten S f)) 0 27)
+canonical_no S f = or_row (file_no S.len_of_group f) (cond (same_bytes f (rewritten S f)) 0 27)
 
 -- a builder with its areas holds these blocks and separators, and neither row 1 nor row 8 is hit
 pub record AreasHold (b : SSTableIndexBuilder) (B K : List ℕ) (blocks : List BlockAddr) (separators : List (List ℕ)) : Type 0 where

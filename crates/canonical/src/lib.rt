@@ -41,7 +41,7 @@ fn check_grouped(data: &[u8], group_len: usize) -> Result<(), Refusal>
     requires { GroupLenOk group_len }
     ensures { no_of result ≡ canonical_no (settings_of group_len) «data».now }
 {
-    let opened = index_load::grouped::load(data, group_len)?;
+    let opened = index_load::grouped::load_least(data, group_len)?;
     check_store(data, opened, group_len)
 }
 

@@ -11,18 +11,15 @@ use Rattle.group.specs.Blocks.{no_block}
 use Rattle.directory.proofs.Opened.{length-keys_from, get_or-keys_from}
 use Rattle.builder.specs.Index.{Settings, index_bytes}
 use Rattle.index.specs.Parts.{directory_part, count_in, block_in, separator_in}
-use Rattle.written_index.specs.Written.{WrittenIndex, IndexRead}
-use Rattle.written_index.proofs.IndexRead.{written-facts, index_read}
+use Rattle.written_index.specs.Written.{WrittenIndex}
+use Rattle.written_index.proofs.IndexRead.{written-count, written-file, written-block, written-separator}
 use Rattle.store_canonical.proofs.Blocks.{length-blocks_from, blocks_from-at}
 use Rattle.store_canonical.proofs.Same.{same_true}
 use Rattle.canonical.specs.Canonical.{blocks_in, separators_in, rewritten, canonical_no}
 
 module _ {choose : List ℕ → ℕ} {L : ℕ} {bs : List BlockAddr} {ks : List (List ℕ)} {f : List ℕ} (w : WrittenIndex choose L bs ks f) where
-  reads : IndexRead L (length bs) bs ks f
-  reads = index_read w
-
   count : count_in f ≡ length bs
-  count = sym (written-facts w).count ∙ reads.count
+  count = written-count w
 
   -- the blocks and the separators read in it are those that it was written from
   blocks-read : blocks_in L f ≡ bs
@@ -30,7 +27,7 @@ module _ {choose : List ℕ → ℕ} {L : ℕ} {bs : List BlockAddr} {ks : List 
       let long = length-blocks_from (block_in L f) 0 (count_in f) in
       ext_get_or no_block (blocks_in L f) bs (long ∙ count)
       (λ i h. let b : i < count_in f = omega (arith, long) in
-      blocks_from-at (block_in L f) 0 (count_in f) i b ∙ rw (zero-add i) (reads.block i (omega (arith, count))))
+      blocks_from-at (block_in L f) 0 (count_in f) i b ∙ rw (zero-add i) (written-block w i (omega (arith, count))))
 
   separators-read : separators_in f ≡ ks
   unfolding separator_in
@@ -38,7 +35,7 @@ module _ {choose : List ℕ → ℕ} {L : ℕ} {bs : List BlockAddr} {ks : List 
       let long = length-keys_from (directory_part f) (count_in f) 0 (count_in f) in
       ext_get_or [] (separators_in f) ks (long ∙ count ∙ sym w.same)
       (λ i h. let b : i < count_in f = omega (arith, long) in
-      get_or-keys_from (directory_part f) (count_in f) 0 (count_in f) i b ∙ rw (zero-add i) (reads.separator i (omega (arith, count))))
+      get_or-keys_from (directory_part f) (count_in f) 0 (count_in f) i b ∙ rw (zero-add i) (written-separator w i (omega (arith, count))))
 
   abbrev S : Settings
   S = record { choose = choose; len_of_group = L }
@@ -49,4 +46,4 @@ module _ {choose : List ℕ → ℕ} {L : ℕ} {bs : List BlockAddr} {ks : List 
 
   pub written-canonical : canonical_no S f ≡ 0
   unfolding canonical_no
-  written-canonical = rw ((written-facts w).accepted, rewritten-same, same_true f f refl)
+  written-canonical = rw (written-file w, rewritten-same, same_true f f refl)

@@ -1,10 +1,13 @@
--- Demand 3: the calls' answers are the plain machine's; what finish writes opens, has the blocks and passes the check.
-use Prim.Native.Nat.{ℕ, ◌^◌, ◌<◌}
+-- Demand 3: the calls' answers are the plain machine's; what finish writes opens just where the number of terms is above its last
+-- block's first ordinal, has the blocks and passes the check.
+use Prim.Native.Nat.{ℕ, ◌^◌, ◌≤◌, ◌<◌}
 use mathlib.Core.Path.{◌≡◌, refl, sym, ap, subst, ◌∙◌}
 use mathlib.Core.List.{List}
 use mathlib.Core.Logic.{⊎_elim}
 use native.Mathlib.Omega.{arith}
 use lib.ListN.{take}
+use Rattle.std.specs.Prelude.{Ok, Err}
+use Rattle.layout.specs.declared.refusals.Refusal.TheVariants.{TermsBad}
 use Rattle.slope.specs.Slope.{best_slope}
 use Rattle.slope.proofs.Widths.{best_slope-lt}
 use Rattle.builder.specs.Calls.{State}
@@ -18,10 +21,10 @@ use Rattle.machine.proofs.Rules.{run-rules}
 use Rattle.machine.proofs.Finishing.{finish-plain}
 use Rattle.machine.proofs.PlainFinish.{plain-number, plain-front}
 use Rattle.machine.proofs.SameIndex.{same_index, fresh-inj}
-use Rattle.index.specs.Opening.{Opens, opened_of}
+use Rattle.index.specs.Opening.{load_def, opened_of}
 use Rattle.canonical.specs.Canonical.{canonical_no}
-use Rattle.demands.specs.Demand3.{Finds, entries_of_calls, Finishes, index_of_calls, Demand3}
-use Rattle.demands.proofs.Found.{settings, entries-open, found, entries-canonical}
+use Rattle.demands.specs.Demand3.{Finds, last_first_of, entries_of_calls, Finishes, index_of_calls, Demand3}
+use Rattle.demands.proofs.Found.{settings, entries-open, entries-refused, found, entries-canonical}
 
 module _ (choose : List ℕ → ℕ) (slopes : (vs : List ℕ) → choose vs < 2 ^ 32) where
   settings-ok : SettingsOk (settings choose)
@@ -43,18 +46,26 @@ module _ (choose : List ℕ → ℕ) (slopes : (vs : List ℕ) → choose vs < 2
           ap (λ (x : Finish). take x.total x.out) finishes
           ∙ plain-front (settings choose) (entries_of_calls cs fresh) out (sym (ap (λ (x : Finish). x.no) finishes) ∙ h.accepted)
 
-      opens : Opens (index_of_calls (settings choose) cs fresh out) (opened_of (index_of_calls (settings choose) cs fresh out))
-      opens =
+      refuses : (terms : ℕ) → terms ≤ last_first_of (entries_of_calls cs fresh)
+          → load_def terms (index_of_calls (settings choose) cs fresh out) ≡ Err TermsBad
+      refuses terms below =
           let both = run-rules cs fresh none in
-          subst (λ (f : List ℕ). Opens f (opened_of f)) (sym laid_out)
-          (entries-open choose slopes (entries_of_calls cs fresh) both.1 both.0.rep.few h.two)
+          rw laid_out (entries-refused choose slopes (entries_of_calls cs fresh) both.1 both.0.rep.few h.two terms below)
 
-      finds : Finds (entries_of_calls cs fresh) (index_of_calls (settings choose) cs fresh out)
-          (opened_of (index_of_calls (settings choose) cs fresh out))
-      finds =
-          let both = run-rules cs fresh none in
-          subst (λ (f : List ℕ). Finds (entries_of_calls cs fresh) f (opened_of f)) (sym laid_out)
-          (found choose slopes (entries_of_calls cs fresh) both.1 both.0.rep.few h.two)
+      module _ (terms : ℕ) (above : last_first_of (entries_of_calls cs fresh) < terms) where
+        opens : load_def terms (index_of_calls (settings choose) cs fresh out)
+            ≡ Ok (opened_of terms (index_of_calls (settings choose) cs fresh out))
+        opens =
+            let both = run-rules cs fresh none in
+            subst (λ (f : List ℕ). load_def terms f ≡ Ok (opened_of terms f)) (sym laid_out)
+            (entries-open choose slopes (entries_of_calls cs fresh) both.1 both.0.rep.few h.two terms above)
+
+        finds : Finds (entries_of_calls cs fresh) (index_of_calls (settings choose) cs fresh out) terms
+            (opened_of terms (index_of_calls (settings choose) cs fresh out))
+        finds =
+            let both = run-rules cs fresh none in
+            subst (λ (f : List ℕ). Finds (entries_of_calls cs fresh) f terms (opened_of terms f)) (sym laid_out)
+            (found choose slopes (entries_of_calls cs fresh) both.1 both.0.rep.few h.two terms above)
 
       canonical : canonical_no (settings choose) (index_of_calls (settings choose) cs fresh out) ≡ 0
       canonical =
@@ -72,6 +83,7 @@ module _ (choose : List ℕ → ℕ) (slopes : (vs : List ℕ) → choose vs < 2
     finish-never-1 = only-nine cs fresh out none 1 (λ e. omega arith) (λ e. omega arith);
     finish-never-8 = only-nine cs fresh out none 8 (λ e. omega arith) (λ e. omega arith);
     opens = opens cs fresh out none;
+    refuses = refuses cs fresh out none;
     finds = finds cs fresh out none;
     canonical = canonical cs fresh out none;
     equal = λ cs' fresh' out' none' h h' same.

@@ -97,15 +97,23 @@ in-1 (suc zero) l = refl
 in-1 (suc (suc zero)) l = absurd (omega (arith, l.at_most))
 in-1 (suc (suc (suc id))) l = absurd (omega (arith, l.inside))
 
-pub in-2 : (id : ℕ) → Last ordinal 3 1000000 id → id ≡ 2
+pub in-2 : (id : ℕ) → Last ordinal 3 11 id → id ≡ 2
 in-2 zero l = absurd (omega (arith, l.later 2 (omega arith) (omega arith)))
 in-2 (suc zero) l = absurd (omega (arith, l.later 2 (omega arith) (omega arith)))
 in-2 (suc (suc zero)) l = refl
 in-2 (suc (suc (suc id))) l = absurd (omega (arith, l.inside))
 
--- the block of an ordinal, where its number among the three is known
-pub located : (ord at : ℕ) → ((id : ℕ) → Last ordinal 3 ord id → id ≡ at) → (k id : ℕ) (addr : BlockAddr)
-    → ByOrdExact (entry_block three) 3 ord k id addr
+-- the block of an ordinal below 12, where its number among the three is known
+pub located : (ord at : ℕ) → ord < 12 → ((id : ℕ) → Last ordinal 3 ord id → id ≡ at) → (k id : ℕ) (addr : BlockAddr)
+    → ByOrdExact (entry_block three) 3 12 ord k id addr
     → (k ≡ 0) × (id ≡ at) × (addr ≡ entry_block three at)
-located ord at is k id addr (inl p) = (p.0, is id p.1, p.2 ∙ ap (entry_block three) (is id p.1))
-located ord at is k id addr (inr p) = absurd (let z : ⊥ = omega (arith, p.3) in z)
+located ord at below is k id addr (inl p) = (p.0, is id p.2, p.3 ∙ ap (entry_block three) (is id p.2))
+located ord at below is k id addr (inr (inl p)) = absurd (let z : ⊥ = omega (arith, p.3) in z)
+located ord at below is k id addr (inr (inr p)) = absurd (let z : ⊥ = omega (arith, p.4) in z)
+
+-- none at or above it
+pub no-term : (ord : ℕ) → 12 ≤ ord → (k id : ℕ) (addr : BlockAddr) → ByOrdExact (entry_block three) 3 12 ord k id addr
+    → (k ≡ 29) × (id ≡ 0) × (addr ≡ no_block)
+no-term ord h k id addr (inl p) = absurd (let z : ⊥ = omega (arith, p.1) in z)
+no-term ord h k id addr (inr (inl p)) = absurd (let z : ⊥ = omega (arith, p.3) in z)
+no-term ord h k id addr (inr (inr p)) = (p.0, p.1, p.2)

@@ -1,5 +1,5 @@
 -- The marked worked cases, in their order, as one claim over one list of calls. Bytes stand as decimals.
-use Rattle.std.specs.Prelude.{ℕ, ◌+◌, ◌*◌, ◌^◌, ◌≤◌, ◌≡◌, Bool, true, false, List, [], ◌∷◌, ◌++◌, length, replicate}
+use Rattle.std.specs.Prelude.{ℕ, ◌+◌, ◌*◌, ◌^◌, ◌≤◌, ◌≡◌, Bool, true, false, List, [], ◌∷◌, ◌++◌, length, replicate, Ok}
 use Rattle.std.proofs.Math.Option.{none, some}
 use Rattle.keys.specs.Shorten.{shorten}
 use Rattle.slope.specs.Slope.{best_slope, width_of}
@@ -18,7 +18,7 @@ use Rattle.automaton.specs.Table.{table_no}
 use Rattle.automaton.specs.Words.{Hits}
 use Rattle.pruning.specs.Interval.{Marked}
 use Rattle.index.specs.declared.SSTableIndexV3.{SSTableIndexV3}
-use Rattle.index.specs.Opening.{Opens, opened_of}
+use Rattle.index.specs.Opening.{load_def, opened_of}
 use Rattle.index.specs.Lookups.{GetBlock, LocateWithOrd}
 use Rattle.canonical.specs.Canonical.{canonical_no}
 use Rattle.demands.specs.Demand3.{entries_of_calls, index_of_calls}
@@ -80,12 +80,12 @@ only_empty = 2 ∷ 1 ∷ 0 ∷ replicate 512 1
 
 -- ---- the cases
 
--- the index that finish makes of the list, and its opened record
+-- the index that finish makes of the list, and its record, opened with 12 terms
 abbrev pub worked_index : State → List ℕ → List ℕ
 worked_index fresh out = index_of_calls standard worked_calls fresh out
 
 abbrev pub worked_opened : State → List ℕ → SSTableIndexV3
-worked_opened fresh out = opened_of (worked_index fresh out)
+worked_opened fresh out = opened_of 12 (worked_index fresh out)
 
 pub record Worked (fresh : State) (out : List ℕ) : Type 0 where
   -- the three adds are taken, and are the blocks and separators
@@ -107,7 +107,7 @@ pub record Worked (fresh : State) (out : List ℕ) : Type 0 where
   pub accepted : (finished_after standard worked_calls fresh out).no ≡ 0
   pub total : (finished_after standard worked_calls fresh out).total ≡ 85
   pub index-bytes : length (worked_index fresh out) ≡ 85
-  pub opens : Opens (worked_index fresh out) (worked_opened fresh out)
+  pub opens : load_def 12 (worked_index fresh out) ≡ Ok (worked_opened fresh out)
   pub canonical : canonical_no standard (worked_index fresh out) ≡ 0
   -- 15.2
   pub id-2 : (k : ℕ) (addr : BlockAddr) → GetBlock (worked_index fresh out) (worked_opened fresh out) 2 k addr
@@ -119,8 +119,10 @@ pub record Worked (fresh : State) (out : List ℕ) : Type 0 where
       → (k ≡ 0) × (id ≡ 0) × (addr ≡ block0)
   pub ordinal-4 : (k id : ℕ) (addr : BlockAddr) → LocateWithOrd (worked_index fresh out) (worked_opened fresh out) 4 k id addr
       → (k ≡ 0) × (id ≡ 1) × (addr ≡ block1)
-  pub ordinal-1000000 : (k id : ℕ) (addr : BlockAddr) → LocateWithOrd (worked_index fresh out) (worked_opened fresh out) 1000000 k id addr
+  pub ordinal-11 : (k id : ℕ) (addr : BlockAddr) → LocateWithOrd (worked_index fresh out) (worked_opened fresh out) 11 k id addr
       → (k ≡ 0) × (id ≡ 2) × (addr ≡ block2)
+  pub ordinal-1000000 : (k id : ℕ) (addr : BlockAddr) → LocateWithOrd (worked_index fresh out) (worked_opened fresh out) 1000000 k id addr
+      → (k ≡ 29) × (id ≡ 0) × (addr ≡ no_block)
   -- 15.4
   pub point-slope : best_slope (2 ^ 40 ∷ []) ≡ 0
   pub point-width : width_of (best_slope (2 ^ 40 ∷ [])) (2 ^ 40 ∷ []) ≡ 42

@@ -1,7 +1,7 @@
--- Demand 3 (SPECIFICATION 18.3 to 18.10, 18.14, 18.15): one claim about any list of calls that begins with a fresh builder, then
+-- Demand 3 (SPECIFICATION 18.3 to 18.10, 18.14, 18.15, 18.17): one claim about any list of calls that begins with a fresh builder, then
 -- finish, opening and what is found there. The calls are those of the contracts; the plain machine sees their arguments and the
 -- areas' lengths.
-use Rattle.std.specs.Prelude.{ℕ, ◌+◌, ◌*◌, ◌≤◌, ◌<◌, ◌≡◌, cond, List, [], ltb, length, get_or, take, Option, Some, None}
+use Rattle.std.specs.Prelude.{ℕ, ◌+◌, ◌*◌, ◌≤◌, ◌<◌, ◌≡◌, cond, List, [], ltb, length, get_or, take, Option, Some, None, Ok, Err}
 use Rattle.layout.specs.Layout.{max_blocks, pair_len}
 use Rattle.group.specs.declared.BlockAddr.{BlockAddr}
 use Rattle.group.specs.Rows.{or_row}
@@ -13,7 +13,8 @@ use Rattle.machine.specs.Finished.{plain_finish}
 use Rattle.machine.specs.Runs.{FreshState, rooms_of, run_numbers, finished_after}
 use Rattle.automaton.specs.Table.{table_no}
 use Rattle.index.specs.declared.SSTableIndexV3.{SSTableIndexV3}
-use Rattle.index.specs.Opening.{Opens, opened_of}
+use Rattle.layout.specs.declared.refusals.Refusal.TheVariants.{TermsBad}
+use Rattle.index.specs.Opening.{load_def, opened_of}
 use Rattle.index.specs.Answers.{part_at}
 use Rattle.index.specs.Lookups.{
   ByIdExact,
@@ -28,7 +29,7 @@ use Rattle.index.specs.Lookups.{
 }
 use Rattle.batch.specs.Batch.{batch_no, BatchExact, LocateWithKeys}
 use Rattle.listing.specs.Listing.{ListingLeaves, GetBlockForAutomaton}
-use Rattle.written_index.specs.Written.{lengths_before}
+use Rattle.written_index.specs.Written.{lengths_before, last_first}
 use Rattle.canonical.specs.Canonical.{canonical_no}
 
 -- the block and the separator of an entry, the oldest being 0 (SPECIFICATION 4.6)
@@ -43,13 +44,17 @@ unfoldable pub entry_place : List Entry → ℕ → Option (ℕ × ℕ)
 entry_place es i =
     cond (ltb i (length es)) (Some (4 + pair_len * length es + lengths_before (separators_of es) i, length (entry_separator es i))) None
 
--- what is found in the index f of the entries, opened
-pub record Finds (es : List Entry) (f : List ℕ) (opened : SSTableIndexV3) : Type 0 where
+-- the first ordinal of the last entry
+abbrev pub last_first_of : List Entry → ℕ
+last_first_of es = last_first (blocks_of es)
+
+-- what is found in the index f of the entries, opened with a number of terms
+pub record Finds (es : List Entry) (f : List ℕ) (terms : ℕ) (opened : SSTableIndexV3) : Type 0 where
   -- 18.6: every id that there is finds its block, any other gets 17
   pub by-id : (id k : ℕ) (addr : BlockAddr) → GetBlock f opened id k addr → ByIdExact (entry_block es) (length es) id k addr
-  -- 18.7: by ordinal, or 18
+  -- 18.7: an ordinal below the number of terms gives the last block whose first ordinal is at or below it; none is 18 or 29
   pub by-ordinal : (ord k id : ℕ) (addr : BlockAddr) → LocateWithOrd f opened ord k id addr
-      → ByOrdExact (entry_block es) (length es) ord k id addr
+      → ByOrdExact (entry_block es) (length es) terms ord k id addr
   -- a key gives the first block whose separator isn't below it, otherwise none (19); an address with it is that block's
   pub by_key : (key : List ℕ) (k id : ℕ) → LocateWithKey f opened key k id → ByKeyExact (entry_separator es) (length es) key k id
   pub address-by-key : (key : List ℕ) (k id : ℕ) (addr : BlockAddr) → GetBlockWithKey f opened key k id addr
@@ -91,10 +96,14 @@ pub record Demand3 (S : Settings) (cs : List Call) (fresh : State) (out : List �
   pub finishes : finished_after S cs fresh out ≡ plain_finish S (entries_of_calls cs fresh) out
   pub finish-never-1 : (finished_after S cs fresh out).no ≡ 1 → ⊥
   pub finish-never-8 : (finished_after S cs fresh out).no ≡ 8 → ⊥
-  -- opened alone it opens, and there the blocks are found
-  pub opens : Finishes S cs fresh out → Opens (index_of_calls S cs fresh out) (opened_of (index_of_calls S cs fresh out))
-  pub finds : Finishes S cs fresh out
-      → Finds (entries_of_calls cs fresh) (index_of_calls S cs fresh out) (opened_of (index_of_calls S cs fresh out))
+  -- 18.17: opened alone it is refused for no number of terms above the first ordinal of its last block, and with 28 for all others;
+  -- wherever it opens the blocks are found
+  pub opens : Finishes S cs fresh out → (terms : ℕ) → last_first_of (entries_of_calls cs fresh) < terms
+      → load_def terms (index_of_calls S cs fresh out) ≡ Ok (opened_of terms (index_of_calls S cs fresh out))
+  pub refuses : Finishes S cs fresh out → (terms : ℕ) → terms ≤ last_first_of (entries_of_calls cs fresh)
+      → load_def terms (index_of_calls S cs fresh out) ≡ Err TermsBad
+  pub finds : Finishes S cs fresh out → (terms : ℕ) → last_first_of (entries_of_calls cs fresh) < terms
+      → Finds (entries_of_calls cs fresh) (index_of_calls S cs fresh out) terms (opened_of terms (index_of_calls S cs fresh out))
   -- 18.15: every finished index of two blocks or more is the one that finish makes of what is read in it: the check of document 02's
   -- wish 3 says yes
   pub canonical : Finishes S cs fresh out → canonical_no S (index_of_calls S cs fresh out) ≡ 0

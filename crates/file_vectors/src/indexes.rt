@@ -22,7 +22,7 @@ fn lines(alloc: Global, opened: SSTableIndexV3, data: &[u8]) -> Result<String, A
 
 // Whether the text is the lines of the blocks, or that of the refusal, which the check of the file gives too.
 fn is_text(alloc: Global, data: &[u8], expected: &[u8]) -> Result<bool, AllocError> {
-    Ok(match index_load::load(data) {
+    Ok(match index_load::load_least(data) {
         Ok(opened) => lines(alloc, opened, data)?.as_bytes() == expected,
         Err(refusal) => {
             canonical::check_canonical(data) == Err(refusal)

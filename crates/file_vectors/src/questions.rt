@@ -14,16 +14,23 @@ const ROW: Option<usize> = Some(ROW_OF_QUESTIONS);
 #[derive(Clone, Copy)]
 enum Kind {
     ById,
+    ByTerms,
     ByOrdinal,
     ByKey,
     IsCanonical,
 }
 
 // The letter of each kind, with the row of its tally and how many byte strings its lines have.
-const LETTERS: [Letter<Kind>; 4] = [
+const LETTERS: [Letter<Kind>; 5] = [
     Letter {
         letter: b'i',
         kind: Kind::ById,
+        row: ROW,
+        strings: 0,
+    },
+    Letter {
+        letter: b't',
+        kind: Kind::ByTerms,
         row: ROW,
         strings: 0,
     },
@@ -47,6 +54,13 @@ const LETTERS: [Letter<Kind>; 4] = [
     },
 ];
 
+// Whether the file opens with so many terms as the line says, and to the same record but for their number.
+fn opens_again(opened: SSTableIndexV3, data: &[u8], terms: u64, due: &[u64]) -> bool {
+    let answer = index_load::load(terms, data);
+    let same = SSTableIndexV3 { terms, ..opened };
+    is_told(due, answer.map(|_| [])) && answer.ok().is_none_or(|again| again == same)
+}
+
 // Whether the answer to a line's question is the line's own.
 fn is_answered(kind: Kind, case: Case<'_>, opened: SSTableIndexV3, data: &[u8]) -> bool {
     match (kind, case.numbers) {
@@ -55,9 +69,13 @@ fn is_answered(kind: Kind, case: Case<'_>, opened: SSTableIndexV3, data: &[u8]) 
             let answer = index_lookup::get_block(opened, data, *id);
             is_told(due, answer.map(|addr| <[u64; 3]>::from(addr)))
         }
-        // ORDINAL NO ID
-        (Kind::ByOrdinal, [ord, due @ ..]) => {
-            let answer = index_lookup::locate_with_ord(opened, data, *ord);
+        // TERMS NO
+        (Kind::ByTerms, [terms, due @ ..]) => opens_again(opened, data, *terms, due),
+        // TERMS ORDINAL NO ID
+        (Kind::ByOrdinal, [terms, ord, due @ ..]) => {
+            let answer = index_load::load(*terms, data).and_then(
+                |again| index_lookup::locate_with_ord(again, data, *ord),
+            );
             is_told(due, answer.map(|found| [found.block_id as u64]))
         }
         // NO ID
@@ -79,7 +97,7 @@ pub fn count(rt: &(impl Files + AllocGlobal), stem: &str, tallies: &mut Tallies)
         tallies.count(ROW, false);
         return Ok(());
     };
-    match index_load::load(&file) {
+    match index_load::load_least(&file) {
         Ok(opened) if !text.is_empty() => {
             driver::compare(rt.alloc(), &text, &LETTERS, tallies, |kind, case| {
                 Ok(is_answered(kind, case, opened, &file))

@@ -1,26 +1,32 @@
 -- Laws of the lookups: what the store and the directory find is what the index's lookups are defined to find.
-use mathlib.Core.Path.{◌≡◌, sym, ◌∙◌}
-use mathlib.Core.Bool.{true, true≢false}
+use mathlib.Core.Path.{◌≡◌, refl, sym, ap, ◌∙◌}
+use mathlib.Core.Bool.{true, cond, true≢false}
 use mathlib.Core.List.{List}
-use Prim.Native.Nat.{ℕ, ◌<◌}
+use mathlib.Core.Logic.{◌⊎◌, inl, inr, ⊎_elim}
+use Prim.Native.Nat.{ℕ, ◌≤◌, ◌<◌}
+use native.Mathlib.Nat.{mul-zero}
+use lib.Dec.{ltb}
+use borrow.Author.Tests.{ltb-true, ltb-false}
+use borrow.Table.Steps.{cases}
 use Rattle.std.specs.Prelude.{Result}
 use lib.ListN.{length}
 use Rattle.group.specs.declared.BlockAddr.{BlockAddr}
 use Rattle.group.specs.Legal.{Legal}
+use Rattle.group.specs.Blocks.{no_block}
 use Rattle.group.specs.Rows.{are_numbers_bad}
 use Rattle.group.proofs.Legal.{numbers-good}
-use Rattle.store.specs.Read.{store_block, block_or, StoreOk, OrdFoundAs}
+use Rattle.store.specs.Read.{group_meta, store_block, block_or, StoreOk, OrdFoundAs}
 use Rattle.store.specs.Facts.{GroupLenOk}
 use Rattle.store.specs.declared.Located.{Located}
-use Rattle.store.proofs.Lookup.{read-block}
+use Rattle.store.proofs.Lookup.{read-block, first-of-group}
 use Rattle.directory.specs.Read.{key_of, Sorted, FoundAs}
 use Rattle.layout.specs.declared.refusals.Refusal.{Refusal}
 use Rattle.index.specs.declared.SSTableIndexV3.{SSTableIndexV3}
 use Rattle.index.specs.Parts.{group_records_part, addrs_part, directory_part, count_in, block_in, separator_in}
 use Rattle.index.specs.Opening.{OpensBy}
-use Rattle.index.specs.Lookups.{opened_bad_by, directory_at}
+use Rattle.index.specs.Lookups.{opened_bad_by, directory_at, metas_at, addrs_at, first_ordinal_at, OrdRefuses, ByOrdExact}
 use Rattle.index.proofs.Fits.{bad-unfit}
-use Rattle.index.proofs.OpenFacts.{metas_at, addrs_at, OpenFacts, opens-facts-by}
+use Rattle.index.proofs.OpenFacts.{OpenFacts, opens-facts-by}
 
 -- a record that row 20 refuses comes from no opening of the bytes
 pub bad-unopened : (L : ℕ) (f : List ℕ) (opened : SSTableIndexV3) → GroupLenOk L → opened_bad_by L opened (length f) ≡ true
@@ -32,6 +38,23 @@ bad-unopened L f opened len e o = bad-unfit L opened (length f) e (opens-facts-b
 -- a legal one keeps row 3
 pub kept : (block : ℕ → BlockAddr) (n i : ℕ) (b : BlockAddr) → Legal block n → i < n → b ≡ block i → are_numbers_bad b ≡ true → ⊥
 kept block n i b legal h e bad = true≢false (sym bad ∙ numbers-good b (rw e (legal.numbers i h)))
+
+-- ---- an ordinal that isn't below the number of terms
+
+module _ (terms first ord k : ℕ) (h : terms ≤ ord) (e : k ≡ cond (ltb ord first) 18 29) where
+  -- below the first, or not
+  beyond : ((k ≡ 18) × (ord < first)) ⊎ ((k ≡ 29) × (first ≤ ord))
+  beyond = cases (ltb ord first) (λ t. inl (rw t at e, ltb-true ord first t)) (λ t. inr (rw t at e, ltb-false ord first t))
+
+  pub beyond-refused : OrdRefuses terms first ord k
+  beyond-refused = ⊎_elim (λ p. inl p) (λ p. inr (inl (p.0, p.1, h))) beyond
+
+  pub beyond-exact : (block : ℕ → BlockAddr) (n : ℕ) → first ≡ (block 0).first_ordinal → ByOrdExact block n terms ord k 0 no_block
+  beyond-exact block n same =
+      ⊎_elim
+      (λ p. inr (inl (p.0, refl, refl, rw same at p.1)))
+      (λ p. inr (inr (p.0, refl, refl, rw same at p.1, h)))
+      beyond
 
 -- ---- bytes and record of one opening
 
@@ -56,6 +79,13 @@ module _ (L : ℕ) (f : List ℕ) (opened : SSTableIndexV3) (facts : OpenFacts L
         → (StoreOk L recs addr opened.n → OrdFoundAs (store_block L recs addr) opened.n ord r) → OrdFoundAs (block_in L f) opened.n ord r
     unfolding block_in
     located-as ord r h = rw (recs-are, addr-are) at (h (rw (recs-are, addr-are, facts.count) facts.ok))
+
+  -- the first ordinal of the first group is the first block's
+  pub first-as : first_ordinal_at opened f ≡ (block_in L f 0).first_ordinal
+  unfolding block_in
+  first-as =
+      ap (λ (recs : List ℕ). (group_meta recs 0).first_ordinal) facts.metas
+      ∙ sym (rw (mul-zero L) at (first-of-group L (group_records_part f) (addrs_part f) facts.group.some 0))
 
   -- by key
   pub found_as : (d : List ℕ) → d ≡ directory_at opened f → (key : List ℕ) (r : Result ℕ Refusal)

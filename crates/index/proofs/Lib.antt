@@ -8,4 +8,5 @@ pub mod OpeningJoined
 pub mod OpeningRows
 pub mod Places
 pub mod Refusals
+pub mod Terms
 pub mod Unique

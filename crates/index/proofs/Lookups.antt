@@ -1,8 +1,9 @@
 -- What each lookup promises follows from what the store and the directory answer: of a record that row 20 refuses, and of one that fits.
 use mathlib.Core.Path.{◌≡◌, refl}
-use mathlib.Core.Bool.{true}
+use mathlib.Core.Bool.{true, cond}
 use mathlib.Core.List.{List}
-use mathlib.Core.Logic.{inl, inr}
+use mathlib.Core.Logic.{◌⊎◌, inl, inr}
+use lib.Dec.{ltb}
 use Prim.Native.Nat.{ℕ, ◌≤◌, ◌<◌}
 use Rattle.std.specs.Prelude.{Result, Ok, Err, MatchResult}
 use lib.ListN.{length}
@@ -19,9 +20,11 @@ use Rattle.index.specs.declared.SSTableIndexV3.{SSTableIndexV3}
 use Rattle.index.specs.Parts.{block_in, separator_in}
 use Rattle.index.specs.Opening.{OpensBy}
 use Rattle.index.specs.Answers.{by_id_no, by_id_addr, id_no, id_of, located_no, located_id, located_addr}
-use Rattle.index.specs.Lookups.{opened_bad_by, OpenedFits, GetBlockBy, LocateWithOrdBy, LocateWithKeyBy, GetBlockWithKeyBy}
+use Rattle.index.specs.Lookups.{opened_bad_by, OpenedFits, first_ordinal_at}
+use Rattle.index.specs.Lookups.{GetBlockBy, LocateWithOrdBy, LocateWithKeyBy, GetBlockWithKeyBy, OrdRefuses}
 use Rattle.index.proofs.Fits.{bad-unfit}
-use Rattle.index.proofs.Answered.{bad-unopened}
+use Rattle.index.proofs.OpenFacts.{opens-facts-by}
+use Rattle.index.proofs.Answered.{bad-unopened, beyond-refused, beyond-exact, first-as}
 
 module _ (L : ℕ) (f : List ℕ) (opened : SSTableIndexV3) where
   -- ---- a record that its own test refuses
@@ -33,7 +36,7 @@ module _ (L : ℕ) (f : List ℕ) (opened : SSTableIndexV3) where
 
     pub ord-unfit : (ord : ℕ) → LocateWithOrdBy L f opened ord k 0 no_block
     ord-unfit ord =
-        record { allowed = inr (inr unfit, refl, refl); unfit = λ e. unfit; exact = λ o. absurd (bad-unopened L f opened len bad o) }
+        record { allowed = inr (inr (inr unfit), refl, refl); unfit = λ e. unfit; exact = λ o. absurd (bad-unopened L f opened len bad o) }
 
     pub key-unfit : (key : List ℕ) → LocateWithKeyBy L f opened key k 0
     key-unfit key =
@@ -64,15 +67,35 @@ module _ (L : ℕ) (f : List ℕ) (opened : SSTableIndexV3) where
     block-answer id h (Ok addr) p = record { allowed = inl (refl, h, p.0); unfit = fit 0; exact = λ o. inl (refl, h, p.1 o) }
     block-answer id h (Err refusal) p = record { allowed = inr (inr p.0, refl); unfit = λ e. p.0; exact = λ o. absurd (p.1 o) }
 
-    -- by ordinal
-    pub ord-answer : (ord : ℕ) (r : Result Located Refusal) → OrdFoundIn opened.n r
+    -- by ordinal: not below the number of terms,
+    pub ord-beyond : GroupLenOk L → (ord k : ℕ) → opened.terms ≤ ord → k ≡ cond (ltb ord (first_ordinal_at opened f)) 18 29
+        → LocateWithOrdBy L f opened ord k 0 no_block
+    ord-beyond len ord k h e =
+        record {
+          allowed = inr (beyond-refused opened.terms (first_ordinal_at opened f) ord k h e, refl, refl);
+          unfit = fit k;
+          exact = λ o. beyond-exact opened.terms (first_ordinal_at opened f) ord k h e (block_in L f) opened.n
+              (first-as L f opened (opens-facts-by L f opened len o));
+        }
+
+    -- and below it
+    refuses : (ord k : ℕ) → ((k ≡ 18) × (ord < first_ordinal_at opened f)) ⊎ (k ≡ 20)
+        → OrdRefuses opened.terms (first_ordinal_at opened f) ord k
+    refuses ord k (inl p) = inl p
+    refuses ord k (inr e) = inr (inr e)
+
+    pub ord-answer : (ord : ℕ) (r : Result Located Refusal) → ord < opened.terms → OrdFoundIn opened.n (first_ordinal_at opened f) ord r
         → (OpensBy L f opened → OrdFoundAs (block_in L f) opened.n ord r)
         → LocateWithOrdBy L f opened ord (located_no r) (located_id r) (located_addr r)
     unfolding OrdFoundIn OrdFoundAs
-    ord-answer ord (Ok at) p q =
-        record { allowed = inl (refl, p.0, p.1); unfit = fit 0; exact = λ o. inl (refl, (q o).0, (q o).1) }
-    ord-answer ord (Err refusal) p q =
-        record { allowed = inr (p, refl, refl); unfit = fit (number_of refusal); exact = λ o. inr ((q o).0, refl, refl, (q o).1) }
+    ord-answer ord (Ok at) h p q =
+        record { allowed = inl (refl, h, p.0, p.1); unfit = fit 0; exact = λ o. inl (refl, h, (q o).0, (q o).1) }
+    ord-answer ord (Err refusal) h p q =
+        record {
+          allowed = inr (refuses ord (number_of refusal) p, refl, refl);
+          unfit = fit (number_of refusal);
+          exact = λ o. inr (inl ((q o).0, refl, refl, (q o).1));
+        }
 
     module _ (key : List ℕ) where
       -- by key

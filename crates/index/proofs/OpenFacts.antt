@@ -1,10 +1,11 @@
 -- What is known of bytes and a record that come from one opening: one record of facts, and that opening gives it.
-use mathlib.Core.Path.{◌≡◌, refl}
+use mathlib.Core.Path.{◌≡◌, refl, sym, subst}
 use Rattle.std.specs.Prelude.{Ok}
 use mathlib.Core.List.{List}
-use Prim.Native.Nat.{ℕ, zero, suc, ◌+◌, ◌*◌, ◌≤◌}
+use Prim.Native.Nat.{ℕ, zero, suc, ◌+◌, ◌-◌, ◌*◌, ◌^◌, ◌≤◌, ◌<◌}
 use native.Mathlib.Omega.{arith}
-use lib.ListN.{length, take, drop}
+use lib.ListN.{length}
+use Rattle.group.specs.Legal.{limit}
 use Rattle.store.specs.Store.{group_count}
 use Rattle.store.specs.Read.{StoreOk}
 use Rattle.store.specs.Facts.{GroupLenOk}
@@ -14,21 +15,16 @@ use Rattle.directory.proofs.Rules.{DirectoryOk, directory-kept}
 use Rattle.directory.proofs.Opened.{opened-good, opened-sorted}
 use Rattle.index.specs.declared.SSTableIndexV3.{SSTableIndexV3}
 use Rattle.index.specs.Parts.{len_of_directory, directory_part, store_len, group_records_len, group_records_part, addrs_part, count_in}
-use Rattle.index.specs.Opening.{open_no, opened_of, step_of_open, open_def, OpensBy, group_of, Opens}
-use Rattle.index.specs.Lookups.{directory_at, OpenedFits}
-use Rattle.index.proofs.OpeningRows.{footer-ok, records-ok, open-ok}
-
--- the group records and the address bytes that a record names
-abbrev pub metas_at : SSTableIndexV3 → List ℕ → List ℕ
-metas_at opened f = take opened.metas_len (drop opened.metas f)
-
-abbrev pub addrs_at : SSTableIndexV3 → List ℕ → List ℕ
-addrs_at opened f = take opened.addrs_len (drop opened.addrs f)
+use Rattle.index.specs.Parts.{block_in, last_first_ordinal}
+use Rattle.index.specs.Opening.{file_no, open_no, opened_of, step_of_open, open_def, OpensBy, least_terms, group_of, Opens}
+use Rattle.index.specs.Lookups.{directory_at, metas_at, addrs_at, OpenedFits}
+use Rattle.index.proofs.OpeningRows.{footer-ok, records-ok, file-ok, open-ok}
 
 pub record OpenFacts (L : ℕ) (f : List ℕ) (opened : SSTableIndexV3) : Type 0 where
   pub group : GroupLenOk L
-  pub accepted : open_no L f ≡ 0
-  pub is : opened ≡ opened_of f
+  pub accepted : file_no L f ≡ 0
+  pub above : last_first_ordinal L f < opened.terms
+  pub is : opened ≡ opened_of opened.terms f
   pub fits : OpenedFits L opened (length f)
   pub count : opened.n ≡ count_in f
   pub some : 2 ≤ count_in f
@@ -46,21 +42,24 @@ pub record OpenFacts (L : ℕ) (f : List ℕ) (opened : SSTableIndexV3) : Type 0
 
 -- ---- the facts
 
-opens-no : (f : List ℕ) (k : ℕ) (opened : SSTableIndexV3) → step_of_open k f ≡ Ok opened → (k ≡ 0) × (opened ≡ opened_of f)
-opens-no f zero opened e = (refl, cc)
-opens-no f (suc k) opened e = absurd (cc)
+pub opens-no : (terms : ℕ) (f : List ℕ) (k : ℕ) (opened : SSTableIndexV3) → step_of_open k terms f ≡ Ok opened
+    → (k ≡ 0) × (opened ≡ opened_of terms f)
+opens-no terms f zero opened e = (refl, cc)
+opens-no terms f (suc k) opened e = absurd (cc)
 
-module _ (L : ℕ) (f : List ℕ) (len : GroupLenOk L) where
-  accepted-facts : open_no L f ≡ 0 → OpenFacts L f (opened_of f)
+module _ (L terms : ℕ) (f : List ℕ) (len : GroupLenOk L) where
+  accepted-facts : open_no L terms f ≡ 0 → OpenFacts L f (opened_of terms f)
   unfolding opened_of
   accepted-facts e =
-      let none = open-ok L f e in
+      let passed = open-ok L terms f e in
+      let none = file-ok L f passed.file in
       let foot = footer-ok f none.footer in
       let recs = records-ok L f none.records in
       let rule = directory-kept (directory_part f) (opened-good (directory_part f) none.directory) in
       record {
         group = len;
-        accepted = e;
+        accepted = passed.file;
+        above = passed.above;
         is = refl;
         fits = record {
           some = omega (arith, rule.some);
@@ -85,15 +84,24 @@ module _ (L : ℕ) (f : List ℕ) (len : GroupLenOk L) where
         within = recs.inside;
       }
 
+-- the least number of terms of a file that keeps its rows is a number of 64 bits
+pub least-fits : (L : ℕ) (f : List ℕ) → GroupLenOk L → file_no L f ≡ 0 → least_terms L f < 2 ^ 64
+unfolding last_first_ordinal block_in limit
+least-fits L f len e =
+    let none = file-ok L f e in
+    let rule = directory-kept (directory_part f) (opened-good (directory_part f) none.directory) in
+    let ok = store_kept L (group_records_part f) (addrs_part f) (count_in f) len.some (omega (arith, rule.some)) none.store in
+    omega (arith, (ok.legal.numbers (count_in f - 1) (omega (arith, rule.some))).ordinal-small)
+
 pub opens-facts-by : (L : ℕ) (f : List ℕ) (opened : SSTableIndexV3) → GroupLenOk L → OpensBy L f opened → OpenFacts L f opened
 unfolding open_def
 opens-facts-by L f opened len e =
-    let a = opens-no f (open_no L f) opened e in
-    rw a.1 (accepted-facts L f len a.0)
+    let a = opens-no opened.terms f (open_no L opened.terms f) opened e in
+    subst (OpenFacts L f) (sym a.1) (accepted-facts L opened.terms f len a.0)
 
--- bytes open to one record
-pub opens-unique : (L : ℕ) (f : List ℕ) (a b : SSTableIndexV3) → OpensBy L f a → OpensBy L f b → a ≡ b
-opens-unique L f a b p q = cc
+-- bytes open to one record for each number of terms
+pub opens-unique : (L : ℕ) (f : List ℕ) (a b : SSTableIndexV3) → a.terms ≡ b.terms → OpensBy L f a → OpensBy L f b → a ≡ b
+opens-unique L f a b same p q = let r : open_def L a.terms f ≡ Ok b = rw same q in cc
 
 -- ---- the groups that a record has
 

@@ -13,8 +13,8 @@ use Rattle.directory.specs.Directory.{directory_bytes}
 use Rattle.directory.specs.Read.{keys_in}
 use Rattle.directory.proofs.Opened.{directory-is, opened-good}
 use Rattle.index.specs.Parts.{len_of_directory, directory_part, store_len, group_records_len, group_records_part, addrs_part, count_in}
-use Rattle.index.specs.Opening.{open_no}
-use Rattle.index.proofs.OpeningRows.{footer-ok, records-ok, open-ok}
+use Rattle.index.specs.Opening.{file_no}
+use Rattle.index.proofs.OpeningRows.{footer-ok, records-ok, file-ok}
 
 -- n bytes at p, then what is behind them
 split : (p n : ℕ) (f : List ℕ) → drop p f ≡ take n (drop p f) ++ drop (p + n) f
@@ -31,18 +31,18 @@ cut f D H F d m a all first second last =
     rw (first, second, last, end, rest, ← (split (d + 8 + m) a f), ← (split (d + 8) m f), ← (split d 8 f)) (sym (take-append-drop d f))
 
 -- the group records are as long as they say
-pub length-records_part : (L : ℕ) (f : List ℕ) → open_no L f ≡ 0 → length (group_records_part f) ≡ 36 * group_count L (count_in f)
+pub length-records_part : (L : ℕ) (f : List ℕ) → file_no L f ≡ 0 → length (group_records_part f) ≡ 36 * group_count L (count_in f)
 length-records_part L f opened =
-    let ok = open-ok L f opened in
+    let ok = file-ok L f opened in
     let foot = footer-ok f ok.footer in
     let recs = records-ok L f ok.records in
     let at = len_of_directory f + 8 in
     length-take-le (group_records_len f) (drop at f) (omega (arith, length-drop at f, foot.inside, recs.inside)) ∙ recs.exact
 
-module _ (L : ℕ) (f : List ℕ) (bytes : DigitsBelow 8 f) (opened : open_no L f ≡ 0) where
+module _ (L : ℕ) (f : List ℕ) (bytes : DigitsBelow 8 f) (opened : file_no L f ≡ 0) where
   pub directory-bytes : directory_part f ≡ directory_bytes (keys_in (directory_part f))
   directory-bytes =
-      let ok = open-ok L f opened in
+      let ok = file-ok L f opened in
       let foot = footer-ok f ok.footer in
       let d = len_of_directory f in
       let below : DigitsBelow 8 (take d f) = rw (← (number-bytes f 0 d (omega (arith, foot.inside)) bytes))
@@ -52,7 +52,7 @@ module _ (L : ℕ) (f : List ℕ) (bytes : DigitsBelow 8 f) (opened : open_no L 
   pub file-is : f ≡ directory_bytes (keys_in (directory_part f))
       ++ (le_bytes 8 (group_records_len f) ++ (group_records_part f ++ (addrs_part f ++ le_bytes 8 (len_of_directory f))))
   file-is =
-      let ok = open-ok L f opened in
+      let ok = file-ok L f opened in
       let foot = footer-ok f ok.footer in
       let recs = records-ok L f ok.records in
       let d = len_of_directory f in

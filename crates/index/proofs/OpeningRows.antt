@@ -1,4 +1,4 @@
--- Rows 10 to 16 as facts over numbers: what each refusal and each pass says of the file, and the number and the answer that follow.
+-- Rows 10 to 16 and 28 as facts over numbers: what each refusal and each pass says of the file, and the number and the answer that follow.
 use Prim.Native.Nat.{ℕ, ◌+◌, ◌-◌, ◌*◌, ◌≤◌, ◌<◌}
 use mathlib.Core.Path.{◌≡◌, sym, ap, ◌∙◌}
 use mathlib.Core.Bool.{true, false, not}
@@ -6,8 +6,8 @@ use mathlib.Core.List.{List}
 use Rattle.std.specs.Prelude.{Ok, Err}
 use native.Mathlib.Nat.{add-sub_cancel_left, le_refl}
 use native.Mathlib.Omega.{arith}
-use borrow.Author.Tests.{lt-ltb, le-ltb, eq-eqb, ne_eqb, ltb-false, eqb-true, eqb-false, not-false}
-use lib.Dec.{eqb, ltb}
+use borrow.Author.Tests.{lt-ltb, le-ltb, le-leb, lt-leb, eq-eqb, ne_eqb, ltb-false, leb-false, eqb-true, eqb-false, not-false}
+use lib.Dec.{eqb, ltb, leb}
 use lib.ListN.{length, take, drop, length-drop}
 use lib.Seq.{length-take-le, take-take}
 use Rattle.serialize.specs.Digits.{le_val}
@@ -20,7 +20,8 @@ use Rattle.directory.specs.Read.{directory_no}
 use Rattle.directory.proofs.Rules.{DirectoryOk, directory-kept}
 use Rattle.directory.proofs.Opened.{opened-good}
 use Rattle.index.specs.Parts.{len_of_directory, directory_part, store_len, group_records_len, group_records_part, addrs_part, count_in}
-use Rattle.index.specs.Opening.{footer_no, group_records_bad, open_no, opened_of, open_def}
+use Rattle.index.specs.Parts.{last_first_ordinal}
+use Rattle.index.specs.Opening.{footer_no, group_records_bad, file_no, open_no, opened_of, open_def}
 use Rattle.index.specs.declared.SSTableIndexV3.{SSTableIndexV3}
 use Rattle.index.specs.Answers.{load_no}
 use Rattle.index.proofs.Refusals.{step-refused, step-number, open_no-most}
@@ -159,7 +160,7 @@ module _ (L : ℕ) (f : List ℕ) (d m : ℕ) (footer : FooterOk f) (ed : d ≡ 
           rw (l, metas-read, en, records.exact) (le_refl _);
     }
 
-    pub opened-is : ◌≡◌ {A = SSTableIndexV3} (record {
+    pub opened-is : (terms : ℕ) → ◌≡◌ {A = SSTableIndexV3} (record {
       n = n;
       directory = 0;
       directory_len = d;
@@ -167,58 +168,88 @@ module _ (L : ℕ) (f : List ℕ) (d m : ℕ) (footer : FooterOk f) (ed : d ≡ 
       metas_len = m;
       addrs = d + 8 + m;
       addrs_len = length f - 8 - (d + 8 + m);
-    }) (opened_of f)
+      terms = terms;
+    }) (opened_of terms f)
     unfolding opened_of
-    opened-is = rw (addrs-long, en, metas-read, ed)
+    opened-is terms = rw (addrs-long, en, metas-read, ed)
 
--- ---- the number, and the answer
+-- ---- the file's number
 
 -- no row is hit
-pub record OpenOk (L : ℕ) (f : List ℕ) : Type 0 where
+pub record FileOk (L : ℕ) (f : List ℕ) : Type 0 where
   pub footer : footer_no f ≡ 0
   pub directory : directory_no (directory_part f) ≡ 0
   pub records : group_records_bad L f ≡ false
   pub store : store_no L (group_records_part f) (addrs_part f) (count_in f) ≡ 0
 
 module _ (L : ℕ) (f : List ℕ) where
-  pub open-footer : (footer_no f ≡ 0 → ⊥) → footer_no f ≡ open_no L f
-  unfolding open_no
-  open-footer h = sym (or_row-first (footer_no f) _ h)
+  pub file-footer : (footer_no f ≡ 0 → ⊥) → footer_no f ≡ file_no L f
+  unfolding file_no
+  file-footer h = sym (or_row-first (footer_no f) _ h)
 
   module _ (footer : footer_no f ≡ 0) where
-    pub open-directory : (directory_no (directory_part f) ≡ 0 → ⊥) → directory_no (directory_part f) ≡ open_no L f
-    unfolding open_no
-    open-directory h = rw footer (sym (or_row-first (directory_no (directory_part f)) _ h))
+    pub file-directory : (directory_no (directory_part f) ≡ 0 → ⊥) → directory_no (directory_part f) ≡ file_no L f
+    unfolding file_no
+    file-directory h = rw footer (sym (or_row-first (directory_no (directory_part f)) _ h))
 
     module _ (directory : directory_no (directory_part f) ≡ 0) where
-      pub open-records : group_records_bad L f ≡ true → 14 ≡ open_no L f
-      unfolding open_no
-      open-records bad = simp (footer, directory, bad)
+      pub file-records : group_records_bad L f ≡ true → 14 ≡ file_no L f
+      unfolding file_no
+      file-records bad = simp (footer, directory, bad)
 
-      pub open-store : group_records_bad L f ≡ false → store_no L (group_records_part f) (addrs_part f) (count_in f) ≡ open_no L f
-      unfolding open_no
-      open-store good = simp (footer, directory, good)
+      pub file-store : group_records_bad L f ≡ false → store_no L (group_records_part f) (addrs_part f) (count_in f) ≡ file_no L f
+      unfolding file_no
+      file-store good = simp (footer, directory, good)
 
-  pub open_none : OpenOk L f → open_no L f ≡ 0
-  open_none ok = sym (open-store ok.footer ok.directory ok.records) ∙ ok.store
+  pub file-none : FileOk L f → file_no L f ≡ 0
+  file-none ok = sym (file-store ok.footer ok.directory ok.records) ∙ ok.store
 
-  pub open-ok : open_no L f ≡ 0 → OpenOk L f
-  unfolding open_no
-  open-ok e =
+  pub file-ok : file_no L f ≡ 0 → FileOk L f
+  unfolding file_no
+  file-ok e =
       let footer = or_row-zero (footer_no f) _ e in
       let directory = or_row-zero (directory_no (directory_part f)) _ footer.1 in
       let records = cond-zero (group_records_bad L f) 13 _ directory.1 in
       record { footer = footer.0; directory = directory.0; records = records.0; store = records.1 }
 
-  pub open-refused : (r : Refusal) → number_of r ≡ open_no L f → Err r ≡ open_def L f
-  unfolding open_def
-  open-refused r e = rw (← e) (sym (step-refused f r))
+-- ---- the opening's number, and the answer
 
-  pub open-taken : open_no L f ≡ 0 → Ok (opened_of f) ≡ open_def L f
+module _ (L terms : ℕ) (f : List ℕ) where
+  -- rows 10 to 16 come first
+  pub open-file : (file_no L f ≡ 0 → ⊥) → open_no L terms f ≡ file_no L f
+  unfolding open_no
+  open-file h = or_row-first (file_no L f) _ h
+
+  module _ (file : file_no L f ≡ 0) where
+    -- then 28 for a number of terms that isn't above the last first ordinal
+    pub open-few : terms ≤ last_first_ordinal L f → open_no L terms f ≡ 28
+    unfolding open_no
+    open-few h = rw (file, le-leb terms (last_first_ordinal L f) h)
+
+    pub open-enough : last_first_ordinal L f < terms → open_no L terms f ≡ 0
+    unfolding open_no
+    open-enough h = rw (file, lt-leb terms (last_first_ordinal L f) h)
+
+  pub record OpenOk : Type 0 where
+    pub file : file_no L f ≡ 0
+    pub above : last_first_ordinal L f < terms
+
+  pub open-ok : open_no L terms f ≡ 0 → OpenOk
+  unfolding open_no
+  open-ok e =
+      let rows = or_row-zero (file_no L f) _ e in
+      let enough = (cond-zero (leb terms (last_first_ordinal L f)) 27 0 rows.1).0 in
+      record { file = rows.0; above = leb-false terms (last_first_ordinal L f) enough }
+
+  pub open-refused : (r : Refusal) → number_of r ≡ open_no L terms f → Err r ≡ open_def L terms f
+  unfolding open_def
+  open-refused r e = rw (← e) (sym (step-refused terms f r))
+
+  pub open-taken : open_no L terms f ≡ 0 → Ok (opened_of terms f) ≡ open_def L terms f
   unfolding open_def
   open-taken e = simp e
 
   -- what opening answers has the number
-  pub load-number : load_no (open_def L f) ≡ open_no L f
+  pub load-number : load_no (open_def L terms f) ≡ open_no L terms f
   unfolding open_def
-  load-number = step-number f (open_no L f) (open_no-most L f)
+  load-number = step-number terms f (open_no L terms f) (omega (arith, open_no-most L terms f))

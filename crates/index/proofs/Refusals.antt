@@ -11,7 +11,8 @@ use Rattle.layout.specs.declared.refusals.Refusal.{Refusal}
 use Rattle.layout.specs.declared.refusals.Refusal.TheVariants.{AreaBad, KeyLong, NumbersBad, JoinBad, OrdinalBad, KeyBad, RoomBad, ListBad}
 use Rattle.layout.specs.declared.refusals.Refusal.TheVariants.{OutShort, FileShort, NoDirectory, DirectoryBad, KeysUnsorted, RecordsBad}
 use Rattle.layout.specs.declared.refusals.Refusal.TheVariants.{GroupBad, BlockBad, UnknownId, OrdinalBelow, KeyAbove, Unfit, TableBad}
-use Rattle.layout.specs.declared.refusals.Refusal.TheVariants.{FlagBad, StateBad, RoomShort, NoExample, KeyListBad, NotCanonical}
+use Rattle.layout.specs.declared.refusals.Refusal.TheVariants.{FlagBad, StateBad, RoomShort, NoExample, KeyListBad, NotCanonical, TermsBad}
+use Rattle.layout.specs.declared.refusals.Refusal.TheVariants.{OrdinalAbove}
 use Rattle.layout.specs.Refusals.{number_of}
 use Rattle.layout.proofs.Numbers.{number_positive}
 use Rattle.group.specs.declared.BlockAddr.{BlockAddr}
@@ -19,40 +20,42 @@ use Rattle.group.specs.Rows.{or_row}
 use Rattle.store.specs.declared.Located.{Located}
 use Rattle.store.specs.Check.{store_no}
 use Rattle.directory.specs.Read.{directory_no}
-use Rattle.index.specs.Opening.{footer_no, open_no, rows, refusal_of, step_of_open}
+use Rattle.index.specs.Opening.{footer_no, file_no, open_no, rows, refusal_of, step_of_open}
 use Rattle.index.specs.Answers.{load_no, BlockByIdCased, LocatedCased, LocatedIdCased}
 
 -- ---- a refusal and its number
 
-pub step-refused : (f : List ℕ) (r : Refusal) → step_of_open (number_of r) f ≡ Err r
+pub step-refused : (terms : ℕ) (f : List ℕ) (r : Refusal) → step_of_open (number_of r) terms f ≡ Err r
 unfolding refusal_of
-step-refused f AreaBad = refl
-step-refused f KeyLong = refl
-step-refused f NumbersBad = refl
-step-refused f JoinBad = refl
-step-refused f OrdinalBad = refl
-step-refused f KeyBad = refl
-step-refused f RoomBad = refl
-step-refused f ListBad = refl
-step-refused f OutShort = refl
-step-refused f FileShort = refl
-step-refused f NoDirectory = refl
-step-refused f DirectoryBad = refl
-step-refused f KeysUnsorted = refl
-step-refused f RecordsBad = refl
-step-refused f GroupBad = refl
-step-refused f BlockBad = refl
-step-refused f UnknownId = refl
-step-refused f OrdinalBelow = refl
-step-refused f KeyAbove = refl
-step-refused f Unfit = refl
-step-refused f TableBad = refl
-step-refused f FlagBad = refl
-step-refused f StateBad = refl
-step-refused f RoomShort = refl
-step-refused f NoExample = refl
-step-refused f KeyListBad = refl
-step-refused f NotCanonical = refl
+step-refused terms f AreaBad = refl
+step-refused terms f KeyLong = refl
+step-refused terms f NumbersBad = refl
+step-refused terms f JoinBad = refl
+step-refused terms f OrdinalBad = refl
+step-refused terms f KeyBad = refl
+step-refused terms f RoomBad = refl
+step-refused terms f ListBad = refl
+step-refused terms f OutShort = refl
+step-refused terms f FileShort = refl
+step-refused terms f NoDirectory = refl
+step-refused terms f DirectoryBad = refl
+step-refused terms f KeysUnsorted = refl
+step-refused terms f RecordsBad = refl
+step-refused terms f GroupBad = refl
+step-refused terms f BlockBad = refl
+step-refused terms f UnknownId = refl
+step-refused terms f OrdinalBelow = refl
+step-refused terms f KeyAbove = refl
+step-refused terms f Unfit = refl
+step-refused terms f TableBad = refl
+step-refused terms f FlagBad = refl
+step-refused terms f StateBad = refl
+step-refused terms f RoomShort = refl
+step-refused terms f NoExample = refl
+step-refused terms f KeyListBad = refl
+step-refused terms f NotCanonical = refl
+step-refused terms f TermsBad = refl
+step-refused terms f OrdinalAbove = refl
 
 -- refusals whose numbers rise by one from k on
 abbrev Numbered : ℕ → List Refusal → Type 0
@@ -67,7 +70,7 @@ numbered-at (r ∷ rs) k (suc i) h l = omega (arith, numbered-at rs (suc k) i h.
 rows-numbered : Numbered 1 rows
 rows-numbered = search rules depth 60
 
-pub refusal-number : (k : ℕ) → 1 ≤ k → k ≤ 27 → number_of (refusal_of k) ≡ k
+pub refusal-number : (k : ℕ) → 1 ≤ k → k ≤ 29 → number_of (refusal_of k) ≡ k
 unfolding refusal_of
 refusal-number k some few = omega (arith, numbered-at rows 1 (k - 1) rows-numbered (omega arith))
 
@@ -81,13 +84,17 @@ or_row-most : (a b most : ℕ) → a ≤ most → b ≤ most → or_row a b ≤ 
 or_row-most zero b most h l = l
 or_row-most (suc a) b most h l = h
 
-pub open_no-most : (L : ℕ) (f : List ℕ) → open_no L f ≤ 27
-unfolding open_no footer_no directory_no store_no
-open_no-most L f = search (rules, or_row-most, cond-most) depth 12
+pub file_no-most : (L : ℕ) (f : List ℕ) → file_no L f ≤ 16
+unfolding file_no footer_no directory_no store_no
+file_no-most L f = search (rules, or_row-most, cond-most) depth 12
 
-pub step-number : (f : List ℕ) (k : ℕ) → k ≤ 27 → load_no (step_of_open k f) ≡ k
-step-number f zero h = refl
-step-number f (suc k) h = refusal-number (suc k) (omega arith) h
+pub open_no-most : (L terms : ℕ) (f : List ℕ) → open_no L terms f ≤ 28
+unfolding open_no file_no footer_no directory_no store_no
+open_no-most L terms f = search (rules, or_row-most, cond-most) depth 12
+
+pub step-number : (terms : ℕ) (f : List ℕ) (k : ℕ) → k ≤ 29 → load_no (step_of_open k terms f) ≡ k
+step-number terms f zero h = refl
+step-number terms f (suc k) h = refusal-number (suc k) (omega arith) h
 
 -- ---- no refusal has the number 0
 

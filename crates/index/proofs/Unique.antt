@@ -29,14 +29,20 @@ module _ (block : ℕ → BlockAddr) (n : ℕ) where
     none_below ord zero p q = omega (arith, p.at_most)
     none_below ord (suc i) p q = omega (arith, p.at_most, ordinals-rise block n legal 0 (suc i) (omega arith) p.inside)
 
-    pub by-ord-unique : (ord k l i j : ℕ) (a b : BlockAddr) → ByOrdExact block n ord k i a → ByOrdExact block n ord l j b
+    -- the three cases of an ordinal exclude each other
+    pub by-ord-unique : (terms ord k l i j : ℕ) (a b : BlockAddr) → ByOrdExact block n terms ord k i a → ByOrdExact block n terms ord l j b
         → (k ≡ l) × (i ≡ j) × (a ≡ b)
-    by-ord-unique ord k l i j a b (inl p) (inl q) =
-        let same : i ≡ j = last-unique (λ x. (block x).first_ordinal) n ord i j p.1 q.1 in
-        (p.0 ∙ sym q.0, same, p.2 ∙ ap block same ∙ sym q.2)
-    by-ord-unique ord k l i j a b (inl p) (inr q) = absurd (none_below ord i p.1 q.3)
-    by-ord-unique ord k l i j a b (inr p) (inl q) = absurd (none_below ord j q.1 p.3)
-    by-ord-unique ord k l i j a b (inr p) (inr q) = (p.0 ∙ sym q.0, p.1 ∙ sym q.1, p.2 ∙ sym q.2)
+    by-ord-unique terms ord k l i j a b (inl p) (inl q) =
+        let same : i ≡ j = last-unique (λ x. (block x).first_ordinal) n ord i j p.2 q.2 in
+        (p.0 ∙ sym q.0, same, p.3 ∙ ap block same ∙ sym q.3)
+    by-ord-unique terms ord k l i j a b (inl p) (inr (inl q)) = absurd (none_below ord i p.2 q.3)
+    by-ord-unique terms ord k l i j a b (inl p) (inr (inr q)) = absurd (let z : ⊥ = omega (arith, p.1, q.4) in z)
+    by-ord-unique terms ord k l i j a b (inr (inl p)) (inl q) = absurd (none_below ord j q.2 p.3)
+    by-ord-unique terms ord k l i j a b (inr (inl p)) (inr (inl q)) = (p.0 ∙ sym q.0, p.1 ∙ sym q.1, p.2 ∙ sym q.2)
+    by-ord-unique terms ord k l i j a b (inr (inl p)) (inr (inr q)) = absurd (let z : ⊥ = omega (arith, p.3, q.3) in z)
+    by-ord-unique terms ord k l i j a b (inr (inr p)) (inl q) = absurd (let z : ⊥ = omega (arith, p.4, q.1) in z)
+    by-ord-unique terms ord k l i j a b (inr (inr p)) (inr (inl q)) = absurd (let z : ⊥ = omega (arith, p.3, q.3) in z)
+    by-ord-unique terms ord k l i j a b (inr (inr p)) (inr (inr q)) = (p.0 ∙ sym q.0, p.1 ∙ sym q.1, p.2 ∙ sym q.2)
 
 module _ (separator : ℕ → List ℕ) (n : ℕ) (key : List ℕ) where
   pub by-key-unique : (k l i j : ℕ) → ByKeyExact separator n key k i → ByKeyExact separator n key l j → (k ≡ l) × (i ≡ j)

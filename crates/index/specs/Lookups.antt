@@ -1,4 +1,4 @@
--- The lookups (rows 17 to 20). What an answer may be in every case is held to `..Allowed`, what it is for bytes and record of one
+-- The lookups (rows 17 to 20 and 29). What an answer may be in every case is held to `..Allowed`, what it is for bytes and record of one
 -- opening to `..Exact`.
 -- A name that ends in By takes the group's length L; the same name without is for the groups that a record has.
 use Rattle.std.specs.Prelude.{ℕ, ◌+◌, ◌*◌, ◌≤◌, ◌<◌, ◌≡◌, List, ◌⊎◌, Bool, true, ◌||◌, cond, ltb, leb, length, take, drop}
@@ -9,7 +9,7 @@ use Rattle.group.specs.declared.BlockAddr.{BlockAddr}
 use Rattle.group.specs.Legal.{NumbersOk}
 use Rattle.group.specs.Blocks.{no_block}
 use Rattle.store.specs.Store.{group_count}
-use Rattle.store.specs.Read.{Last}
+use Rattle.store.specs.Read.{group_meta, Last}
 use Rattle.directory.specs.Read.{First, key_position, key_length, key_outside}
 use Rattle.index.specs.declared.SSTableIndexV3.{SSTableIndexV3}
 use Rattle.index.specs.Parts.{block_in, separator_in}
@@ -41,6 +41,17 @@ pub record OpenedFits (L : ℕ) (opened : SSTableIndexV3) (len : ℕ) : Type 0 w
 abbrev pub directory_at : SSTableIndexV3 → List ℕ → List ℕ
 directory_at opened f = take opened.directory_len (drop opened.directory f)
 
+-- the group records and the address bytes that a record names
+abbrev pub metas_at : SSTableIndexV3 → List ℕ → List ℕ
+metas_at opened f = take opened.metas_len (drop opened.metas f)
+
+abbrev pub addrs_at : SSTableIndexV3 → List ℕ → List ℕ
+addrs_at opened f = take opened.addrs_len (drop opened.addrs f)
+
+-- the first ordinal in the first of these group records
+abbrev pub first_ordinal_at : SSTableIndexV3 → List ℕ → ℕ
+first_ordinal_at opened f = (group_meta (metas_at opened f) 0).first_ordinal
+
 -- ---- what an answer may be, and what it is
 
 -- a refusal: the call's own row, or 20
@@ -58,11 +69,21 @@ ByIdExact block n id k addr = ((k ≡ 0) × (id < n) × (addr ≡ block id)) ⊎
 abbrev pub LocatedAllowed : ℕ → ℕ → ℕ → ℕ → BlockAddr → Type 0
 LocatedAllowed row n k id addr = ((k ≡ 0) × (id < n) × NumbersOk addr) ⊎ (Refuses row k × (id ≡ 0) × (addr ≡ no_block))
 
--- by ordinal (SPECIFICATION 9.2)
-abbrev pub ByOrdExact : (ℕ → BlockAddr) → ℕ → ℕ → ℕ → ℕ → BlockAddr → Type 0
-ByOrdExact block n ord k id addr =
-    ((k ≡ 0) × Last (λ j. (block j).first_ordinal) n ord id × (addr ≡ block id))
-    ⊎ ((k ≡ 18) × (id ≡ 0) × (addr ≡ no_block) × (ord < (block 0).first_ordinal))
+-- by ordinal, a refusal: 18 below the first ordinal alone, 29 where it is neither below that nor below the number of terms, or 20
+abbrev pub OrdRefuses : ℕ → ℕ → ℕ → ℕ → Type 0
+OrdRefuses terms first ord k = ((k ≡ 18) × (ord < first)) ⊎ (((k ≡ 29) × (first ≤ ord) × (terms ≤ ord)) ⊎ (k ≡ 20))
+
+-- an ordinal that isn't below the number of terms finds no block, whatever the record and the bytes are
+abbrev pub ByOrdAllowed : ℕ → ℕ → ℕ → ℕ → ℕ → ℕ → BlockAddr → Type 0
+ByOrdAllowed terms first n ord k id addr =
+    ((k ≡ 0) × (ord < terms) × (id < n) × NumbersOk addr) ⊎ (OrdRefuses terms first ord k × (id ≡ 0) × (addr ≡ no_block))
+
+-- by ordinal (SPECIFICATION 9.2): found, below the first ordinal, or not below the number of terms
+abbrev pub ByOrdExact : (ℕ → BlockAddr) → ℕ → ℕ → ℕ → ℕ → ℕ → BlockAddr → Type 0
+ByOrdExact block n terms ord k id addr =
+    ((k ≡ 0) × (ord < terms) × Last (λ j. (block j).first_ordinal) n ord id × (addr ≡ block id))
+    ⊎ (((k ≡ 18) × (id ≡ 0) × (addr ≡ no_block) × (ord < (block 0).first_ordinal))
+    ⊎ ((k ≡ 29) × (id ≡ 0) × (addr ≡ no_block) × ((block 0).first_ordinal ≤ ord) × (terms ≤ ord)))
 
 -- by key (SPECIFICATION 9.3)
 abbrev pub ByKeyAllowed : ℕ → ℕ → ℕ → Type 0
@@ -92,9 +113,9 @@ abbrev pub GetBlock : List ℕ → SSTableIndexV3 → ℕ → ℕ → BlockAddr 
 GetBlock f opened id k addr = GetBlockBy (group_of opened) f opened id k addr
 
 pub record LocateWithOrdBy (L : ℕ) (f : List ℕ) (opened : SSTableIndexV3) (ord k id : ℕ) (addr : BlockAddr) : Type 0 where
-  pub allowed : LocatedAllowed 18 opened.n k id addr
+  pub allowed : ByOrdAllowed opened.terms (first_ordinal_at opened f) opened.n ord k id addr
   pub unfit : opened_bad_by L opened (length f) ≡ true → k ≡ 20
-  pub exact : OpensBy L f opened → ByOrdExact (block_in L f) opened.n ord k id addr
+  pub exact : OpensBy L f opened → ByOrdExact (block_in L f) opened.n opened.terms ord k id addr
 
 abbrev pub LocateWithOrd : List ℕ → SSTableIndexV3 → ℕ → ℕ → ℕ → BlockAddr → Type 0
 LocateWithOrd f opened ord k id addr = LocateWithOrdBy (group_of opened) f opened ord k id addr

@@ -33,5 +33,9 @@ count_in f = count_of (directory_part f)
 unfoldable pub block_in : ℕ → List ℕ → ℕ → BlockAddr
 block_in L f i = store_block L (group_records_part f) (addrs_part f) i
 
+-- the first ordinal of the last block
+unfoldable pub last_first_ordinal : ℕ → List ℕ → ℕ
+last_first_ordinal L f = (block_in L f (count_in f - 1)).first_ordinal
+
 unfoldable pub separator_in : List ℕ → ℕ → List ℕ
 separator_in f i = key_of (directory_part f) (count_in f) i

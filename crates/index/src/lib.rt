@@ -4,7 +4,8 @@
 ghost use Rattle.std.specs.Prelude.{◌≡◌};
 ghost use Rattle.index.specs.Words.{opened_words, opened_at};
 
-// An opened index: how many blocks, and where its parts stand in the bytes. Seven numbers, since the C interface hands them out and back.
+// An opened index: how many blocks, where its parts stand in the bytes, and how many terms the file has. Eight numbers, since the C
+// interface hands them out and back.
 #[derive(Clone, Copy, Debug, Default, PartialEq, Eq)]
 pub struct SSTableIndexV3 {
     pub n: usize,
@@ -14,14 +15,15 @@ pub struct SSTableIndexV3 {
     pub metas_len: usize,
     pub addrs: usize,
     pub addrs_len: usize,
+    pub terms: u64,
 }
 
 // The numbers of a record, in its order.
-impl From<SSTableIndexV3> for [u64; 7] {
+impl From<SSTableIndexV3> for [u64; 8] {
     ghost from_gives = { λ opened words. words ≡ opened_words opened };
 
     #[inline]
-    fn from(opened: SSTableIndexV3) -> [u64; 7] {
+    fn from(opened: SSTableIndexV3) -> [u64; 8] {
         [
             opened.n as u64,
             opened.directory as u64,
@@ -30,16 +32,17 @@ impl From<SSTableIndexV3> for [u64; 7] {
             opened.metas_len as u64,
             opened.addrs as u64,
             opened.addrs_len as u64,
+            opened.terms,
         ]
     }
 }
 
-// The record that seven numbers say.
-impl From<[u64; 7]> for SSTableIndexV3 {
+// The record that eight numbers say.
+impl From<[u64; 8]> for SSTableIndexV3 {
     ghost from_gives = { λ words opened. opened ≡ opened_at words };
 
     #[inline]
-    fn from(words: [u64; 7]) -> SSTableIndexV3 {
+    fn from(words: [u64; 8]) -> SSTableIndexV3 {
         let [
             n,
             directory,
@@ -48,6 +51,7 @@ impl From<[u64; 7]> for SSTableIndexV3 {
             metas_len,
             addrs,
             addrs_len,
+            terms,
         ] = words;
         SSTableIndexV3 {
             n: n as usize,
@@ -57,6 +61,7 @@ impl From<[u64; 7]> for SSTableIndexV3 {
             metas_len: metas_len as usize,
             addrs: addrs as usize,
             addrs_len: addrs_len as usize,
+            terms,
         }
     }
 }

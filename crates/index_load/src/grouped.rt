@@ -1,12 +1,12 @@
-// Opening with groups of a given length: rows 10 to 16. The length stays a number with its fact: a type for it would ask each caller to
-// make it first. The bytes are lent by the caller, since the library has no heap.
+// Opening with groups of a given length: rows 10 to 16, then 28. The length stays a number with its fact: a type for it would ask each
+// caller to make it first. The bytes are lent by the caller, since the library has no heap.
 ghost use Rattle.std.specs.Prelude.{◌≡◌, ◌+◌, ◌≤◌, length, IfOk};
 ghost use Rattle.layout.specs.Layout.{max_blocks};
 ghost use Rattle.layout.specs.Refusals.{no_of};
 ghost use Rattle.store.specs.Facts.{GroupLenOk};
 ghost use Rattle.directory.specs.Read.{directory_no};
 ghost use Rattle.index.specs.Parts.{len_of_directory, directory_part, count_in};
-ghost use Rattle.index.specs.Opening.{footer_no, group_records_bad, open_def};
+ghost use Rattle.index.specs.Opening.{footer_no, group_records_bad, open_def, least_terms};
 
 use index::SSTableIndexV3;
 use layout::META_LEN;
@@ -49,7 +49,7 @@ fn records_bad(data: &[u8], directory_len: usize, n: usize, group_len: usize) ->
         || data.len() - FOOTER_LEN - directory_len < 8 + metas_len
 }
 
-// Rows 14 to 16 and the record, after a directory that keeps the rows before them.
+// Rows 14 to 16 and the record with the least number of terms, after a directory that keeps the rows before them.
 fn load_store(
     data: &[u8],
     directory_len: usize,
@@ -59,7 +59,7 @@ fn load_store(
         × (footer_no «data».now ≡ 0)
         × (directory_len ≡ len_of_directory «data».now)
         × (directory_no (directory_part «data».now) ≡ 0) }
-    ensures { result ≡ open_def group_len «data».now }
+    ensures { result ≡ open_def group_len (least_terms group_len «data».now) «data».now }
 {
     let n = serialize::deserialize_u32(data, 0) as usize;
     if records_bad(data, directory_len, n, group_len) {
@@ -69,7 +69,7 @@ fn load_store(
     let metas = directory_len + 8;
     let addrs = metas + metas_len;
     let end = data.len() - FOOTER_LEN;
-    store_check::check(&BlockAddrStore {
+    let last = store_check::check(&BlockAddrStore {
         metas: &data[metas..addrs],
         addrs: &data[addrs..end],
         n,
@@ -83,15 +83,28 @@ fn load_store(
         metas_len,
         addrs,
         addrs_len: end - addrs,
+        terms: last + 1,
     })
 }
 
-// Opens the bytes of an index with groups of `group_len` blocks.
-pub fn load(data: &[u8], group_len: usize) -> Result<SSTableIndexV3, Refusal>
+// Opens the bytes of an index with groups of `group_len` blocks and the least number of terms: rows 10 to 16 alone.
+pub fn load_least(data: &[u8], group_len: usize) -> Result<SSTableIndexV3, Refusal>
     requires { GroupLenOk group_len }
-    ensures { result ≡ open_def group_len «data».now }
+    ensures { result ≡ open_def group_len (least_terms group_len «data».now) «data».now }
 {
     let directory_len = check_footer(data)?;
     directory_check::directory_no(&data[..directory_len])?;
     load_store(data, directory_len, group_len)
+}
+
+// Opens the bytes of an index that has so many terms, with groups of `group_len` blocks.
+pub fn load(terms: u64, data: &[u8], group_len: usize) -> Result<SSTableIndexV3, Refusal>
+    requires { GroupLenOk group_len }
+    ensures { result ≡ open_def group_len terms «data».now }
+{
+    let least = load_least(data, group_len)?;
+    if terms < least.terms {
+        return Err(Refusal::TermsBad);
+    }
+    Ok(SSTableIndexV3 { terms, ..least })
 }

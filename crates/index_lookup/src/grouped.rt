@@ -1,13 +1,13 @@
 // The lookups with groups of a given length, in an opened index whose record and bytes may not belong together. Record and bytes come
 // apart, since C hands them so; the length is a number with its fact, since a type for it would ask each caller to make it first.
-ghost use Rattle.std.specs.Prelude.{◌≡◌, true, false, ◌+◌, ◌≤◌, ◌<◌, length, take, drop, MatchResult};
+ghost use Rattle.std.specs.Prelude.{◌≡◌, true, false, ◌+◌, ◌≤◌, ◌<◌, cond, ltb, length, take, drop, MatchResult};
 ghost use Rattle.layout.specs.Refusals.{number_of};
 ghost use Rattle.group.specs.Legal.{NumbersOk};
 ghost use Rattle.store.specs.Facts.{GroupLenOk};
 ghost use Rattle.index.specs.Parts.{block_in};
 ghost use Rattle.index.specs.Opening.{OpensBy};
 ghost use Rattle.index.specs.Answers.{by_id_no, by_id_addr, id_no, id_of, located_no, located_id, located_addr};
-ghost use Rattle.index.specs.Lookups.{opened_bad_by, OpenedFits, directory_at, place_by};
+ghost use Rattle.index.specs.Lookups.{opened_bad_by, OpenedFits, directory_at, metas_at, addrs_at, first_ordinal_at, place_by};
 ghost use Rattle.index.specs.Lookups.{GetBlockBy, LocateWithOrdBy, LocateWithKeyBy, GetBlockWithKeyBy};
 
 use directory_read::Directory;
@@ -98,8 +98,8 @@ impl<'a> OpenedIndex<'a> {
     #[inline(always)]
     fn store(&self) -> BlockAddrStore<'a>
         ensures { (result.n ≡ self.now.opened.n) × (result.group_len ≡ self.now.group_len)
-            × (result.metas.now ≡ take self.now.opened.metas_len (drop self.now.opened.metas self.now.«data».now))
-            × (result.addrs.now ≡ take self.now.opened.addrs_len (drop self.now.opened.addrs self.now.«data».now)) }
+            × (result.metas.now ≡ metas_at self.now.opened self.now.«data».now)
+            × (result.addrs.now ≡ addrs_at self.now.opened self.now.«data».now) }
     {
         let opened = self.opened;
         BlockAddrStore {
@@ -136,11 +136,25 @@ impl<'a> OpenedIndex<'a> {
         self.block(block_id as usize)
     }
 
-    // The last block whose first ordinal is at or below `ord`.
+    // The row of an ordinal that isn't below the number of terms: being below the first block's comes before it.
+    fn no_term(&self, ord: u64) -> Refusal
+        ensures { number_of result ≡ cond (ltb ord (first_ordinal_at self.now.opened self.now.«data».now)) 18 29 }
+    {
+        if ord < self.store().first_ordinal() {
+            Refusal::OrdinalBelow
+        } else {
+            Refusal::OrdinalAbove
+        }
+    }
+
+    // The last block whose first ordinal is at or below `ord`, if that is below the number of terms.
     pub fn locate_with_ord(&self, ord: u64) -> Result<Located, Refusal>
         ensures { LocateWithOrdBy self.now.group_len self.now.«data».now self.now.opened ord
             (located_no result) (located_id result) (located_addr result) }
     {
+        if ord >= self.opened.terms {
+            return Err(self.no_term(ord));
+        }
         self.store().binary_search_ord(ord)
     }
 
@@ -198,7 +212,7 @@ pub fn get_block(
     OpenedIndex::check(opened, data, group_len)?.get_block(block_id)
 }
 
-// The last block whose first ordinal is at or below `ord`.
+// The last block whose first ordinal is at or below `ord`, if that is below the number of terms.
 pub fn locate_with_ord(
     opened: SSTableIndexV3,
     data: &[u8],

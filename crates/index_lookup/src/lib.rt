@@ -29,7 +29,7 @@ pub fn get_block(opened: SSTableIndexV3, data: &[u8], block_id: u64) -> Result<B
     grouped::get_block(opened, data, STORE_BLOCK_LEN, block_id)
 }
 
-// The block that holds the ordinal.
+// The block that holds the ordinal, if that is below the number of terms.
 pub fn locate_with_ord(opened: SSTableIndexV3, data: &[u8], ord: u64) -> Result<Located, Refusal>
     ensures { LocateWithOrd «data».now opened ord (located_no result) (located_id result) (located_addr result) }
 {

@@ -30,17 +30,25 @@ impl Lookup<'_> {
         )
     }
 
-    // ORDINAL
+    // ORDINAL: it is found only below the number of terms, and each row of its own only where it holds. A match, since there are two.
     pub fn may_find_ordinal(self) -> bool {
         let [ord] = *self.given else {
             return false;
         };
-        let n = self.opened.block_count();
-        is_allowed(
-            self.opened.locate_with_ord(ord),
-            Refusal::OrdinalBelow,
-            |found| found.block_id < n && !found.addr.numbers_bad(),
-        )
+        let opened = self.opened;
+        let first = opened.first_ordinal();
+        match opened.locate_with_ord(ord) {
+            Ok(found) => {
+                ord < opened.terms()
+                    && found.block_id < opened.block_count()
+                    && !found.addr.numbers_bad()
+            }
+            Err(Refusal::OrdinalBelow) => first.is_some_and(|first| ord < first),
+            Err(Refusal::OrdinalAbove) => {
+                opened.terms() <= ord && first.is_some_and(|first| first <= ord)
+            }
+            Err(refusal) => refusal == Refusal::Unfit,
+        }
     }
 
     pub fn may_find_key(self) -> bool {

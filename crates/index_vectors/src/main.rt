@@ -22,6 +22,7 @@ enum Kind {
     OpenFile,
     OpenChanged,
     OpenByRule,
+    OpenAgain,
     SetRecord,
     Find(Question),
 }
@@ -44,7 +45,7 @@ enum Question {
 }
 
 // The letter of each kind, with the row of its tally and how many byte strings its lines have.
-const LETTERS: [Letter<Kind>; 16] = [
+const LETTERS: [Letter<Kind>; 17] = [
     Letter {
         letter: b'f',
         kind: Kind::OpenFile,
@@ -61,6 +62,12 @@ const LETTERS: [Letter<Kind>; 16] = [
         letter: b'g',
         kind: Kind::OpenByRule,
         row: Some(2),
+        strings: 0,
+    },
+    Letter {
+        letter: b't',
+        kind: Kind::OpenAgain,
+        row: Some(10),
         strings: 0,
     },
     Letter {
@@ -143,7 +150,7 @@ const LETTERS: [Letter<Kind>; 16] = [
     },
 ];
 
-const ROWS: [&str; 10] = [
+const ROWS: [&str; 11] = [
     "files",
     "changed files",
     "large files",
@@ -154,6 +161,7 @@ const ROWS: [&str; 10] = [
     "separators",
     "left free",
     "batches",
+    "opened again",
 ];
 
 // Whether a line's answers are those of the proved functions. `alloc` goes along to where a Vec is made, which asks for it.
@@ -169,6 +177,7 @@ fn is_same(
         Kind::OpenFile => opened.opens_file(alloc, given, text),
         Kind::OpenChanged => opened.opens_changed(given, text),
         Kind::OpenByRule => opened.opens_by_rule(alloc, given),
+        Kind::OpenAgain => Ok(opened.opens(given)),
         Kind::SetRecord => Ok(opened.sets_record(given)),
         Kind::Find(question) => {
             let lookup = Lookup {

@@ -7,6 +7,9 @@ use std::alloc::{AllocError, Global};
 use store::Located;
 use vectors::told::is_told;
 
+// Where a group record has its first ordinal.
+const FIRST_ORDINAL: usize = 16;
+
 #[derive(Drop)]
 pub struct Opened {
     file: Vec<u8>,
@@ -21,35 +24,39 @@ impl Opened {
         }
     }
 
-    // The file is opened, and answers what is given: NO N DIRECTORY LEN RECORDS LEN ADDRESSES LEN.
-    fn opens(&mut self, file: Vec<u8>, given: &[u64]) -> bool {
-        let answer = index_load::load(&file);
-        self.file = file;
+    // TERMS NO N DIRECTORY LEN RECORDS LEN ADDRESSES LEN TERMS: the file is opened with so many terms, and answers what follows them.
+    pub fn opens(&mut self, given: &[u64]) -> bool {
+        let [terms, due @ ..] = given else {
+            return false;
+        };
+        let answer = index_load::load(*terms, &self.file);
         self.record = answer.ok();
-        is_told(given, answer.map(|opened| <[u64; 7]>::from(opened)))
+        is_told(due, answer.map(|opened| <[u64; 8]>::from(opened)))
     }
 
-    // NO N .., and the file
+    // TERMS NO N .., and the file
     pub fn opens_file(
         &mut self,
         alloc: Global,
         given: &[u64],
         content: &[u8],
     ) -> Result<bool, AllocError> {
-        Ok(self.opens(content.to_vec(alloc)?, given))
+        self.file = content.to_vec(alloc)?;
+        Ok(self.opens(given))
     }
 
-    // COUNT NO N ..: the file by the rule
+    // COUNT TERMS NO N ..: the file by the rule
     pub fn opens_by_rule(&mut self, alloc: Global, given: &[u64]) -> Result<bool, AllocError> {
-        let [count, due @ ..] = given else {
+        let [count, opening @ ..] = given else {
             return Ok(false);
         };
-        Ok(self.opens(rule::file(alloc, *count)?, due))
+        self.file = rule::file(alloc, *count)?;
+        Ok(self.opens(opening))
     }
 
-    // AT NO N .., and the bytes in place of the file's own from AT on
+    // AT TERMS NO N .., and the bytes in place of the file's own from AT on
     pub fn opens_changed(&self, given: &[u64], part: &[u8]) -> Result<bool, AllocError> {
-        let [at, due @ ..] = given else {
+        let [at, terms, due @ ..] = given else {
             return Ok(false);
         };
         let mut file = self.file.clone()?;
@@ -62,14 +69,14 @@ impl Opened {
         own.copy_from_slice(part);
         Ok(is_told(
             due,
-            index_load::load(&file).map(|opened| <[u64; 7]>::from(opened)),
+            index_load::load(*terms, &file).map(|opened| <[u64; 8]>::from(opened)),
         ))
     }
 
-    // N DIRECTORY LEN RECORDS LEN ADDRESSES LEN: this record from here on. This and `block_count` are as in pattern_vectors: vectors, which
-    // both use, doesn't know index.
+    // N DIRECTORY LEN RECORDS LEN ADDRESSES LEN TERMS: this record from here on. This and `block_count` are as in pattern_vectors: vectors,
+    // which both use, doesn't know index.
     pub fn sets_record(&mut self, given: &[u64]) -> bool {
-        let Ok(numbers) = <[u64; 7]>::try_from(given) else {
+        let Ok(numbers) = <[u64; 8]>::try_from(given) else {
             return false;
         };
         self.record = Some(SSTableIndexV3::from(numbers));
@@ -79,6 +86,18 @@ impl Opened {
     // How many blocks the record says; 0 where there is none, so that no id is below it.
     pub fn block_count(&self) -> usize {
         self.record.map_or(0, |record| record.n)
+    }
+
+    // How many terms the record says; 0 where there is none, so that no ordinal is below it.
+    pub fn terms(&self) -> u64 {
+        self.record.map_or(0, |record| record.terms)
+    }
+
+    // The first ordinal in the first group record that the record names; nothing where the file ends before it.
+    pub fn first_ordinal(&self) -> Option<u64> {
+        let records = self.file.get(self.record?.metas..)?;
+        let bytes = records.get(FIRST_ORDINAL..)?.first_chunk()?;
+        Some(u64::from_le_bytes(*bytes))
     }
 
     // The record. A file that was refused has none, and belongs to no record, as row 20 says.

@@ -1,12 +1,12 @@
 -- No refusal has the number 0.
-use Rattle.std.specs.Prelude.{ℕ, ◌<◌}
+use Rattle.std.specs.Prelude.{◌<◌}
 use native.Mathlib.Omega.{arith}
 use Rattle.layout.specs.declared.refusals.Refusal.{Refusal}
 use Rattle.layout.specs.declared.refusals.Refusal.TheVariants.{AreaBad, KeyLong, NumbersBad, JoinBad, OrdinalBad, KeyBad}
 use Rattle.layout.specs.declared.refusals.Refusal.TheVariants.{RoomBad, ListBad, OutShort, FileShort, NoDirectory, DirectoryBad}
 use Rattle.layout.specs.declared.refusals.Refusal.TheVariants.{KeysUnsorted, RecordsBad, GroupBad, BlockBad, UnknownId, OrdinalBelow}
 use Rattle.layout.specs.declared.refusals.Refusal.TheVariants.{KeyAbove, Unfit, TableBad, FlagBad, StateBad, RoomShort}
-use Rattle.layout.specs.declared.refusals.Refusal.TheVariants.{NoExample, KeyListBad, NotCanonical}
+use Rattle.layout.specs.declared.refusals.Refusal.TheVariants.{NoExample, KeyListBad, NotCanonical, TermsBad, OrdinalAbove}
 use Rattle.layout.specs.Refusals.{number_of}
 
 pub number_positive : (r : Refusal) → 0 < number_of r
@@ -37,3 +37,5 @@ number_positive RoomShort = omega arith
 number_positive NoExample = omega arith
 number_positive KeyListBad = omega arith
 number_positive NotCanonical = omega arith
+number_positive TermsBad = omega arith
+number_positive OrdinalAbove = omega arith

@@ -59,6 +59,10 @@ pub enum Refusal {
     KeyListBad = 26,
     // The file opens, but isn't the one that finish makes from the blocks and separators read in it.
     NotCanonical = 27,
+    // The number of terms isn't above the last block's first ordinal.
+    TermsBad = 28,
+    // The ordinal is at or above the number of terms.
+    OrdinalAbove = 29,
 }
 
 // The table's number.

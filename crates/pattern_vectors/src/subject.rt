@@ -39,7 +39,7 @@ impl Subject {
         Ok(true)
     }
 
-    // N, and the file: its count of blocks, 0 where it is refused
+    // N, and the file: its count of blocks, 0 where it is refused. No listing depends on the number of terms.
     pub fn opens(
         &mut self,
         alloc: Global,
@@ -47,14 +47,14 @@ impl Subject {
         content: &[u8],
     ) -> Result<bool, AllocError> {
         self.file = content.to_vec(alloc)?;
-        self.record = index_load::load(&self.file).ok();
+        self.record = index_load::load_least(&self.file).ok();
         Ok(given == [self.block_count() as u64].as_slice())
     }
 
-    // N DIRECTORY LEN RECORDS LEN ADDRESSES LEN: this record from here on. This and `block_count` are as in index_vectors: vectors, which
-    // both use, doesn't know index.
+    // N DIRECTORY LEN RECORDS LEN ADDRESSES LEN TERMS: this record from here on. This and `block_count` are as in index_vectors: vectors,
+    // which both use, doesn't know index.
     pub fn sets_record(&mut self, given: &[u64]) -> bool {
-        let Ok(numbers) = <[u64; 7]>::try_from(given) else {
+        let Ok(numbers) = <[u64; 8]>::try_from(given) else {
             return false;
         };
         self.record = Some(SSTableIndexV3::from(numbers));

@@ -75,7 +75,7 @@ located_written : (r : Result Located Refusal) (cs : List ℕ) → MatchResult r
 located_written (Ok l) cs w = w
 located_written (Err e) cs w = w
 
-module _ {S : Settings} {es : List Entry} {f : List ℕ} {opened : SSTableIndexV3} (x : Indexed S es f opened) where
+module _ {S : Settings} {terms : ℕ} {es : List Entry} {f : List ℕ} {opened : SSTableIndexV3} (x : Indexed S terms es f opened) where
   pub id_answer : (id : ℕ) (r : Result BlockAddr Refusal) (cs : List ℕ) → GetBlock f opened id (by_id_no r) (by_id_addr r)
       → MatchResult r (λ b. cs ≡ cells 0 0 b.start b.end b.first_ordinal) (Refused cs) → IdAnswer es id cs
   id_answer id r cs g w = record {
@@ -87,7 +87,7 @@ module _ {S : Settings} {es : List Entry} {f : List ℕ} {opened : SSTableIndexV
 
   pub ord_answer : (ord : ℕ) (r : Result Located Refusal) (cs : List ℕ)
       → LocateWithOrd f opened ord (located_no r) (located_id r) (located_addr r)
-      → MatchResult r (Located_as cs) (Refused cs) → OrdAnswer es ord cs
+      → MatchResult r (Located_as cs) (Refused cs) → OrdAnswer terms es ord cs
   ord_answer ord r cs g w = record {
     no = located_no r;
     id = located_id r;

@@ -20,10 +20,11 @@ use Rattle.replay.proofs.Items.{behind_next, behind_there}
 use Rattle.replay.proofs.Turns.{cells-turn}
 
 -- one answer, then the rest
-pub asks-more : (k : ℕ) (S : Settings) (es : List Entry) (q : Question) (qs : List Question) (i : ℕ) (w answers answers' final : List ℕ)
-    → AnswerIn k S es q w → length w ≡ 5 → answers' ≡ sets answers (5 * i) w
-    → QuestionsAnswered k S es qs (i + 1) answers' final → QuestionsAnswered k S es (q ∷ qs) i answers final
-asks-more k S es q qs i w answers answers' final a five e rest = record {
+pub asks-more : (k : ℕ) (S : Settings) (terms : ℕ) (es : List Entry) (q : Question) (qs : List Question) (i : ℕ)
+    (w answers answers' final : List ℕ)
+    → AnswerIn k S terms es q w → length w ≡ 5 → answers' ≡ sets answers (5 * i) w
+    → QuestionsAnswered k S terms es qs (i + 1) answers' final → QuestionsAnswered k S terms es (q ∷ qs) i answers final
+asks-more k S terms es q qs i w answers answers' final a five e rest = record {
   asked = w ++ rest.asked;
   answered = one_more a rest.answered;
   written = rest.written ∙ sym (cells-turn answers answers' w rest.asked i five e);
@@ -35,9 +36,9 @@ pub record Asking (s f : List ℕ) (from count : ℕ) (loaded : Result SSTableIn
   pub within : i ≤ count
   pub long : length answers' ≡ length answers
   pub place : behind (question_len s) at (count - i) ≡ behind (question_len s) from count
-  pub rest : (k : ℕ) (S : Settings) (es : List Entry) → OpenedAs k S es f loaded → (final : List ℕ)
-      → QuestionsAnswered k S es (items (question_len s) (question_at s) at (count - i)) (first + i) answers' final
-      → QuestionsAnswered k S es (items (question_len s) (question_at s) from count) first answers final
+  pub rest : (k : ℕ) (S : Settings) (terms : ℕ) (es : List Entry) → OpenedAs k S terms es f loaded → (final : List ℕ)
+      → QuestionsAnswered k S terms es (items (question_len s) (question_at s) at (count - i)) (first + i) answers' final
+      → QuestionsAnswered k S terms es (items (question_len s) (question_at s) from count) first answers final
 
 module _ {s f : List ℕ} {from count : ℕ} {loaded : Result SSTableIndexV3 Refusal} {first : ℕ} {answers : List ℕ} where
   pub asking_start : Asking s f from count loaded first answers from 0 answers
@@ -45,7 +46,7 @@ module _ {s f : List ℕ} {from count : ℕ} {loaded : Result SSTableIndexV3 Ref
     within = omega arith;
     long = refl;
     place = rw (sub-zero count);
-    rest = λ k S es g final a. rw (sub-zero count, add-zero first) at a;
+    rest = λ k S terms es g final a. rw (sub-zero count, add-zero first) at a;
   }
 
   module _ {at i : ℕ} {answers' : List ℕ} (l : Asking s f from count loaded first answers at i answers') where
@@ -55,7 +56,8 @@ module _ {s f : List ℕ} {from count : ℕ} {loaded : Result SSTableIndexV3 Ref
 
     -- and is answered
     pub asking_turn : i < count → {w answers'' : List ℕ} {m : ℕ} → m ≡ question_len s at → 0 < m → length w ≡ 5
-        → ((k : ℕ) (S : Settings) (es : List Entry) → OpenedAs k S es f loaded → AnswerIn k S es (question_at s at) w)
+        → ((k : ℕ) (S : Settings) (terms : ℕ) (es : List Entry) → OpenedAs k S terms es f loaded
+        → AnswerIn k S terms es (question_at s at) w)
         → answers'' ≡ sets answers' (5 * (first + i)) w
         → Asking s f from count loaded first answers (at + m) (i + 1) answers''
     unfolding items
@@ -68,33 +70,35 @@ module _ {s f : List ℕ} {from count : ℕ} {loaded : Result SSTableIndexV3 Ref
           long = rw e (length-sets answers' (5 * (first + i)) w) ∙ l.long;
           place =
               rw len (rw fewer at (sym (behind_next (question_len s) at (count - i) (omega arith) (omega arith)))) ∙ l.place;
-          rest = λ k S es g final z.
-              l.rest k S es g final
+          rest = λ k S terms es g final z.
+              l.rest k S terms es g final
               (rw left
-              (asks-more k S es (question_at s at) _ (first + i) w answers' answers'' final (a k S es g) five e (rw (len, next) at z)));
+              (asks-more k S terms es (question_at s at) _ (first + i) w answers' answers'' final (a k S terms es g) five e
+              (rw (len, next) at z)));
         }
 
     -- none is left
-    pub asking_none : count ≤ i → (k : ℕ) (S : Settings) (es : List Entry) → OpenedAs k S es f loaded
-        → QuestionsAnswered k S es (items (question_len s) (question_at s) from count) first answers answers'
+    pub asking_none : count ≤ i → (k : ℕ) (S : Settings) (terms : ℕ) (es : List Entry) → OpenedAs k S terms es f loaded
+        → QuestionsAnswered k S terms es (items (question_len s) (question_at s) from count) first answers answers'
     unfolding items
-    asking_none h k S es g =
+    asking_none h k S terms es g =
         let none_left : count - i ≡ 0 = omega arith in
-        l.rest k S es g answers' (rw none_left (record { asked = []; answered = no_more; written = refl }))
+        l.rest k S terms es g answers' (rw none_left (record { asked = []; answered = no_more; written = refl }))
 
 -- ---- the opening in front of them
 
-pub given-number : (k : ℕ) (S : Settings) (es : List Entry) (f : List ℕ) (loaded : Result SSTableIndexV3 Refusal)
-    → OpenedAs k S es f loaded → no_of loaded ≡ k
-given-number k S es f (Ok opened) g = sym g.0
-given-number k S es f (Err refusal) g = sym g.0
+pub given-number : (k : ℕ) (S : Settings) (terms : ℕ) (es : List Entry) (f : List ℕ) (loaded : Result SSTableIndexV3 Refusal)
+    → OpenedAs k S terms es f loaded → no_of loaded ≡ k
+given-number k S terms es f (Ok opened) g = sym g.0
+given-number k S terms es f (Err refusal) g = sym g.0
 
-pub opened-asks : (k : ℕ) (S : Settings) (es : List Entry) (qs : List Question) (i j l : ℕ) (answers answers' answers'' : List ℕ)
-    → j ≡ k → l ≡ k
-    → answers' ≡ sets answers (5 * i) (cells j l 0 0 0) → QuestionsAnswered k S es qs (i + 1) answers' answers''
-    → OpeningAnswered k S es qs i answers answers''
-opened-asks k S es qs i j l answers answers' answers'' n m e a = record {
+pub opened-asks : (k c : ℕ) (S : Settings) (terms : ℕ) (es : List Entry) (qs : List Question) (i j l : ℕ)
+    (answers answers' answers'' : List ℕ)
+    → j ≡ k → l ≡ c
+    → answers' ≡ sets answers (5 * i) (cells j l 0 0 0) → QuestionsAnswered k S terms es qs (i + 1) answers' answers''
+    → OpeningAnswered k c S terms es qs i answers answers''
+opened-asks k c S terms es qs i j l answers answers' answers'' n m e a = record {
   asked = a.asked;
   answered = a.answered;
-  written = a.written ∙ sym (cells-turn answers answers' (cells k k 0 0 0) a.asked i refl (rw (n, m) at e));
+  written = a.written ∙ sym (cells-turn answers answers' (cells k c 0 0 0) a.asked i refl (rw (n, m) at e));
 }

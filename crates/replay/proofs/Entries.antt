@@ -7,11 +7,11 @@ use Rattle.machine.specs.Runs.{rooms_of, run_numbers, finished_after}
 use Rattle.demands.specs.Demand3.{Demand3}
 use Rattle.demands.proofs.Demand3.{demand-3}
 use Rattle.replay.specs.Format.{calls}
-use Rattle.replay.specs.Made.{list_settings, fresh_of, finish_of_list}
+use Rattle.replay.specs.Made.{finish_settings, fresh_of, finish_of_list}
 
 module _ (s B K out : List ℕ) where
   -- demand 3 of the list's calls from a fresh builder
-  pub list-demand : Demand3 (list_settings s) (calls s) (fresh_of B K) out
+  pub list-demand : Demand3 (finish_settings s) (calls s) (fresh_of B K) out
   list-demand = demand-3 (calls s) (fresh_of B K) out refl
 
   -- each call's number is the plain machine's
@@ -19,5 +19,5 @@ module _ (s B K out : List ℕ) where
   numbers-plain = list-demand.answers
 
   -- the finish is the entries'
-  pub list-finish : finished_after (list_settings s) (calls s) (fresh_of B K) out ≡ finish_of_list s B K out
+  pub list-finish : finished_after (finish_settings s) (calls s) (fresh_of B K) out ≡ finish_of_list s B K out
   list-finish = list-demand.finishes

@@ -1,4 +1,4 @@
--- Two replayed lists with an index each: equal bytes exactly when blocks and separators are equal.
+-- Two replayed lists with an index each: equal bytes exactly when blocks and separators are equal, whatever their numbers of terms.
 use Prim.Native.Nat.{ℕ}
 use mathlib.Core.Path.{◌≡◌, refl, sym, ap, ◌∙◌}
 use mathlib.Core.List.{List}

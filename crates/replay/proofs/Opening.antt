@@ -1,26 +1,30 @@
--- The first total bytes of a list's finish open as the entries' index and pass the check, or are none and get 10 from both.
-use Prim.Native.Nat.{ℕ, ◌≤◌}
+-- The first total bytes of a list's finish open as the entries' index or get 28, and pass the check; or are none and get 10 from both.
+use Prim.Native.Nat.{ℕ, ◌≤◌, ◌<◌}
 use mathlib.Core.Path.{◌≡◌, refl, sym, ap, subst, ◌∙◌}
 use mathlib.Core.List.{List, []}
+use mathlib.Core.Bool.{cond}
 use mathlib.Core.Logic.{⊎_elim}
 use native.Mathlib.Omega.{arith}
-use lib.Dec.{eqb}
+use lib.Dec.{eqb, leb}
 use lib.ListN.{length, take}
-use borrow.Author.Tests.{eqb-true, eqb-false}
+use borrow.Author.Tests.{eqb-true, eqb-false, leb-true, leb-false}
 use borrow.Table.Steps.{cases}
 use Rattle.serialize.proofs.Stores.{sets-part}
-use Rattle.builder.specs.Index.{Settings}
+use Rattle.builder.specs.Index.{Settings, standard}
 use Rattle.builder.specs.Finish.{Finish}
 use Rattle.machine.specs.Plain.{Entry, plain_index}
 use Rattle.machine.specs.Finished.{plain_finish}
 use Rattle.machine.proofs.PlainFinish.{plain-none, plain-refused, plain-taken, plain-number}
-use Rattle.std.specs.Prelude.{Ok}
-use Rattle.index.specs.Opening.{footer_no, open_no, refusal_of, open_def, load_def, opened_of}
+use Rattle.std.specs.Prelude.{Result, Ok, Err}
+use Rattle.layout.specs.declared.refusals.Refusal.{Refusal}
+use Rattle.layout.specs.declared.refusals.Refusal.TheVariants.{TermsBad}
+use Rattle.index.specs.declared.SSTableIndexV3.{SSTableIndexV3}
+use Rattle.index.specs.Opening.{footer_no, file_no, open_no, refusal_of, open_def, load_def, opened_of}
 use Rattle.canonical.specs.Canonical.{canonical_no}
-use Rattle.demands.specs.Demand3.{Finishes, index_of_calls}
-use Rattle.replay.specs.Format.{calls}
-use Rattle.replay.specs.Made.{list_settings, fresh_of, entries_of, finish_of_list, open_number}
-use Rattle.replay.specs.Asked.{CheckedAs}
+use Rattle.demands.specs.Demand3.{Finishes, last_first_of, index_of_calls}
+use Rattle.replay.specs.Format.{calls, list_terms}
+use Rattle.replay.specs.Made.{finish_settings, fresh_of, entries_of, finish_of_list, open_number, check_number}
+use Rattle.replay.specs.Asked.{OpenedAs, CheckedAs}
 use Rattle.replay.proofs.Entries.{list-demand, list-finish}
 
 -- ---- a finish of entries
@@ -60,9 +64,9 @@ module _ (S : Settings) (es : List Entry) (out : List ℕ) where
       (plain-number S es out)
 
 -- no bytes get 10
-opens-none : (S : Settings) (es : List Entry) → CheckedAs 10 S es []
-unfolding open_def canonical_no open_no footer_no refusal_of
-opens-none S es = record { opening = (refl, omega arith); checked = refl }
+opens-none : (S : Settings) (terms : ℕ) (es : List Entry) → CheckedAs 10 10 S terms es []
+unfolding open_def canonical_no open_no file_no footer_no refusal_of
+opens-none S terms es = record { opening = (refl, omega arith); checked = refl }
 
 -- ---- the bytes after a list's calls and finish
 
@@ -70,42 +74,73 @@ module _ (s B K out : List ℕ) where
   abbrev f : Finish
   f = finish_of_list s B K out
 
-  parts : FinishParts (list_settings s) (entries_of s B K) out f
-  parts = finish-parts (list_settings s) (entries_of s B K) out
+  parts : FinishParts (finish_settings s) (entries_of s B K) out f
+  parts = finish-parts (finish_settings s) (entries_of s B K) out
 
   -- as demand 3 has them
-  pub list-after : index_of_calls (list_settings s) (calls s) (fresh_of B K) out ≡ take f.total f.out
+  pub list-after : index_of_calls (finish_settings s) (calls s) (fresh_of B K) out ≡ take f.total f.out
   list-after = ap (λ (x : Finish). take x.total x.out) (list-finish s B K out)
 
   -- an index is there, and the finish isn't refused
-  pub list-finishes : (f.total ≡ 0 → ⊥) → Finishes (list_settings s) (calls s) (fresh_of B K) out
+  pub list-finishes : (f.total ≡ 0 → ⊥) → Finishes (finish_settings s) (calls s) (fresh_of B K) out
   list-finishes some = record {
     two = parts.two some;
     accepted = ap (λ (x : Finish). x.no) (list-finish s B K out) ∙ parts.taken some;
   }
 
-  opened_some : (f.total ≡ 0 → ⊥) → CheckedAs 0 (list_settings s) (entries_of s B K) (take f.total f.out)
-  opened_some some =
-      let d = list-demand s B K out in
-      let finishes = list-finishes some in
-      let opens : load_def (take f.total f.out) ≡ Ok (opened_of (take f.total f.out)) = rw list-after at (d.opens finishes) in
-      record {
-        opening = rw opens (
-          refl,
-          record {
-            bytes = parts.some some;
-            few = d.few;
-            finds = rw list-after at (d.finds finishes);
-          },
-        );
-        checked = rw list-after at (d.canonical finishes);
-      }
+  -- what was written, and its opening with the list's number of terms
+  abbrev written : List ℕ
+  written = take f.total f.out
 
-  pub list-opened : CheckedAs (open_number f) (list_settings s) (entries_of s B K) (take f.total f.out)
-  unfolding open_number
+  opening : (k : ℕ) (loaded : Result SSTableIndexV3 Refusal) → load_def (list_terms s) written ≡ loaded
+      → OpenedAs k (finish_settings s) (list_terms s) (entries_of s B K) written loaded
+      → OpenedAs k (finish_settings s) (list_terms s) (entries_of s B K) written (load_def (list_terms s) written)
+  opening k loaded e o = rw e o
+
+  module _ (some : f.total ≡ 0 → ⊥) where
+    checked_some : canonical_no standard written ≡ 0
+    checked_some = rw list-after at ((list-demand s B K out).canonical (list-finishes some))
+
+    -- a number of terms that isn't above the last first ordinal
+    opened_few : list_terms s ≤ last_first_of (entries_of s B K)
+        → CheckedAs 28 0 (finish_settings s) (list_terms s) (entries_of s B K) written
+    opened_few h = record {
+      opening =
+          opening 28 (Err TermsBad) (rw list-after at ((list-demand s B K out).refuses (list-finishes some) (list_terms s) h))
+          (refl, omega arith);
+      checked = checked_some;
+    }
+
+    opened_enough : last_first_of (entries_of s B K) < list_terms s
+        → CheckedAs 0 0 (finish_settings s) (list_terms s) (entries_of s B K) written
+    opened_enough h =
+        let d = list-demand s B K out in
+        record {
+          opening =
+              opening 0 (Ok (opened_of (list_terms s) written)) (rw list-after at (d.opens (list-finishes some) (list_terms s) h)) (
+                refl,
+                record {
+                  bytes = parts.some some;
+                  few = d.few;
+                  finds = rw list-after at (d.finds (list-finishes some) (list_terms s) h);
+                },
+              );
+          checked = checked_some;
+        }
+
+    opened_some : CheckedAs (cond (leb (list_terms s) (last_first_of (entries_of s B K))) 28 0) 0 (finish_settings s) (list_terms s)
+        (entries_of s B K) written
+    opened_some =
+        cases (leb (list_terms s) (last_first_of (entries_of s B K)))
+        (λ t. rw t (opened_few (leb-true (list_terms s) (last_first_of (entries_of s B K)) t)))
+        (λ t. rw t (opened_enough (leb-false (list_terms s) (last_first_of (entries_of s B K)) t)))
+
+  pub list-opened : CheckedAs (open_number (list_terms s) (entries_of s B K) f) (check_number f) (finish_settings s) (list_terms s)
+      (entries_of s B K) written
+  unfolding open_number check_number
   list-opened =
       cases (eqb f.total 0)
-      (λ t. rw (t, parts.none (eqb-true f.total 0 t)) (opens-none (list_settings s) (entries_of s B K)))
+      (λ t. rw (t, parts.none (eqb-true f.total 0 t)) (opens-none (finish_settings s) (list_terms s) (entries_of s B K)))
       (λ t. rw t (opened_some (eqb-false f.total 0 t)))
 
   pub list-fits : f.total ≤ length out

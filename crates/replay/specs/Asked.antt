@@ -14,32 +14,32 @@ use Rattle.replay.specs.Format.{Question}
 use Rattle.replay.specs.Made.{cells}
 use Rattle.replay.specs.Replay.{Answered}
 
--- f is the entries' index, opened: the blocks are found there
-pub record Indexed (S : Settings) (es : List Entry) (f : List ℕ) (opened : SSTableIndexV3) : Type 0 where
+-- f is the entries' index, opened with a number of terms: the blocks are found there
+pub record Indexed (S : Settings) (terms : ℕ) (es : List Entry) (f : List ℕ) (opened : SSTableIndexV3) : Type 0 where
   pub bytes : f ≡ plain_index S es
   pub few : length es ≤ max_blocks
-  pub finds : Finds es f opened
+  pub finds : Finds es f terms opened
 
 -- an opening of f with number k
-abbrev pub OpenedAs : ℕ → Settings → List Entry → List ℕ → Result SSTableIndexV3 Refusal → Type 0
-OpenedAs k S es f (Ok opened) = (k ≡ 0) × Indexed S es f opened
-OpenedAs k S es f (Err refusal) = (k ≡ number_of refusal) × (0 < k)
+abbrev pub OpenedAs : ℕ → Settings → ℕ → List Entry → List ℕ → Result SSTableIndexV3 Refusal → Type 0
+OpenedAs k S terms es f (Ok opened) = (k ≡ 0) × Indexed S terms es f opened
+OpenedAs k S terms es f (Err refusal) = (k ≡ number_of refusal) × (0 < k)
 
--- f, opened and checked: the check of document 02's wish 3 has opening's number for what finish wrote, 0 for an index of two blocks or
--- more, 10 for no bytes
-pub record CheckedAs (k : ℕ) (S : Settings) (es : List Entry) (f : List ℕ) : Type 0 where
-  pub opening : OpenedAs k S es f (load_def f)
-  pub checked : canonical_no standard f ≡ k
+-- f, opened with a number of terms and checked: c is the number of the check of document 02's wish 3
+pub record CheckedAs (k c : ℕ) (S : Settings) (terms : ℕ) (es : List Entry) (f : List ℕ) : Type 0 where
+  pub opening : OpenedAs k S terms es f (load_def terms f)
+  pub checked : canonical_no standard f ≡ c
 
 -- questions answered from answer i on
-pub record QuestionsAnswered (k : ℕ) (S : Settings) (es : List Entry) (qs : List Question) (i : ℕ)
+pub record QuestionsAnswered (k : ℕ) (S : Settings) (terms : ℕ) (es : List Entry) (qs : List Question) (i : ℕ)
     (answers answers' : List ℕ) : Type 0 where
   pub asked : List ℕ
-  pub answered : Answered k S es qs asked
+  pub answered : Answered k S terms es qs asked
   pub written : answers' ≡ sets answers (5 * i) asked
 
--- an opening's number and the check's, which is the same one, as answer i, and the questions after it
-pub record OpeningAnswered (k : ℕ) (S : Settings) (es : List Entry) (qs : List Question) (i : ℕ) (answers answers' : List ℕ) : Type 0 where
+-- an opening's number and the check's as answer i, and the questions after it
+pub record OpeningAnswered (k c : ℕ) (S : Settings) (terms : ℕ) (es : List Entry) (qs : List Question) (i : ℕ)
+    (answers answers' : List ℕ) : Type 0 where
   pub asked : List ℕ
-  pub answered : Answered k S es qs asked
-  pub written : answers' ≡ sets answers (5 * i) (cells k k 0 0 0 ++ asked)
+  pub answered : Answered k S terms es qs asked
+  pub written : answers' ≡ sets answers (5 * i) (cells k c 0 0 0 ++ asked)

@@ -1,5 +1,5 @@
--- A list of calls and questions in bytes: the settings' length (4) and the settings, of which there are none yet; how many calls and
--- how many questions (4 and 4), the calls, the questions.
+-- A list of calls and questions in bytes: the settings' length (4) and the settings, which are the number of terms (8) that the index is
+-- opened with; how many calls and how many questions (4 and 4), the calls, the questions.
 -- Each begins with its tag. Numbers are little-endian; a byte string is its length (4) and its bytes.
 --     0 add        start 8, end 8, first ordinal 8, key
 --     1 shorten    next key
@@ -83,6 +83,13 @@ settings_len s = number_at s 0 4
 abbrev pub counts_at : List ℕ → ℕ
 counts_at s = 4 + settings_len s
 
+-- the settings of every list: the number of terms
+abbrev pub known_len : ℕ
+known_len = 8
+
+abbrev pub list_terms : List ℕ → ℕ
+list_terms s = number_at s 4 8
+
 -- how many calls and questions, and where each begin
 abbrev pub call_count : List ℕ → ℕ
 call_count s = number_at s (counts_at s) 4
@@ -104,7 +111,7 @@ questions s = items (question_len s) (question_at s) (questions_from s) (questio
 
 -- the head isn't one: no length of settings, settings that nobody knows, or no counts
 unfoldable pub head_bad : List ℕ → Bool
-head_bad s = ltb (length s) 4 || (not (eqb (settings_len s) 0) || ltb (length s) (calls_from s))
+head_bad s = ltb (length s) 4 || (not (eqb (settings_len s) known_len) || ltb (length s) (calls_from s))
 
 -- the bytes aren't such a list: a bad head, an item that isn't there, or bytes after the last
 unfoldable pub list_bad : List ℕ → Bool

@@ -1,11 +1,11 @@
 -- What a list's calls and the finish after them answer and leave, from the plain machine and its entries.
-use Rattle.std.specs.Prelude.{ℕ, List, [], ◌∷◌, ◌++◌, cond, eqb}
+use Rattle.std.specs.Prelude.{ℕ, List, [], ◌∷◌, ◌++◌, cond, eqb, leb}
 use Rattle.builder.specs.Calls.{State, builder_of}
 use Rattle.builder.specs.Index.{Settings, standard}
 use Rattle.builder.specs.Finish.{Finish}
 use Rattle.machine.specs.Plain.{Entry}
 use Rattle.machine.specs.Finished.{plain_finish}
-use Rattle.demands.specs.Demand3.{entries_of_calls}
+use Rattle.demands.specs.Demand3.{entries_of_calls, last_first_of}
 use Rattle.replay.specs.Format.{calls}
 
 -- an answer is five numbers
@@ -21,9 +21,9 @@ call_cells (k ∷ ks) = cells k 0 0 0 0 ++ call_cells ks
 abbrev pub finish_cells : Finish → List ℕ
 finish_cells f = cells f.no f.total f.directory 0 0
 
--- a list's settings: lists have none of their own yet
-abbrev pub list_settings : List ℕ → Settings
-list_settings s = standard
+-- what a list's finish is made with: the standard, since the list's own settings are about opening alone
+abbrev pub finish_settings : List ℕ → Settings
+finish_settings s = standard
 
 -- a fresh builder with the lent areas, and the machine's entries after the list's calls
 abbrev pub fresh_of : List ℕ → List ℕ → State
@@ -34,13 +34,17 @@ entries_of s B K = entries_of_calls (calls s) (fresh_of B K)
 
 -- what finish answers and leaves
 abbrev pub finish_of_list : List ℕ → List ℕ → List ℕ → List ℕ → Finish
-finish_of_list s B K out = plain_finish (list_settings s) (entries_of s B K) out
+finish_of_list s B K out = plain_finish (finish_settings s) (entries_of s B K) out
 
--- the number that the first total bytes get, opened alone: no bytes get 10
-unfoldable pub open_number : Finish → ℕ
-open_number f = cond (eqb f.total 0) 10 0
+-- the number that the first total bytes get, opened alone: no bytes get 10, and an index of the entries 28 with a number of terms that
+-- isn't above the last first ordinal
+unfoldable pub open_number : ℕ → List Entry → Finish → ℕ
+open_number terms es f = cond (eqb f.total 0) 10 (cond (leb terms (last_first_of es)) 28 0)
 
--- an opening's is that number, and behind it the number of the check of document 02's wish 3, which is the same one for what finish
--- wrote: 0 for an index of two blocks or more, 10 for no bytes
-abbrev pub opening_cells : Finish → List ℕ
-opening_cells f = cells (open_number f) (open_number f) 0 0 0
+-- the number of the check of document 02's wish 3 for them: 0 for an index of two blocks or more, 10 for no bytes
+unfoldable pub check_number : Finish → ℕ
+check_number f = cond (eqb f.total 0) 10 0
+
+-- an opening's is its number, and behind it the check's
+abbrev pub opening_cells : ℕ → List Entry → Finish → List ℕ
+opening_cells terms es f = cells (open_number terms es f) (check_number f) 0 0 0

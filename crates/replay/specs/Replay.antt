@@ -22,9 +22,10 @@ use Rattle.replay.specs.Format.{
   questions,
   call_count,
   question_count,
+  list_terms,
   list_bad,
 }
-use Rattle.replay.specs.Made.{cells, call_cells, finish_cells, opening_cells, list_settings, fresh_of, entries_of}
+use Rattle.replay.specs.Made.{cells, call_cells, finish_cells, opening_cells, finish_settings, fresh_of, entries_of}
 use Rattle.replay.specs.Made.{finish_of_list, open_number}
 
 -- by id: the entry's block, or 17
@@ -34,13 +35,13 @@ pub record IdAnswer (es : List Entry) (id : ℕ) (cs : List ℕ) : Type 0 where
   pub written : cs ≡ cells no 0 addr.start addr.end addr.first_ordinal
   pub right : ByIdExact (entry_block es) (length es) id no addr
 
--- by ordinal: id and block, or 18
-pub record OrdAnswer (es : List Entry) (ord : ℕ) (cs : List ℕ) : Type 0 where
+-- by ordinal in an index that was opened with a number of terms: id and block, or 18 or 29
+pub record OrdAnswer (terms : ℕ) (es : List Entry) (ord : ℕ) (cs : List ℕ) : Type 0 where
   pub no : ℕ
   pub id : ℕ
   pub addr : BlockAddr
   pub written : cs ≡ cells no id addr.start addr.end addr.first_ordinal
-  pub right : ByOrdExact (entry_block es) (length es) ord no id addr
+  pub right : ByOrdExact (entry_block es) (length es) terms ord no id addr
 
 -- by key: the id, or 19
 pub record KeyAnswer (es : List Entry) (key : List ℕ) (cs : List ℕ) : Type 0 where
@@ -73,23 +74,23 @@ pub record MarkAnswer (es : List Entry) (i : ℕ) (t : List ℕ) (cs : List ℕ)
   pub marks : List ℕ
   pub listed : table_no t ≡ 0 → Marks t (entry_separator es) (length es) marks × (cs ≡ cells 0 (count_ones marks) (get_or marks i 0) 0 0)
 
-abbrev pub AnswerTo : Settings → List Entry → Question → List ℕ → Type 0
-AnswerTo S es (by_id id) cs = IdAnswer es id cs
-AnswerTo S es (by_ordinal ord) cs = OrdAnswer es ord cs
-AnswerTo S es (by_key key) cs = KeyAnswer es key cs
-AnswerTo S es (address_by_key key) cs = AddrAnswer es key cs
-AnswerTo S es (separator_of id) cs = SeparatorAnswer S es id cs
-AnswerTo S es (mark_of i t) cs = MarkAnswer es i t cs
+abbrev pub AnswerTo : Settings → ℕ → List Entry → Question → List ℕ → Type 0
+AnswerTo S terms es (by_id id) cs = IdAnswer es id cs
+AnswerTo S terms es (by_ordinal ord) cs = OrdAnswer terms es ord cs
+AnswerTo S terms es (by_key key) cs = KeyAnswer es key cs
+AnswerTo S terms es (address_by_key key) cs = AddrAnswer es key cs
+AnswerTo S terms es (separator_of id) cs = SeparatorAnswer S es id cs
+AnswerTo S terms es (mark_of i t) cs = MarkAnswer es i t cs
 
 -- a question to an index that opened, or to one that didn't: opening's number
-abbrev pub AnswerIn : ℕ → Settings → List Entry → Question → List ℕ → Type 0
-AnswerIn k S es q cs = ((k ≡ 0) × AnswerTo S es q cs) ⊎ ((0 < k) × (cs ≡ cells k 0 0 0 0))
+abbrev pub AnswerIn : ℕ → Settings → ℕ → List Entry → Question → List ℕ → Type 0
+AnswerIn k S terms es q cs = ((k ≡ 0) × AnswerTo S terms es q cs) ⊎ ((0 < k) × (cs ≡ cells k 0 0 0 0))
 
 -- all of them, one after the other
-pub data Answered (no : ℕ) (S : Settings) (es : List Entry) : List Question → List ℕ → Type 0 where
-  no_more : Answered no S es [] []
-  one_more : {q : Question} {qs : List Question} {c cs : List ℕ} → AnswerIn no S es q c → Answered no S es qs cs
-      → Answered no S es (q ∷ qs) (c ++ cs)
+pub data Answered (no : ℕ) (S : Settings) (terms : ℕ) (es : List Entry) : List Question → List ℕ → Type 0 where
+  no_more : Answered no S terms es [] []
+  one_more : {q : Question} {qs : List Question} {c cs : List ℕ} → AnswerIn no S terms es q c → Answered no S terms es qs cs
+      → Answered no S terms es (q ∷ qs) (c ++ cs)
 
 -- 101: the bytes aren't a list; 102: not five numbers of room for each call, finish, opening and each question
 unfoldable pub replay_no : List ℕ → ℕ → ℕ
@@ -101,8 +102,9 @@ pub record Replayed (s B K out answers B' K' out' answers' : List ℕ) : Type 0 
   pub keys : K' ≡ (run_end (calls s) (fresh_of B K)).keys
   pub output : out' ≡ (finish_of_list s B K out).out
   pub asked : List ℕ
-  pub answered : Answered (open_number (finish_of_list s B K out)) (list_settings s) (entries_of s B K) (questions s) asked
+  pub answered : Answered (open_number (list_terms s) (entries_of s B K) (finish_of_list s B K out)) (finish_settings s) (list_terms s)
+      (entries_of s B K) (questions s) asked
   pub written : answers'
       ≡ sets answers 0
       (call_cells (plain_numbers (rooms_of (fresh_of B K)) (calls s) [])
-      ++ (finish_cells (finish_of_list s B K out) ++ (opening_cells (finish_of_list s B K out) ++ asked)))
+      ++ (finish_cells (finish_of_list s B K out) ++ (opening_cells (list_terms s) (entries_of s B K) (finish_of_list s B K out) ++ asked)))

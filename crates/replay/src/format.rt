@@ -3,7 +3,7 @@
 ghost use Rattle.std.specs.Prelude.{Option, ◌≡◌, true, false, ℕ, ◌||◌, ◌+◌, ◌^◌, ◌≤◌, ◌<◌, eqb, length};
 ghost use Rattle.std.specs.Prelude.{MatchOption};
 ghost use Rattle.replay.specs.Format.{string_len, string_at, within, call_len, question_len, behind};
-ghost use Rattle.replay.specs.Format.{counts_at, calls_from, questions_from, call_count, question_count, head_bad, list_bad};
+ghost use Rattle.replay.specs.Format.{counts_at, list_terms, calls_from, questions_from, call_count, question_count, head_bad, list_bad};
 ghost use Rattle.replay.specs.Format.{added_block, call_at, question_at};
 ghost use Rattle.replay.specs.Read.{call_of, question_of};
 ghost use Rattle.replay.specs.Tags.{Decodes, TagAt, IsLen, IsItem};
@@ -74,8 +74,10 @@ pub enum Question<'a> {
     MarkOf(u64, &'a [u8]),
 }
 
-// How many bytes the settings' length takes, and both counts.
+// How many bytes the settings' length takes, the settings themselves, and both counts.
 const SETTINGS_LEN_LEN: usize = 4;
+
+const SETTINGS_LEN: usize = 8;
 
 const COUNTS_LEN: usize = 8;
 
@@ -212,10 +214,18 @@ impl<'a> Head<'a> {
         ensures { MatchOption result (head_bad list.now ≡ true) (λ head. head.list.now ≡ list.now) }
     {
         let counts_at = SETTINGS_LEN_LEN + directory_read::number(list.get(..SETTINGS_LEN_LEN)?, 0);
-        if counts_at != SETTINGS_LEN_LEN || list.len() < counts_at + COUNTS_LEN {
+        if counts_at != SETTINGS_LEN_LEN + SETTINGS_LEN || list.len() < counts_at + COUNTS_LEN {
             return None;
         }
         Some(Head { list })
+    }
+
+    // The number of terms that the list's index is opened with.
+    #[tactic(auto, unfolding(crate::specs::Format::head_bad))]
+    pub fn terms(&self) -> u64
+        ensures { result ≡ list_terms self.now.list.now }
+    {
+        serialize::deserialize_u64(self.list, SETTINGS_LEN_LEN)
     }
 
     // Where the counts stand: after the settings.

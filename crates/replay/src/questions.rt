@@ -4,7 +4,7 @@ ghost use Rattle.layout.specs.declared.refusals.Refusal.{Refusal};
 ghost use Rattle.builder.specs.Index.{Settings};
 ghost use Rattle.machine.specs.Plain.{Entry};
 ghost use Rattle.index.specs.declared.SSTableIndexV3.{SSTableIndexV3};
-ghost use Rattle.replay.specs.Format.{question_len, question_at, items, behind, question_count};
+ghost use Rattle.replay.specs.Format.{question_len, question_at, items, behind, question_count, list_terms};
 ghost use Rattle.replay.specs.Read.{question_of};
 ghost use Rattle.replay.specs.Steps.{cells_of};
 ghost use Rattle.replay.specs.Replay.{MarkAnswer, AnswerTo, AnswerIn};
@@ -33,7 +33,7 @@ struct Index<'a> {
 impl Index<'_> {
     // Lists the automaton's blocks: how many, and mark i. A match, here and in `answer_in`: with `map_or_else` the check found no proof.
     fn mark(&self, i: u64, automaton: &[u8]) -> Cells
-        ensures { (S : Settings) (es : List Entry) → Indexed S es self.now.data.now self.now.opened
+        ensures { (S : Settings) (terms : ℕ) (es : List Entry) → Indexed S terms es self.now.data.now self.now.opened
             → MarkAnswer es i automaton.now (cells_of result) }
     {
         // A fixed area for every index, since the library has no heap.
@@ -46,8 +46,8 @@ impl Index<'_> {
 
     // The answer to a question.
     fn answer(&self, question: Question) -> Cells
-        ensures { (S : Settings) (es : List Entry) → Indexed S es self.now.data.now self.now.opened
-            → AnswerTo S es (question_of question.entry) (cells_of result) }
+        ensures { (S : Settings) (terms : ℕ) (es : List Entry) → Indexed S terms es self.now.data.now self.now.opened
+            → AnswerTo S terms es (question_of question.entry) (cells_of result) }
     {
         let (opened, data) = (self.opened, self.data);
         match question {
@@ -71,8 +71,8 @@ impl Index<'_> {
 
 // The answer to a question; where the opening was refused, its number.
 fn answer_in(question: Question, loaded: Result<SSTableIndexV3, Refusal>, data: &[u8]) -> Cells
-    ensures { (k : ℕ) (S : Settings) (es : List Entry) → OpenedAs k S es «data».now loaded
-        → AnswerIn k S es (question_of question.entry) (cells_of result) }
+    ensures { (k : ℕ) (S : Settings) (terms : ℕ) (es : List Entry) → OpenedAs k S terms es «data».now loaded
+        → AnswerIn k S terms es (question_of question.entry) (cells_of result) }
 {
     match loaded {
         Ok(opened) => Index { opened, data }.answer(question),
@@ -93,8 +93,8 @@ fn ask_questions(
 )
     requires there { behind (question_len head.now.list.now) from (question_count head.now.list.now) ≡ 0 → ⊥ }
     requires room { 5 * (first + question_count head.now.list.now) ≤ length answers.old }
-    ensures { (k : ℕ) (S : Settings) (es : List Entry) → OpenedAs k S es «data».now loaded
-        → QuestionsAnswered k S es (items (question_len head.now.list.now) (question_at head.now.list.now) from
+    ensures { (k : ℕ) (S : Settings) (terms : ℕ) (es : List Entry) → OpenedAs k S terms es «data».now loaded
+        → QuestionsAnswered k S terms es (items (question_len head.now.list.now) (question_at head.now.list.now) from
         (question_count head.now.list.now)) first answers.old answers.new }
 {
     let list = head.list;
@@ -105,15 +105,17 @@ fn ask_questions(
     }
 }
 
-// Opens the bytes and asks the list's questions of them. The opening, with the number of the check beside its own, is answer `first`.
+// Opens the bytes with the list's number of terms and asks its questions of them. The opening, with the number of the check beside its
+// own, is answer `first`.
 pub fn open_list(head: &Head, from: usize, data: &[u8], answers: &mut [u64], first: usize)
     requires there { behind (question_len head.now.list.now) from (question_count head.now.list.now) ≡ 0 → ⊥ }
     requires room { 5 * (first + 1 + question_count head.now.list.now) ≤ length answers.old }
-    ensures { (k : ℕ) (S : Settings) (es : List Entry) → CheckedAs k S es «data».now
-        → OpeningAnswered k S es (items (question_len head.now.list.now) (question_at head.now.list.now) from
-        (question_count head.now.list.now)) first answers.old answers.new }
+    ensures { (k c : ℕ) (S : Settings) (es : List Entry) → CheckedAs k c S (list_terms head.now.list.now) es «data».now
+        → OpeningAnswered k c S (list_terms head.now.list.now) es
+        (items (question_len head.now.list.now) (question_at head.now.list.now) from (question_count head.now.list.now))
+        first answers.old answers.new }
 {
-    let loaded = index_load::load(data);
+    let loaded = index_load::load(head.terms(), data);
     let opening = u64::from(refusals::number(loaded));
     let check = u64::from(refusals::number(canonical::check_canonical(data)));
     Cells([opening, check, 0, 0, 0]).write(answers, WIDTH * first);

@@ -2,7 +2,7 @@
 ghost use Rattle.std.specs.Prelude.{◌≡◌};
 ghost use Rattle.rosmarel.specs.Interface.{interface};
 
-const INTERFACE: u64 = 3;
+const INTERFACE: u64 = 4;
 
 // The interface that this archive has.
 #[unsafe(no_mangle)]

@@ -13,19 +13,19 @@ use crate::answers::{put_address, put_count, put_located};
 use index::SSTableIndexV3;
 use layout::refusals;
 
-// Opens the bytes of an index that anyone may have written.
+// Opens the bytes of an index that anyone may have written, and that has so many terms.
 #[unsafe(no_mangle)]
-pub extern "C" fn rosmarel_open(index: &[u8], opened: &mut [u64; 7]) -> u32
-    ensures value { result ≡ load_no (load_def index.now) }
-    ensures opened_after { opened.new ≡ opened_words (load_opened (load_def index.now)) }
+pub extern "C" fn rosmarel_open(terms: u64, index: &[u8], opened: &mut [u64; 8]) -> u32
+    ensures value { result ≡ load_no (load_def terms index.now) }
+    ensures opened_after { opened.new ≡ opened_words (load_opened (load_def terms index.now)) }
 {
-    let loaded = index_load::load(index);
-    *opened = <[u64; 7]>::from(loaded.unwrap_or_default());
+    let loaded = index_load::load(terms, index);
+    *opened = <[u64; 8]>::from(loaded.unwrap_or_default());
     refusals::number(loaded)
 }
 
-// Whether the bytes are the index that finish makes from the blocks and separators read in them: 0, or 27; opening's number for bytes
-// that don't open.
+// Whether the bytes are the index that finish makes from the blocks and separators read in them: 0, or 27; for bytes that hit one of
+// rows 10 to 16 the first of these.
 #[unsafe(no_mangle)]
 pub extern "C" fn rosmarel_check_canonical(index: &[u8]) -> u32
     ensures { result ≡ canonical_no standard index.now }
@@ -37,7 +37,7 @@ pub extern "C" fn rosmarel_check_canonical(index: &[u8]) -> u32
 #[unsafe(no_mangle)]
 pub extern "C" fn rosmarel_get_block(
     index: &[u8],
-    opened: &[u64; 7],
+    opened: &[u64; 8],
     id: u64,
     start: &mut u64,
     end: &mut u64,
@@ -51,11 +51,11 @@ pub extern "C" fn rosmarel_get_block(
     refusals::number(block)
 }
 
-// The block that holds the ordinal, with its address.
+// The block that holds the ordinal, with its address; none from the number of terms on.
 #[unsafe(no_mangle)]
 pub extern "C" fn rosmarel_locate_with_ord(
     index: &[u8],
-    opened: &[u64; 7],
+    opened: &[u64; 8],
     ord: u64,
     id: &mut u64,
     start: &mut u64,
@@ -73,7 +73,7 @@ pub extern "C" fn rosmarel_locate_with_ord(
 #[unsafe(no_mangle)]
 pub extern "C" fn rosmarel_locate_with_key(
     index: &[u8],
-    opened: &[u64; 7],
+    opened: &[u64; 8],
     key: &[u8],
     id: &mut u64,
 ) -> u32
@@ -88,7 +88,7 @@ pub extern "C" fn rosmarel_locate_with_key(
 #[unsafe(no_mangle)]
 pub extern "C" fn rosmarel_locate_with_keys(
     index: &[u8],
-    opened: &[u64; 7],
+    opened: &[u64; 8],
     pairs: &[u64],
     keys: &[u8],
     ids: &mut [u64],
@@ -104,7 +104,7 @@ pub extern "C" fn rosmarel_locate_with_keys(
 #[unsafe(no_mangle)]
 pub extern "C" fn rosmarel_get_block_with_key(
     index: &[u8],
-    opened: &[u64; 7],
+    opened: &[u64; 8],
     key: &[u8],
     id: &mut u64,
     start: &mut u64,
@@ -122,7 +122,7 @@ pub extern "C" fn rosmarel_get_block_with_key(
 #[unsafe(no_mangle)]
 pub extern "C" fn rosmarel_separator(
     index: &[u8],
-    opened: &[u64; 7],
+    opened: &[u64; 8],
     id: u64,
     offset: &mut u64,
     len: &mut u64,

@@ -1,6 +1,6 @@
 -- What a pass over a store's groups shows: the blocks of those passed are legal, and the next group follows the last of them or is refused.
 use borrow.Author.Tests.{eqb-true, leb-false, not-false, eq-eqb, lt-leb, lt-ltb}
-use mathlib.Core.Path.{◌≡◌, refl, sym, ◌∙◌}
+use mathlib.Core.Path.{◌≡◌, refl, sym, ap, ◌∙◌}
 use mathlib.Core.Bool.{Bool, true, false, not, ◌||◌, ◌&&◌, cond, true≢false}
 use mathlib.Core.List.{List}
 use mathlib.Core.Logic.{⊎_elim}
@@ -127,17 +127,18 @@ module _ (L : ℕ) (recs addr : List ℕ) (n : ℕ) where
     last = λ h. absurd (let z : ⊥ = omega arith in z);
   }
 
-  pub passed-all : (k : ℕ) {before : BlockAddr} → n ≤ L * k → Passed L recs addr n k before
-      → (firsts_bad recs k || blocks_bad (store_block L recs addr) n) ≡ false
-  passed-all k h p =
-      let e : min n (L * k) ≡ n = omega arith in
-      rw (p.firsts, blocks-keep (store_block L recs addr) n (rw e at p.legal))
+  -- the last of all n blocks in k groups, or that a first value or a block breaks row 16
+  abbrev pub last_of_all : ℕ → Option BlockAddr
+  last_of_all k = cond (firsts_bad recs k || blocks_bad (store_block L recs addr) n) None (Some (store_block L recs addr (n - 1)))
 
-  row-refused : (k : ℕ) → (firsts_bad recs k ≡ false → Legal (store_block L recs addr) n → ⊥)
-      → true ≡ (firsts_bad recs k || blocks_bad (store_block L recs addr) n)
+  pub passed-all : (k : ℕ) {before : BlockAddr} → 0 < k → n ≤ L * k → Passed L recs addr n k before → Some before ≡ last_of_all k
+  passed-all k some h p =
+      let e : min n (L * k) ≡ n = omega arith in
+      rw (p.firsts, blocks-keep (store_block L recs addr) n (rw e at p.legal)) (ap Some (rw e at (p.last some)))
+
+  row-refused : (k : ℕ) → (firsts_bad recs k ≡ false → Legal (store_block L recs addr) n → ⊥) → None ≡ last_of_all k
   row-refused k h =
-      sym
-      (true_from_ne_false (firsts_bad recs k || blocks_bad (store_block L recs addr) n)
+      rw (true_from_ne_false (firsts_bad recs k || blocks_bad (store_block L recs addr) n)
       (λ e. let both = or_parts (firsts_bad recs k) _ e in h both.0 (blocks-kept (store_block L recs addr) n both.1)))
 
 -- a group with blocks before it isn't the first
@@ -176,8 +177,7 @@ module _ {L : ℕ} {recs addr : List ℕ} {n g : ℕ} {m : BlockAddrBlockMetadat
   own-legal legal =
       legal-same (λ j h. sym (own_is j h)) (legal-part legal (L * g) (m.block_len + 1) (omega (arith, group-kept.blocks)))
 
-  pub group-refused : (k : ℕ) (r : Option BlockAddr) → r ≡ last_of own m.block_len → r ≡ None
-      → true ≡ (firsts_bad recs k || blocks_bad block n)
+  pub group-refused : (k : ℕ) (r : Option BlockAddr) → r ≡ last_of own m.block_len → r ≡ None → None ≡ last_of_all L recs addr n k
   group-refused k r is e =
       row-refused L recs addr n k
       (λ firsts legal. true≢false
@@ -187,7 +187,7 @@ module _ {L : ℕ} {recs addr : List ℕ} {n g : ℕ} {m : BlockAddrBlockMetadat
     before-is : 0 < g → before ≡ block (L * g - 1)
     before-is h = let e : min n (L * g) ≡ L * g = omega (arith, group.there) in rw e at (passed.last h)
 
-    pub first-refused : (k : ℕ) → g < k → first_bad m g before ≡ true → true ≡ (firsts_bad recs k || blocks_bad block n)
+    pub first-refused : (k : ℕ) → g < k → first_bad m g before ≡ true → None ≡ last_of_all L recs addr n k
     unfolding block_read range_read ordinal_read
     first-refused k h b =
         row-refused L recs addr n k

@@ -62,11 +62,11 @@ pub record Last (f : ℕ → ℕ) (n x i : ℕ) : Type 0 where
 abbrev pub ord_found_no : Result Located Refusal → ℕ
 ord_found_no r = no_of r
 
--- what an ordinal's lookup may answer in every case, and what it answers in a store that keeps the rules:
--- the block that SPECIFICATION 9.2 names, or that the ordinal is below the first
-unfoldable pub OrdFoundIn : ℕ → Result Located Refusal → Type 0
-OrdFoundIn n (Ok at) = (at.block_id < n) × NumbersOk at.addr
-OrdFoundIn n (Err refusal) = (number_of refusal ≡ 18) ⊎ (number_of refusal ≡ 20)
+-- what an ordinal's lookup may answer in every case, `first` being the first ordinal of the first group's record, and what it answers
+-- in a store that keeps the rules: the block that SPECIFICATION 9.2 names, or that the ordinal is below the first
+unfoldable pub OrdFoundIn : ℕ → ℕ → ℕ → Result Located Refusal → Type 0
+OrdFoundIn n first ord (Ok at) = (at.block_id < n) × NumbersOk at.addr
+OrdFoundIn n first ord (Err refusal) = ((number_of refusal ≡ 18) × (ord < first)) ⊎ (number_of refusal ≡ 20)
 
 unfoldable pub OrdFoundAs : (ℕ → BlockAddr) → ℕ → ℕ → Result Located Refusal → Type 0
 OrdFoundAs block n ord (Ok at) = Last (λ j. (block j).first_ordinal) n ord at.block_id × (at.addr ≡ block at.block_id)

@@ -1,6 +1,7 @@
 -- A group of a store whose groups keep row 15, as the code reads its record.
 use borrow.Author.Tests.{lt-ltb}
-use Prim.Native.Nat.{ℕ, ◌+◌, ◌-◌, ◌≤◌, ◌<◌}
+use Prim.Native.Nat.{ℕ, ◌+◌, ◌-◌, ◌*◌, ◌≤◌, ◌<◌}
+use native.Mathlib.Nat.{mul-zero}
 use native.Mathlib.Omega.{arith}
 use mathlib.Core.Path.{◌≡◌, refl, sym, ◌∙◌}
 use mathlib.Core.List.{List}
@@ -19,9 +20,9 @@ use Rattle.group.specs.declared.BlockAddrBlockMetadata.{BlockAddrBlockMetadata}
 use Rattle.group.specs.Read.{block_read}
 use Rattle.group.specs.Facts.{Readable}
 use Rattle.store.specs.Store.{group_count}
-use Rattle.store.specs.Read.{group_meta, store_block}
-use Rattle.store.specs.Check.{groups_bad, firsts_bad, blocks_bad}
-use Rattle.store.proofs.Groups.{group-first-lt}
+use Rattle.store.specs.Read.{group_meta}
+use Rattle.store.specs.Check.{groups_bad}
+use Rattle.store.proofs.Groups.{group-count-above, group-first-lt}
 use Rattle.store.proofs.Rows.{groups-fronts}
 use Rattle.std.proofs.lemmas.List.{take_rest}
 use Rattle.store.proofs.Passed.{
@@ -29,12 +30,14 @@ use Rattle.store.proofs.Passed.{
   Passed,
   first_bad,
   passed_none,
+  passed-all,
   group-kept,
   group-readable,
   group-refused,
   first-refused,
   passed-turn,
   last_of,
+  last_of_all,
 }
 use Rattle.store_read.specs.declared.BlockAddrStore.{BlockAddrStore}
 
@@ -60,6 +63,20 @@ pub first-tested : (s : BlockAddrStore) (m : BlockAddrBlockMetadata) (o : Option
 first-tested s m None g t e h = h ∙ rw e (sym (or-false (leb limit m.range_start || leb limit m.first_ordinal)))
 first-tested s m (Some b) g t e h = h ∙ rw (lt-ltb 0 g e.0) refl
 
+-- what row 16 says of a store: its last block, or that the row is hit
+abbrev last_of_store : BlockAddrStore → Option BlockAddr
+last_of_store s = last_of_all s.group_len s.metas.now s.addrs.now s.n (group_count s.group_len s.n)
+
+-- the last block before the end is the last of all: a store has a group
+pub all-passed : (s : BlockAddrStore) (o : Option BlockAddr) (g : ℕ) → Before s o g → g ≡ group_count s.group_len s.n
+    → o ≡ last_of_store s
+all-passed s None g e is =
+    let none : s.n ≤ s.group_len * 0 = rw (sym is ∙ e) at (group-count-above s.len.some s.n) in
+    absurd (let z : ⊥ = omega (arith, none, mul-zero s.group_len, s.records.some) in z)
+all-passed s (Some b) g e is =
+    passed-all s.group_len s.metas.now s.addrs.now s.n (group_count s.group_len s.n) (omega (arith, e.0)) (group-count-above s.len.some s.n)
+    (rw is at e.1)
+
 -- a group that the code goes on to: m is the record of group g of the store's `count`
 module _ (s : BlockAddrStore) {g count : ℕ} {m : BlockAddrBlockMetadata} (counted : count ≡ group_count s.group_len s.n) (below : g < count)
     (is : m ≡ group_meta s.metas.now g)
@@ -76,10 +93,6 @@ module _ (s : BlockAddrStore) {g count : ℕ} {m : BlockAddrBlockMetadata} (coun
     keeps = rw is (each-kept (groups-fronts s.group_len s.metas.now s.addrs.now s.n) (group_count s.group_len s.n) kept g there);
   }
 
-  abbrev row_16 : Bool
-  row_16 = firsts_bad s.metas.now (group_count s.group_len s.n)
-      || blocks_bad (store_block s.group_len s.metas.now s.addrs.now) s.n
-
   -- the answer of its blocks, as its bytes were lent
   told : {lent : BlockAddrBlockMetadata} {d : List ℕ} → (lent ≡ m) × (d ≡ drop m.offset s.addrs.now) → {r : Option BlockAddr}
       → r ≡ last_of (block_read lent (le_val d)) lent.block_len
@@ -87,7 +100,7 @@ module _ (s : BlockAddrStore) {g count : ℕ} {m : BlockAddrBlockMetadata} (coun
   told e h = rw (take_rest s.addrs.now m.offset, ← e.1, ← e.0) h
 
   pub blocks-refused : {lent : BlockAddrBlockMetadata} {d : List ℕ} → (lent ≡ m) × (d ≡ drop m.offset s.addrs.now) → {r : Option BlockAddr}
-      → r ≡ last_of (block_read lent (le_val d)) lent.block_len → r ≡ None → true ≡ row_16
+      → r ≡ last_of (block_read lent (le_val d)) lent.block_len → r ≡ None → None ≡ last_of_store s
   blocks-refused e h none = group-refused group _ _ (told e h) none
 
   module _ (o : Option BlockAddr) (before : Before s o g) {t : Bool}
@@ -97,7 +110,7 @@ module _ (s : BlockAddrStore) {g count : ℕ} {m : BlockAddrBlockMetadata} (coun
     tested : t ≡ first_bad m g (block_before o)
     tested = first-tested s m o g t before test
 
-    pub first-values-refused : t ≡ true → true ≡ row_16
+    pub first-values-refused : t ≡ true → None ≡ last_of_store s
     first-values-refused h = first-refused group (before-passed s o g before) _ there (sym tested ∙ h)
 
     module _ (good : t ≡ false) where

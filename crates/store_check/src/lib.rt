@@ -1,7 +1,7 @@
 // Rows 15 and 16 over a whole store.
 #![tactic(auto)]
 
-ghost use Rattle.std.specs.Prelude.{◌≡◌, ℕ, ◌<◌, false, not, ◌||◌, cond, ◌+◌, ◌≤◌, eqb, leb, length, Some, None, MatchOption};
+ghost use Rattle.std.specs.Prelude.{◌≡◌, ℕ, ◌<◌, false, not, ◌||◌, cond, ◌+◌, ◌-◌, ◌≤◌, eqb, leb, length, Some, None, MatchOption, IfOk};
 ghost use Rattle.layout.specs.Refusals.{no_of};
 ghost use Rattle.serialize.specs.Digits.{le_val};
 ghost use Rattle.group.specs.Legal.{limit};
@@ -99,39 +99,40 @@ fn last_block(group: &Group) -> Option<BlockAddr>
     }
 }
 
-// Row 16: whether a first value is outside the range, or a block breaks 3, 4 or 5. A loop: as a try_fold it would hand on an Option, the
-// block before if there is one, inside the Option that says whether a row is hit.
-fn blocks_bad(store: &BlockAddrStore) -> bool
+// Row 16: the last block of all; none where a first value is outside the range, or a block breaks 3, 4 or 5. A loop: as a try_fold it
+// would hand on an Option, the block before if there is one, inside the Option that says whether a row is hit.
+fn last_of_all(store: &BlockAddrStore) -> Option<BlockAddr>
     requires { groups_bad store.now.group_len store.now.metas.now store.now.addrs.now store.now.n
         (group_count store.now.group_len store.now.n) ≡ false }
-    ensures { result ≡ (firsts_bad store.now.metas.now (group_count store.now.group_len store.now.n) || blocks_bad
-        (store_block store.now.group_len store.now.metas.now store.now.addrs.now) store.now.n) }
+    ensures { result ≡ cond (firsts_bad store.now.metas.now (group_count store.now.group_len store.now.n) || blocks_bad
+        (store_block store.now.group_len store.now.metas.now store.now.addrs.now) store.now.n) None
+        (Some (store_block store.now.group_len store.now.metas.now store.now.addrs.now (store.now.n - 1))) }
 {
     let mut before = None;
     for g in 0..store.group_count() {
         let meta = BlockAddrBlockMetadata::deserialize(store.metas, META_LEN * g);
         if first_bad(meta, before) {
-            return true;
+            return None;
         }
         let group = store.group_of(meta);
         let Some(last) = last_block(&group) else {
-            return true;
+            return None;
         };
         before = Some(last);
     }
-    false
+    before
 }
 
-// Rows 15 and 16: 15 over all groups, then 16 over all blocks.
+// Rows 15 and 16: 15 over all groups, then 16 over all blocks. Row 16 reads the last block anyway, so its first ordinal comes back.
 #[tactic(auto, unfolding(store::specs::Check::store_no))]
-pub fn check(store: &BlockAddrStore) -> Result<(), Refusal>
-    ensures { no_of result ≡ store_no store.now.group_len store.now.metas.now store.now.addrs.now store.now.n }
+pub fn check(store: &BlockAddrStore) -> Result<u64, Refusal>
+    ensures number { no_of result ≡ store_no store.now.group_len store.now.metas.now store.now.addrs.now store.now.n }
+    ensures value { IfOk result (λ last. last
+        ≡ (store_block store.now.group_len store.now.metas.now store.now.addrs.now (store.now.n - 1)).first_ordinal) }
 {
     if groups_bad(store) {
         return Err(Refusal::GroupBad);
     }
-    if blocks_bad(store) {
-        return Err(Refusal::BlockBad);
-    }
-    Ok(())
+    let last = last_of_all(store).ok_or(Refusal::BlockBad)?;
+    Ok(last.first_ordinal)
 }

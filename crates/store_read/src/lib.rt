@@ -143,10 +143,19 @@ impl<'a> BlockAddrStore<'a> {
         })
     }
 
+    // The first ordinal of the first group.
+    #[tactic(auto, unfolding(group::specs::Meta::metadata_at))]
+    #[inline(always)]
+    pub fn first_ordinal(&self) -> u64
+        ensures { result ≡ (group_meta self.now.metas.now 0).first_ordinal }
+    {
+        serialize::deserialize_u64(self.metas, FIRST_ORDINAL)
+    }
+
     // The last block whose first ordinal is at or below `ord`.
     #[tactic(auto, unfolding(store::specs::Read::OrdFoundIn, store::specs::Read::OrdFoundAs))]
     pub fn binary_search_ord(&self, ord: u64) -> Result<Located, Refusal>
-        ensures ord_found_in { OrdFoundIn self.now.n result }
+        ensures ord_found_in { OrdFoundIn self.now.n (group_meta self.now.metas.now 0).first_ordinal ord result }
         ensures ord_found_as { StoreOk self.now.group_len self.now.metas.now self.now.addrs.now self.now.n
             → OrdFoundAs (store_block self.now.group_len self.now.metas.now self.now.addrs.now) self.now.n ord result }
     {

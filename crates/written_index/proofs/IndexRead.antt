@@ -1,12 +1,14 @@
--- A written index opens, and its blocks, separators and their places are read back, whatever slopes were chosen.
+-- A written index opens where the number of terms is above its last block's first ordinal, and all its parts are read back, for all
+-- slopes.
 use Prim.Native.Nat.{ℕ, zero, suc, ◌+◌, ◌-◌, ◌*◌, ◌^◌, ◌≤◌, ◌<◌}
 use mathlib.Core.Path.{◌≡◌, refl, sym, ap, ◌∙◌}
 use mathlib.Core.List.{List, [], append_assoc}
-use Rattle.std.specs.Prelude.{Some, None}
+use Rattle.std.specs.Prelude.{Some, None, Ok, Err}
 use native.Mathlib.Omega.{arith}
 use lib.ListN.{length, get_or, take, length-append}
 use Rattle.serialize.specs.Digits.{le_bytes}
 use Rattle.serialize.proofs.Digits.{length-digits_of, of_digits-digits_of-lt}
+use Rattle.layout.specs.declared.refusals.Refusal.TheVariants.{TermsBad}
 use Rattle.group.specs.declared.BlockAddr.{BlockAddr}
 use Rattle.group.specs.Blocks.{block_of}
 use Rattle.store.specs.Store.{group_count, group_records, addrs, store_bytes}
@@ -18,14 +20,15 @@ use Rattle.directory.specs.Directory.{key_bytes, directory_bytes}
 use Rattle.directory.specs.Read.{count_of}
 use Rattle.directory.proofs.Lengths.{Bounded, length-directory_bytes, length-key_bytes-le, length-key_bytes-suc}
 use Rattle.directory.proofs.Opened.{count-whole, offset-whole, length_whole, key-whole, directory-opens}
-use Rattle.index.specs.Parts.{store_len, group_records_len, count_in, block_in, separator_in}
-use Rattle.index.specs.Opening.{opened_of, OpensBy}
+use Rattle.index.specs.Parts.{store_len, group_records_len, count_in, block_in, last_first_ordinal, separator_in}
+use Rattle.index.specs.Opening.{file_no, opened_of, open_def}
 use Rattle.index.specs.Lookups.{place_by}
-use Rattle.index.proofs.OpeningRows.{OpenOk, footer-good, records-good, open_none, open-taken}
+use Rattle.index.proofs.OpeningRows.{FileOk, footer-good, records-good, file-none}
 use Rattle.index.proofs.OpenFacts.{OpenFacts, opens-facts-by}
+use Rattle.index.proofs.Terms.{opens-above, refused-below, opens-own}
 use Rattle.index.proofs.LookupLaws.{place-known}
 use Rattle.index.proofs.Places.{place-unknown}
-use Rattle.written_index.specs.Written.{WrittenIndex, lengths_before, IndexRead}
+use Rattle.written_index.specs.Written.{WrittenIndex, lengths_before, last_first, IndexRead}
 use Rattle.written_index.proofs.Joined.{Joined, joined}
 
 -- the lengths before separator i are those of the bytes before it
@@ -72,12 +75,12 @@ module _ {choose : List ℕ → ℕ} {L : ℕ} {bs : List BlockAddr} {ks : List 
   store-len : store_len f ≡ length (store_bytes choose L bs)
   store-len = parts.store-len ∙ omega (arith, length-metas, length-store)
 
-  count-in : count_in f ≡ length bs
-  count-in = ap count_of parts.directory ∙ count-whole ks bounded ∙ w.same
+  pub written-count : count_in f ≡ length bs
+  written-count = ap count_of parts.directory ∙ count-whole ks bounded ∙ w.same
 
-  -- ---- it opens
+  -- ---- its rows
 
-  no_row : OpenOk L f
+  no_row : FileOk L f
   no_row = record {
     footer = footer-good f (record {
       some = omega (arith, parts.directory-len, length-directory_bytes ks);
@@ -85,56 +88,80 @@ module _ {choose : List ℕ → ℕ} {L : ℕ} {bs : List BlockAddr} {ks : List 
     });
     directory = rw parts.directory (directory-opens ks bounded (omega (arith, w.same, w.two)) w.rises);
     records = records-good L f (record {
-      exact = rw count-in records-len;
+      exact = rw written-count records-len;
       inside = omega (arith, records-len, store-len, length-store);
     });
-    store = rw (parts.records, parts.addrs, count-in)
+    store = rw (parts.records, parts.addrs, written-count)
         (store_keeps L _ _ (length bs) w.group.some (omega (arith, w.two)) (read_back stored).ok);
   }
 
-  opens : OpensBy L f (opened_of f)
-  opens = sym (open-taken L f (open_none L f no_row))
+  pub written-file : file_no L f ≡ 0
+  written-file = file-none L f no_row
 
-  pub written-facts : OpenFacts L f (opened_of f)
-  written-facts = opens-facts-by L f (opened_of f) w.group opens
+  -- ---- its blocks and separators
 
-  -- the opened record: n, and the places of the directory, the group records and the address bytes
-  pub written-record : opened_of f ≡ record {
-    n = length bs;
-    directory = 0;
-    directory_len = length (directory_bytes ks);
-    metas = length (directory_bytes ks) + 8;
-    metas_len = 36 * groups;
-    addrs = length (directory_bytes ks) + 8 + 36 * groups;
-    addrs_len = length (addrs choose L groups bs);
-  }
-  unfolding opened_of
-  written-record =
-      let left : length (store_bytes choose L bs) - (8 + 36 * groups) ≡ length (addrs choose L groups bs) = omega (arith, length-store) in
-      rw (count-in, store-len, records-len, parts.directory-len, left)
-
-  -- ---- what is read in it
-
-  count : (opened_of f).n ≡ length bs
-  count = written-facts.count ∙ count-in
-
-  block : (i : ℕ) → i < length bs → block_in L f i ≡ block_of bs i
+  pub written-block : (i : ℕ) → i < length bs → block_in L f i ≡ block_of bs i
   unfolding block_in
-  block i h = rw (parts.records, parts.addrs) ((read_back stored).blocks i h)
+  written-block i h = rw (parts.records, parts.addrs) ((read_back stored).blocks i h)
 
-  separator : (i : ℕ) → i < length bs → separator_in f i ≡ get_or ks i []
+  pub written-separator : (i : ℕ) → i < length bs → separator_in f i ≡ get_or ks i []
   unfolding separator_in
-  separator i h = rw (parts.directory, count-whole ks bounded) (key-whole ks bounded i (omega (arith, w.same)))
+  written-separator i h = rw (parts.directory, count-whole ks bounded) (key-whole ks bounded i (omega (arith, w.same)))
 
-  place : (i : ℕ) → i < length bs
-      → place_by L (opened_of f) f i ≡ Some (4 + 8 * length bs + lengths_before ks i, length (get_or ks i []))
-  place i h =
-      let g : i < length ks = omega (arith, w.same) in
-      place-known L f (opened_of f) written-facts i (omega (arith, count))
-      ∙ rw (count-in, parts.directory, offset-whole ks bounded i g, length_whole ks bounded i g, lengths-before ks i (omega arith))
+  last-first : last_first_ordinal L f ≡ last_first bs
+  unfolding last_first_ordinal
+  last-first =
+      ap (λ (n : ℕ). (block_in L f (n - 1)).first_ordinal) written-count
+      ∙ ap (λ (b : BlockAddr). b.first_ordinal) (written-block (length bs - 1) (omega (arith, w.two)))
 
-  no_place : (i : ℕ) → length bs ≤ i → place_by L (opened_of f) f i ≡ None
-  no_place i h = place-unknown L (opened_of f) f i (omega (arith, count))
+  -- a number of terms that isn't above the last first ordinal gets 28
+  pub written-refused : (terms : ℕ) → terms ≤ last_first bs → open_def L terms f ≡ Err TermsBad
+  written-refused terms h = refused-below L terms f written-file (omega (arith, last-first))
 
-  pub index_read : IndexRead L (length bs) bs ks f
-  index_read = record { opens = opens; count = count; block = block; separator = separator; place = place; no_place = no_place }
+  -- ---- what is read with any other number of terms
+
+  module _ (terms : ℕ) (above : last_first bs < terms) where
+    opens : open_def L terms f ≡ Ok (opened_of terms f)
+    opens = opens-above L terms f written-file (omega (arith, last-first))
+
+    pub written-facts : OpenFacts L f (opened_of terms f)
+    written-facts = opens-facts-by L f (opened_of terms f) w.group (opens-own L terms f (opened_of terms f) opens)
+
+    -- the opened record: n, the places of the directory, the group records and the address bytes, and the number of terms
+    pub written-record : opened_of terms f ≡ record {
+      n = length bs;
+      directory = 0;
+      directory_len = length (directory_bytes ks);
+      metas = length (directory_bytes ks) + 8;
+      metas_len = 36 * groups;
+      addrs = length (directory_bytes ks) + 8 + 36 * groups;
+      addrs_len = length (addrs choose L groups bs);
+      terms = terms;
+    }
+    unfolding opened_of
+    written-record =
+        let left : length (store_bytes choose L bs) - (8 + 36 * groups) ≡ length (addrs choose L groups bs) = omega (arith, length-store) in
+        rw (written-count, store-len, records-len, parts.directory-len, left)
+
+    count : (opened_of terms f).n ≡ length bs
+    count = written-facts.count ∙ written-count
+
+    place : (i : ℕ) → i < length bs
+        → place_by L (opened_of terms f) f i ≡ Some (4 + 8 * length bs + lengths_before ks i, length (get_or ks i []))
+    place i h =
+        let g : i < length ks = omega (arith, w.same) in
+        place-known L f (opened_of terms f) written-facts i (omega (arith, count))
+        ∙ rw (written-count, parts.directory, offset-whole ks bounded i g, length_whole ks bounded i g, lengths-before ks i (omega arith))
+
+    no_place : (i : ℕ) → length bs ≤ i → place_by L (opened_of terms f) f i ≡ None
+    no_place i h = place-unknown L (opened_of terms f) f i (omega (arith, count))
+
+    pub index_read : IndexRead L (length bs) terms bs ks f
+    index_read = record {
+      opens = opens;
+      count = count;
+      block = written-block;
+      separator = written-separator;
+      place = place;
+      no_place = no_place;
+    }

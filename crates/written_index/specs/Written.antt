@@ -1,5 +1,6 @@
--- A written index, opened: what is found in it are the blocks and separators that it was written from. L is the group's length.
-use Rattle.std.specs.Prelude.{ℕ, zero, suc, ◌+◌, ◌*◌, ◌^◌, ◌≤◌, ◌<◌, ◌≡◌, List, [], ◌++◌, cond, ltb, length, get_or, Some, None}
+-- A written index, opened with a number of terms: what is found in it are the blocks and separators that it was written from. L is the
+-- group's length.
+use Rattle.std.specs.Prelude.{ℕ, zero, suc, ◌+◌, ◌-◌, ◌*◌, ◌^◌, ◌≤◌, ◌<◌, ◌≡◌, List, [], ◌++◌, cond, ltb, length, get_or, Some, None, Ok}
 use Rattle.layout.specs.Layout.{max_blocks, max_key_len, pair_len}
 use Rattle.serialize.specs.Digits.{le_bytes}
 use Rattle.keys.specs.Order.{◌≺◌}
@@ -12,7 +13,7 @@ use Rattle.store.specs.Facts.{GroupLenOk}
 use Rattle.directory.specs.Directory.{directory_bytes}
 use Rattle.automaton.specs.Table.{table_no}
 use Rattle.index.specs.Parts.{block_in, separator_in}
-use Rattle.index.specs.Opening.{opened_of, OpensBy}
+use Rattle.index.specs.Opening.{opened_of, open_def}
 use Rattle.index.specs.Lookups.{place_by}
 use Rattle.listing.specs.Listing.{listing_no, ListingLeaves, GetBlockForAutomaton}
 
@@ -36,19 +37,23 @@ unfoldable pub lengths_before : List (List ℕ) → ℕ → ℕ
 lengths_before separators zero = 0
 lengths_before separators (suc i) = lengths_before separators i + length (get_or separators i [])
 
--- what is read in the index f of n blocks
-pub record IndexRead (L n : ℕ) (blocks : List BlockAddr) (separators : List (List ℕ)) (f : List ℕ) : Type 0 where
-  pub opens : OpensBy L f (opened_of f)
-  pub count : (opened_of f).n ≡ n
+-- the first ordinal of the last block of a list
+abbrev pub last_first : List BlockAddr → ℕ
+last_first blocks = (block_of blocks (length blocks - 1)).first_ordinal
+
+-- what is read in the index f of n blocks, opened with a number of terms
+pub record IndexRead (L n terms : ℕ) (blocks : List BlockAddr) (separators : List (List ℕ)) (f : List ℕ) : Type 0 where
+  pub opens : open_def L terms f ≡ Ok (opened_of terms f)
+  pub count : (opened_of terms f).n ≡ n
   pub block : (i : ℕ) → i < n → block_in L f i ≡ block_of blocks i
   pub separator : (i : ℕ) → i < n → separator_in f i ≡ get_or separators i []
   -- separator i stands after the pairs and the separators before it; other ids have none
   pub place : (i : ℕ) → i < n
-      → place_by L (opened_of f) f i ≡ Some (4 + pair_len * n + lengths_before separators i, length (get_or separators i []))
-  pub no_place : (i : ℕ) → n ≤ i → place_by L (opened_of f) f i ≡ None
+      → place_by L (opened_of terms f) f i ≡ Some (4 + pair_len * n + lengths_before separators i, length (get_or separators i []))
+  pub no_place : (i : ℕ) → n ≤ i → place_by L (opened_of terms f) f i ≡ None
 
--- what a listing in the index f of n blocks answers and leaves, for every table and every room
-pub record ListingRead (n : ℕ) (separators : List (List ℕ)) (f : List ℕ) : Type 0 where
-  pub number : (t : List ℕ) (room : ℕ) → listing_no (opened_of f) f t room ≡ or_row (table_no t) (cond (ltb room n) 24 0)
-  pub leaves : (t marks written : List ℕ) (k count : ℕ) → GetBlockForAutomaton f (opened_of f) t marks written k count
+-- what a listing in the index f of n blocks, opened with a number of terms, answers and leaves, for every table and every room
+pub record ListingRead (n terms : ℕ) (separators : List (List ℕ)) (f : List ℕ) : Type 0 where
+  pub number : (t : List ℕ) (room : ℕ) → listing_no (opened_of terms f) f t room ≡ or_row (table_no t) (cond (ltb room n) 24 0)
+  pub leaves : (t marks written : List ℕ) (k count : ℕ) → GetBlockForAutomaton f (opened_of terms f) t marks written k count
       → ListingLeaves t (λ i. get_or separators i []) n marks written k count

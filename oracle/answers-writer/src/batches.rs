@@ -42,8 +42,9 @@ impl Batches {
         self.rust = indexes::rust(&bytes, &self.opening);
         self.record = self.opening.record;
         self.bytes = bytes;
+        let terms = self.record.terms;
         let record = numbers(&self.record.numbers());
-        writeln!(self.text, "{line} 0 {}", record.trim_end()).unwrap();
+        writeln!(self.text, "{line} {terms} 0 {}", record.trim_end()).unwrap();
     }
 
     fn open_bytes(&mut self, bytes: Vec<u8>) {
@@ -73,7 +74,7 @@ impl Batches {
             self.line('b', list, room, &[20]);
             return;
         }
-        assert_eq!(self.record, self.opening.record);
+        assert!(self.opening.opens(self.record));
         self.causes.insert(list.causes(room));
         let (no, entries) = Separators::new(&self.opening.keys).locate(list, room);
         if no == 0 {
@@ -231,7 +232,7 @@ fn other_records(batches: &mut Batches) {
     let (bad, _) = refused(2, &[Cause::Falls], 1, 0);
     for record in others(right) {
         batches.set_record(record);
-        if record.unfit(len) {
+        if record.unfit(len) || batches.opening.opens(record) {
             batches.exact(&with_one(2, 1), 3);
             batches.exact(&bad, 1);
             batches.exact(&KeyList::default(), 0);

@@ -6,9 +6,10 @@ use crate::list_bytes::{Call, Question, encode};
 use crate::replayed::{self, Rooms};
 use crate::replays::{Lists, add, shorten, worked_calls};
 
-/// Where the settings' length and the counts stand.
+/// Where the settings' length, the number of terms and the counts stand.
 const SETTINGS: usize = 0;
-const COUNTS: usize = 4;
+const TERMS: usize = 4;
+const COUNTS: usize = 12;
 
 /// A short list, and where its items begin.
 struct Base {
@@ -29,10 +30,10 @@ fn base() -> Base {
     ];
     let fit = replayed::rooms(&calls, questions.len());
     Base {
-        bytes: encode(&calls, &questions),
-        calls: vec![12, 42, 48],
-        questions: vec![78, 87, 93],
-        strings: vec![37, 43, 73, 88, 102],
+        bytes: encode(5, &calls, &questions),
+        calls: vec![20, 50, 56],
+        questions: vec![86, 95, 101],
+        strings: vec![45, 51, 81, 96, 110],
         rooms: Rooms {
             answers: fit.answers + 10,
             ..fit
@@ -57,9 +58,17 @@ pub fn lists(lists: &mut Lists) {
     for more in [&[0][..], &[2], &[255; 9], &base.bytes] {
         lists.bytes(&[&base.bytes[..], more].concat(), base.rooms);
     }
-    for length in [3, 4, 7, 11, 12, 13] {
+    for length in [3, 4, 7, 11, 12, 13, 20] {
         lists.bytes(&vec![0; length], base.rooms);
     }
+    for length in [4, 11, 12, 13, 19, 20, 21] {
+        let mut zeros = vec![0; length];
+        zeros[SETTINGS] = 8;
+        lists.bytes(&zeros, base.rooms);
+    }
+    lists.comment("damaged lists: no settings");
+    let counts = [&[0; 4][..], &base.bytes[COUNTS..]].concat();
+    lists.bytes(&counts, base.rooms);
     lists.bytes(&[0xff; 40], base.rooms);
     tags(lists, &base);
     numbers(lists, &base);
@@ -83,8 +92,12 @@ fn numbers(lists: &mut Lists, base: &Base) {
         let values = [0, 1, right - 1, right + 1, 2 * right + 8, 1 << 16, 1 << 31];
         values.into_iter().chain([u32::MAX, u32::MAX - 7])
     };
-    for length in [1u32, 4, 8, 1 << 16, u32::MAX] {
+    for length in [0u32, 1, 4, 7, 9, 12, 16, 1 << 16, u32::MAX] {
         lists.bytes(&base.with(SETTINGS, &length.to_le_bytes()), base.rooms);
+    }
+    // any eight bytes are a number of terms
+    for terms in [0u64, 3, 4, 6, 1 << 32, u64::MAX] {
+        lists.bytes(&base.with(TERMS, &terms.to_le_bytes()), base.rooms);
     }
     for &at in [COUNTS, COUNTS + 4].iter().chain(&base.strings) {
         let right = u32::from_le_bytes(base.bytes[at..at + 4].try_into().unwrap());
@@ -114,7 +127,7 @@ fn changed(lists: &mut Lists) {
         out: fit.out + 20,
         ..fit
     };
-    let right = encode(&calls, &questions);
+    let right = encode(12, &calls, &questions);
     for _ in 0..60 {
         let at = rng.below(right.len() as u64) as usize;
         let mut bytes = right.clone();

@@ -3,13 +3,13 @@
 use std::collections::BTreeSet;
 use std::fmt::Write;
 
-use model::around;
+use model::around::{self, beside};
 use model::blocks::{self, touching};
 use model::faults::others;
 use model::files::{self, Fault, File, rising, smallest, two_group_file, worked_file};
 use model::foreign::{self, Group};
 use model::numbers::Numbers;
-use model::opening::{self, Hit, Opened, Opening};
+use model::opening::{self, Hit, Opened, Opening, TERMS_BAD};
 use model::settings::LIMIT;
 use tantivy_sstable::access::{Block, Index};
 
@@ -24,9 +24,15 @@ pub struct Indexes {
     text: String,
     bytes: Vec<u8>,
     opening: Opening,
+    /// the number of terms that it was last opened with
+    terms: u64,
     /// the Rust's, if the file opens
     rust: Option<Index>,
+    /// how many files were opened: their numbers of terms take turns
+    opened: usize,
     seen: BTreeSet<Vec<Hit>>,
+    /// the numbers of openings that would get 28 too
+    seen_with_28: BTreeSet<u64>,
 }
 
 impl Indexes {
@@ -38,7 +44,7 @@ impl Indexes {
         writeln!(self.text, "{line}").unwrap();
     }
 
-    /// Opens a file. Returns the number.
+    /// Opens a file, with some number of terms that is enough. Returns the number.
     pub fn open(&mut self, bytes: &[u8]) -> u64 {
         self.open_as(bytes, format!("f {}", hex(bytes)))
     }
@@ -47,14 +53,34 @@ impl Indexes {
         self.bytes = bytes.to_vec();
         self.opening = opening::open(bytes);
         self.rust = rust(bytes, &self.opening);
-        self.answer(line, &opening::open(bytes))
+        self.terms = self.turn(&self.opening);
+        self.opened += 1;
+        self.answer(line, &opening::open(bytes), self.terms)
     }
 
-    fn answer(&mut self, line: String, opening: &Opening) -> u64 {
+    /// Opens the current file again, with so many terms. Returns the number.
+    fn reopen(&mut self, terms: u64) -> u64 {
+        self.terms = terms;
+        self.answer("t".to_string(), &opening::open(&self.bytes), terms)
+    }
+
+    /// A number of terms: enough for a file that opens, any for one that is refused anyway.
+    fn turn(&self, opening: &Opening) -> u64 {
+        let all = around::terms(opening.last_ord().unwrap_or(5));
+        match opening.no() {
+            0 => all[2 + self.opened % 4],
+            _ => all[self.opened % 6],
+        }
+    }
+
+    fn answer(&mut self, line: String, opening: &Opening, terms: u64) -> u64 {
         self.seen.insert(opening.hits.clone());
-        let no = opening.no();
-        let record = numbers(&opening.answer().numbers());
-        self.line(format!("{line} {no} {}", record.trim_end()));
+        let no = opening.number(terms);
+        if opening.hits_with(terms).len() > opening.hits.len() {
+            self.seen_with_28.insert(no);
+        }
+        let record = numbers(&opening.answer(terms).numbers());
+        self.line(format!("{line} {terms} {no} {}", record.trim_end()));
         no
     }
 
@@ -68,7 +94,9 @@ impl Indexes {
         let line = format!("c {at} {}", hex(&bytes[at..=last]));
         let opening = opening::open(bytes);
         rust(bytes, &opening);
-        self.answer(line, &opening)
+        let terms = self.turn(&opening);
+        self.opened += 1;
+        self.answer(line, &opening, terms)
     }
 
     fn id(&mut self, id: u64) {
@@ -81,14 +109,15 @@ impl Indexes {
     }
 
     fn ord(&mut self, ord: u64) {
-        let Some(found) = self.opening.by_ord(ord) else {
-            // the Rust panics here
-            self.line(format!("o {ord} 18 0 0 0 0"));
-            return;
-        };
-        let (id, block) = self.rust.as_ref().unwrap().get_and_locate_with_ord(ord);
-        assert_eq!((id, block), found);
-        self.line(format!("o {ord} 0 {id} {}", address(block)));
+        match self.opening.by_ord(self.terms, ord) {
+            // the Rust panics below the first, and knows of no number of terms
+            Err(no) => self.line(format!("o {ord} {no} 0 0 0 0")),
+            Ok(found) => {
+                let (id, block) = self.rust.as_ref().unwrap().get_and_locate_with_ord(ord);
+                assert_eq!((id, block), found);
+                self.line(format!("o {ord} 0 {id} {}", address(block)));
+            }
+        }
     }
 
     /// By key: the id, and the id with the address.
@@ -133,7 +162,8 @@ impl Indexes {
             "I 0".to_string(),
             format!("I {last}"),
             "O 5".to_string(),
-            format!("O {}", u64::MAX),
+            format!("O {}", record.terms.saturating_sub(1)),
+            format!("O {}", record.terms),
             "K x6400".to_string(),
             "A x62".to_string(),
             "P 0".to_string(),
@@ -153,7 +183,7 @@ impl Indexes {
         for id in ids {
             self.id(id);
         }
-        for ord in around::ords(&self.opening.blocks, &chosen) {
+        for ord in around::ords(&self.opening.blocks, &chosen, self.terms) {
             self.ord(ord);
         }
         for (i, key) in around::keys(&self.opening.keys, &chosen).iter().enumerate() {
@@ -197,27 +227,35 @@ pub fn list() -> String {
         text: String::new(),
         bytes: Vec::new(),
         opening: Opening::default(),
+        terms: 0,
         rust: None,
+        opened: 0,
         seen: BTreeSet::new(),
+        seen_with_28: BTreeSet::new(),
     };
     for line in [
         "Indexes that are opened and lookups in them, written by oracle/write-answers. Numbers are decimal, a byte string is x and",
-        "its lower-case hex. A call's number is document 01's; after a refusal all else is 0.",
-        "f FILE NO N DIRECTORY LEN RECORDS LEN ADDRESSES LEN: opening a file, which the next lines are about: the number, n, and the",
-        "places of the directory, the group records and the address bytes. All from a plain model of document 01.",
-        "c AT BYTES NO N ..: opening the file with these bytes in place of its own from AT on; the file itself stays. From the model.",
-        "g COUNT NO N ..: as f; the file by the rule: COUNT keys, key i the 3 bytes of i, highest first; groups of offset 0, first",
+        "its lower-case hex. A call's number is document 01's or 02's; after a refusal all else is 0.",
+        "f FILE TERMS NO N DIRECTORY LEN RECORDS LEN ADDRESSES LEN TERMS: opening a file, which the next lines are about, with so many",
+        "terms: the number, n, the places of the directory, the group records and the address bytes, and the number of terms again. All",
+        "from a plain model of documents 01 and 02.",
+        "c AT BYTES TERMS NO N ..: opening the file with these bytes in place of its own from AT on; the file itself stays. From the",
+        "model.",
+        "g COUNT TERMS NO N ..: as f; the file by the rule: COUNT keys, key i the 3 bytes of i, highest first; groups of offset 0, first",
         "start and first ordinal 128 x the group's number, slopes 1, widths 1; 32 address bytes FF. So block i is i..i + 1 from",
         "ordinal i on. From the model.",
+        "t TERMS NO N ..: opening the same file again, with so many terms; the next lines are about this opening. From the model.",
         "Lookups in the file as it was opened. Blocks and ids are those of the Rust (tantivy-sstable 0.27.0), its FST a stand-in:",
         "i ID NO START END ORD: by id, BlockAddrStore::get; 17 where that finds nothing",
-        "o ORDINAL NO ID START END ORD: by ordinal, binary_search_ord; 18 below the first, where the Rust panics, from the model",
+        "o ORDINAL NO ID START END ORD: by ordinal, binary_search_ord; 18 below the first, where the Rust panics, and 29 from the number",
+        "of terms on, where it gives the last block, from the model",
         "k KEY NO ID: by key, locate_with_key of SSTableIndexV3; 19 where that finds nothing",
         "a KEY NO ID START END ORD: an address by key, get_block_with_key of SSTableIndexV3; 19 likewise",
         "p ID FOUND OFFSET LEN: a separator by id, its place in the file; FOUND is 0 or 1. From the model.",
-        "m N DIRECTORY LEN RECORDS LEN ADDRESSES LEN: sets the record for the next lines, which may not belong to the file",
+        "m N DIRECTORY LEN RECORDS LEN ADDRESSES LEN TERMS: sets the record for the next lines, which may not belong to the file",
         "I ID, O ORDINAL, K KEY, A KEY, P ID: a lookup whose answer is left free. It has number 0 with an id below n and",
-        "start <= end < 2^48, or the call's own row, or 20; a separator is some part of the file.",
+        "start <= end < 2^48, or the call's own row, or 20; a separator is some part of the file. By ordinal 0 comes up below TERMS",
+        "alone; 18 below F alone, the number in the 8 bytes from RECORDS + 16 on; 29 alone where neither F nor TERMS is above.",
     ] {
         indexes.comment(line);
     }
@@ -226,6 +264,7 @@ pub fn list() -> String {
     refused::files(&mut indexes);
     foreign_files(&mut indexes);
     by_rule(&mut indexes);
+    other_terms(&mut indexes);
     left_free(&mut indexes);
     check_seen(&indexes);
     indexes.text
@@ -233,6 +272,8 @@ pub fn list() -> String {
 
 /// Every part of a row that can be hit alone, and every two rows that can be hit together.
 fn check_seen(indexes: &Indexes) {
+    let with_28 = (10..=16).chain([TERMS_BAD]).collect();
+    assert_eq!(indexes.seen_with_28, with_28);
     for hit in [
         (10, "under 8 bytes"),
         (10, "directory length"),
@@ -274,15 +315,31 @@ fn check_seen(indexes: &Indexes) {
 }
 
 fn worked_case(indexes: &mut Indexes) {
-    indexes.comment("the case that document 01 works by hand: 85 bytes");
+    indexes.comment("the case that documents 01 and 02 work by hand: 85 bytes, 12 terms");
     let bytes = worked_file().bytes();
     assert_eq!(bytes.len(), 85);
     assert_eq!(indexes.open(&bytes), 0);
+    assert_eq!(indexes.reopen(12), 0);
     for id in [0, 1, 2, 3, 4, 128, 1 << 32, u64::MAX] {
         indexes.id(id);
         indexes.separator(id);
     }
-    for ord in [0, 1, 3, 4, 5, 8, 9, 10, 1_000_000, LIMIT, u64::MAX] {
+    for ord in [
+        0,
+        1,
+        3,
+        4,
+        5,
+        8,
+        9,
+        10,
+        11,
+        12,
+        13,
+        1_000_000,
+        LIMIT,
+        u64::MAX,
+    ] {
         indexes.ord(ord);
     }
     for key in [
@@ -499,6 +556,44 @@ fn by_rule(indexes: &mut Indexes) {
     }
 }
 
+/// Files opened with each number of terms, and ordinals around it.
+fn other_terms(indexes: &mut Indexes) {
+    indexes
+        .comment("other numbers of terms: too few, just enough and more than there are ordinals");
+    let mut rng = Numbers::from_seed(75);
+    let top = touching(LIMIT - 3, &[1, 1], LIMIT - 9, &[8]);
+    let mut made = vec![worked_file(), smallest()];
+    made.push(File::written(&top, &[b"a".to_vec(), b"b".to_vec()]));
+    for count in [3, 6] {
+        let blocks = blocks::random(&mut rng, count, 9, 6, 20, 20);
+        made.push(File::written(&blocks, &rising(&mut rng, count, 4)));
+    }
+    for file in made {
+        assert_eq!(indexes.open(&file.bytes()), 0);
+        each_number(indexes);
+    }
+    for count in [128, 129, 65_536] {
+        let file = files::by_rule(count).bytes();
+        assert_eq!(indexes.open_as(&file, format!("g {count}")), 0);
+        each_number(indexes);
+    }
+}
+
+fn each_number(indexes: &mut Indexes) {
+    let blocks = &indexes.opening.blocks;
+    let (first, last) = (blocks[0].ord, blocks[blocks.len() - 1].ord);
+    let before = blocks[blocks.len() - 2].ord;
+    let more = [1, first, before + 1, last + 3, LIMIT, 1 << 63];
+    for terms in around::terms(last).into_iter().chain(more) {
+        if indexes.reopen(terms) == 0 {
+            let ends = [first, last, terms].map(beside);
+            for ord in BTreeSet::from_iter(ends.into_iter().flatten()) {
+                indexes.ord(ord);
+            }
+        }
+    }
+}
+
 /// Records that don't belong to the file.
 fn left_free(indexes: &mut Indexes) {
     indexes.comment("left free: refused files, with the record that they would have");
@@ -528,32 +623,37 @@ fn left_free(indexes: &mut Indexes) {
             records: (30, 36),
             ..indexes.opening.record
         };
-        indexes.free(record);
+        for terms in [1 << 48, 6, 0] {
+            indexes.free(record.with_terms(terms));
+        }
     }
     let file = two_group_file(2);
     let bytes = file.with(|file| file.widths(1, 57, 0)).bytes();
     assert_eq!(indexes.open(&bytes), 15);
-    indexes.free(indexes.opening.record);
-    indexes.line("O 128".to_string());
-    indexes.line("O 129".to_string());
-    indexes.line("I 129".to_string());
+    for terms in [1 << 48, 129] {
+        indexes.free(indexes.opening.record.with_terms(terms));
+        indexes.line("O 128".to_string());
+        indexes.line("O 129".to_string());
+        indexes.line("I 129".to_string());
+    }
     indexes.comment("left free: no bytes at all, with the record of the 85 bytes and with none");
-    let right = opening::open(&worked_file().bytes()).record;
+    let right = opening::open(&worked_file().bytes()).record.with_terms(12);
     assert_eq!(indexes.open(b""), 10);
     indexes.free(right);
     indexes.free(Opened::default());
     indexes.comment("left free: the 85 bytes with records that aren't theirs");
     assert_eq!(indexes.open(&worked_file().bytes()), 0);
-    for record in others(right) {
+    for record in others(right.with_terms(1000)) {
         indexes.free(record);
     }
-    indexes.comment("their own record again");
+    indexes.comment("their own record again, with 12 terms");
     indexes.record(right);
+    indexes.terms = 12;
     for id in 0..4 {
         indexes.id(id);
         indexes.separator(id);
     }
-    for ord in [0, 3, 4, 1_000_000] {
+    for ord in [0, 3, 4, 11, 12, 1_000_000] {
         indexes.ord(ord);
     }
     for key in ["a", "b", "c", "f", "g"] {

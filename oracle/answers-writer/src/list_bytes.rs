@@ -1,5 +1,5 @@
-//! A list of calls and questions in bytes, as crate `replay` takes it: the settings' length and the settings, of which there are
-//! none yet; how many calls and how many questions, the calls, the questions. Each begins with its tag; a byte string has its
+//! A list of calls and questions in bytes, as crate `replay` takes it: the settings' length and the settings, which are the number
+//! of terms; how many calls and how many questions, the calls, the questions. Each begins with its tag; a byte string has its
 //! length in front.
 
 use tantivy_sstable::access::Block;
@@ -24,17 +24,31 @@ pub enum Question {
     Mark(u64, Vec<u8>),
 }
 
-pub fn encode(calls: &[Call], questions: &[Question]) -> Vec<u8> {
-    let no_settings = 0u32;
-    let head = [no_settings, calls.len() as u32, questions.len() as u32];
-    let mut bytes = head.map(u32::to_le_bytes).concat();
+/// Bytes of the settings: the number of terms.
+pub const SETTINGS_LEN: u32 = 8;
+
+/// What the bytes say.
+#[derive(Clone, Debug, PartialEq)]
+pub struct List {
+    /// the index is opened with so many
+    pub terms: u64,
+    pub calls: Vec<Call>,
+    pub questions: Vec<Question>,
+}
+
+pub fn encode(terms: u64, calls: &[Call], questions: &[Question]) -> Vec<u8> {
+    let counts = [calls.len() as u32, questions.len() as u32];
+    let mut bytes = SETTINGS_LEN.to_le_bytes().to_vec();
+    bytes.extend(terms.to_le_bytes());
+    bytes.extend(counts.map(u32::to_le_bytes).concat());
     bytes.extend(calls.iter().flat_map(call_bytes));
     bytes.extend(questions.iter().flat_map(question_bytes));
-    assert_eq!(
-        decode(&bytes),
-        Some((calls.to_vec(), questions.to_vec())),
-        "a list isn't read back"
-    );
+    let list = List {
+        terms,
+        calls: calls.to_vec(),
+        questions: questions.to_vec(),
+    };
+    assert_eq!(decode(&bytes), Some(list), "a list isn't read back");
     bytes
 }
 
@@ -66,12 +80,13 @@ fn question_bytes(question: &Question) -> Vec<u8> {
     }
 }
 
-/// The calls and questions, if the bytes are a list and nothing else.
-pub fn decode(bytes: &[u8]) -> Option<(Vec<Call>, Vec<Question>)> {
+/// The list, if the bytes are one and nothing else.
+pub fn decode(bytes: &[u8]) -> Option<List> {
     let mut rest = bytes;
-    if small(&mut rest)? != 0 {
+    if small(&mut rest)? != SETTINGS_LEN {
         return None;
     }
+    let terms = number(&mut rest)?;
     let counts = (small(&mut rest)?, small(&mut rest)?);
     // a count is beyond the bytes at the first item that isn't there, so nothing is set aside for it
     let mut calls = Vec::new();
@@ -82,7 +97,11 @@ pub fn decode(bytes: &[u8]) -> Option<(Vec<Call>, Vec<Question>)> {
     for _ in 0..counts.1 {
         questions.push(take_question(&mut rest)?);
     }
-    rest.is_empty().then_some((calls, questions))
+    rest.is_empty().then_some(List {
+        terms,
+        calls,
+        questions,
+    })
 }
 
 fn take<'a>(rest: &mut &'a [u8], count: usize) -> Option<&'a [u8]> {

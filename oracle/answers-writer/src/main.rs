@@ -41,8 +41,8 @@ fn main() {
         ("addresses.txt", addresses::list(), 200_000),
         ("calls.txt", calls::list(), 65_000),
         // these two are one text for the program that replays them
-        ("indexes.txt", indexes::list(), 240_000),
-        ("batches.txt", batches::list(), 87_679),
+        ("indexes.txt", indexes::list(), 250_000),
+        ("batches.txt", batches::list(), 77_679),
         ("patterns.txt", patterns::list(), 262_143),
         ("replays.txt", replays, 327_679),
         ("replayed.txt", answers, 400_000),

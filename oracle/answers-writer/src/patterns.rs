@@ -148,7 +148,7 @@ impl Patterns {
         let no = self.opening.no();
         self.rust = (no == 0).then(|| Index::open(bytes));
         self.calls.clear();
-        let n = self.opening.answer().n;
+        let n = self.opening.answer(self.opening.record.terms).n;
         self.line(format!("f {} {n}", hex(bytes)));
         no
     }
@@ -240,9 +240,10 @@ pub fn list() -> String {
         "b HAS START END NO MARK: can_block_match_automaton of the Rust (tantivy-sstable 0.27.0); a plain search for an accepted",
         "string gives the same",
         "e HAS START END ROOM NO: an example, written to ROOM bytes. It has number 25 where the mark is 0.",
-        "f FILE N: opens a file, whose record the next lines use; its count of blocks, 0 if it is refused",
+        "f FILE N: opens a file, with one term more than its last first ordinal, whose record the next lines use; its count of blocks,",
+        "0 if it is refused",
         "l ROOM NO COUNT MARKS: a listing to ROOM bytes; the marks are get_block_for_automaton of SSTableIndexV3, its FST a stand-in",
-        "m N DIRECTORY LEN RECORDS LEN ADDRESSES LEN: sets the record for the next lines, which may not belong to the file",
+        "m N DIRECTORY LEN RECORDS LEN ADDRESSES LEN TERMS: sets the record for the next lines, which may not belong to the file",
         "L ROOM: a listing whose answer is left free. It has a number of 20 to 24, or marks of 0 and 1 and the count of its ones.",
     ] {
         patterns.comment(line);

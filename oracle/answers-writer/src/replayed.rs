@@ -1,4 +1,5 @@
-//! What replaying a list answers and leaves: numbers from the plain model of document 01, indexes, lookups and marks from the Rust.
+//! What replaying a list answers and leaves: numbers from the plain model of documents 01 and 02, indexes, lookups and marks from the
+//! Rust.
 
 use std::fmt::Write;
 
@@ -7,10 +8,10 @@ use tantivy_sstable::access::{self, Index};
 use model::areas::{Areas, Entry, MARK, Machine, first, index};
 use model::automaton::{Table, mark, number, table_hits};
 use model::canonical;
-use model::opening::{self, Opening};
+use model::opening::{self, Opening, TERMS_BAD};
 use model::settings::{LONGEST_KEY, STRIDE};
 
-use crate::list_bytes::{Call, NO_LIST, NO_ROOM, Question, decode};
+use crate::list_bytes::{Call, List, NO_LIST, NO_ROOM, Question, decode};
 use crate::text::hex;
 
 /// A prime.
@@ -149,11 +150,12 @@ pub fn rooms(calls: &[Call], questions: usize) -> Rooms {
     }
 }
 
-/// The index of the Rust, beside the model's.
+/// The index of the Rust, beside the model's, opened with so many terms.
 struct Opened {
     bytes: Vec<u8>,
     rust: Index,
     model: Opening,
+    terms: u64,
 }
 
 impl Opened {
@@ -167,14 +169,15 @@ impl Opened {
     }
 
     fn by_ordinal(&self, ord: u64) -> Cells {
-        let due = self.model.by_ord(ord);
-        // the Rust panics
-        if due.is_none() {
-            return [18, 0, 0, 0, 0];
+        match self.model.by_ord(self.terms, ord) {
+            // the Rust panics below the first, and knows of no number of terms
+            Err(no) => [no, 0, 0, 0, 0],
+            Ok(due) => {
+                let (id, block) = self.rust.get_and_locate_with_ord(ord);
+                assert_eq!((id, block), due);
+                [0, id, block.start, block.end, block.ord]
+            }
         }
-        let (id, block) = self.rust.get_and_locate_with_ord(ord);
-        assert_eq!(Some((id, block)), due);
-        [0, id, block.start, block.end, block.ord]
     }
 
     fn by_key(&self, key: &[u8]) -> Cells {
@@ -235,13 +238,13 @@ impl Opened {
 /// Replays a list in areas full of marks.
 pub fn replay(bytes: &[u8], rooms: Rooms) -> Replayed {
     let builder = Builder::fresh(rooms);
-    let Some((calls, questions)) = decode(bytes) else {
+    let Some(list) = decode(bytes) else {
         return refused(NO_LIST, builder, rooms);
     };
-    if rooms.answers < 5 * (calls.len() + 2 + questions.len()) {
+    if rooms.answers < 5 * (list.calls.len() + 2 + list.questions.len()) {
         return refused(NO_ROOM, builder, rooms);
     }
-    run(builder, rooms, &calls, &questions)
+    run(builder, rooms, &list)
 }
 
 fn refused(no: u64, builder: Builder, rooms: Rooms) -> Replayed {
@@ -271,8 +274,8 @@ fn areas(builder: &Builder, index: &[u8], cells: &[Cells], rooms: Rooms) -> [u64
     ]
 }
 
-fn run(mut builder: Builder, rooms: Rooms, calls: &[Call], questions: &[Question]) -> Replayed {
-    let calls: Vec<u64> = calls.iter().map(|call| builder.make(call)).collect();
+fn run(mut builder: Builder, rooms: Rooms, list: &List) -> Replayed {
+    let calls: Vec<u64> = list.calls.iter().map(|call| builder.make(call)).collect();
     let (full, directory) = index(&builder.machine.entries);
     let fits = full.len() <= rooms.out;
     let finished = if fits {
@@ -282,11 +285,18 @@ fn run(mut builder: Builder, rooms: Rooms, calls: &[Call], questions: &[Question
     };
     let bytes = if fits { full } else { Vec::new() };
     let opening = opening::open(&bytes);
-    let no = opening.no();
-    assert_eq!(no == 0, fits && builder.machine.entries.len() > 1);
-    // what finish wrote is canonical, so the check gives opening's number
+    let entries = &builder.machine.entries;
+    let written = fits && entries.len() > 1;
+    let enough = entries.last().is_some_and(|last| list.terms > last.0.ord);
+    let no = opening.number(list.terms);
+    // what finish wrote opens where the terms are enough, and is canonical in any case
+    let due = match (written, enough) {
+        (false, _) => [10, 10],
+        (true, false) => [TERMS_BAD, 0],
+        (true, true) => [0, 0],
+    };
     let check = canonical::number(&opening, &bytes);
-    assert_eq!(check, no);
+    assert_eq!([no, check], due);
     let questions: Vec<Cells> = if no == 0 {
         let read: Vec<Entry> = opening
             .blocks
@@ -299,13 +309,14 @@ fn run(mut builder: Builder, rooms: Rooms, calls: &[Call], questions: &[Question
             rust: Index::open(&bytes),
             bytes: bytes.clone(),
             model: opening,
+            terms: list.terms,
         };
-        questions
+        list.questions
             .iter()
             .map(|question| opened.answer(question))
             .collect()
     } else {
-        vec![[no, 0, 0, 0, 0]; questions.len()]
+        vec![[no, 0, 0, 0, 0]; list.questions.len()]
     };
     let alone = |no: u64| [no, 0, 0, 0, 0];
     let mut cells: Vec<Cells> = calls.iter().copied().map(alone).collect();

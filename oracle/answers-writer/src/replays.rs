@@ -6,6 +6,7 @@ use std::fmt::Write;
 use tantivy_sstable::access::{self, Block};
 
 use model::areas::Entry;
+use model::around::{self, beside};
 use model::automaton::Table;
 use model::blocks::{WORKED, block};
 use model::numbers::Numbers;
@@ -13,7 +14,7 @@ use model::patterns::ring;
 use model::settings::LIMIT;
 
 use crate::damaged_lists;
-use crate::list_bytes::{Call, NO_LIST, NO_ROOM, Question, decode, encode};
+use crate::list_bytes::{Call, List, NO_LIST, NO_ROOM, Question, decode, encode};
 use crate::replayed::{self, Replayed, Rooms};
 use crate::text::hex;
 
@@ -102,7 +103,11 @@ impl Lists {
 
     fn note(&mut self, bytes: &[u8], replayed: &Replayed) {
         self.seen.insert(("list", replayed.no));
-        let Some((calls, questions)) = decode(bytes).filter(|_| replayed.no == 0) else {
+        let list = decode(bytes).filter(|_| replayed.no == 0);
+        let Some(List {
+            calls, questions, ..
+        }) = list
+        else {
             return;
         };
         for (call, &no) in calls.iter().zip(&replayed.calls) {
@@ -115,14 +120,27 @@ impl Lists {
         }
     }
 
-    /// Calls and questions in areas that are just big enough.
-    pub fn list(&mut self, calls: &[Call], questions: &[Question]) -> Replayed {
-        let rooms = replayed::rooms(calls, questions.len());
-        self.bytes(&encode(calls, questions), rooms)
+    /// A number of terms that is enough for what the calls leave, by turns.
+    fn turn(&self, calls: &[Call]) -> u64 {
+        around::terms(last_ord(calls))[2 + self.count % 4]
     }
 
-    /// The same in areas with room behind.
+    /// Calls and questions in areas that are just big enough.
+    pub fn list(&mut self, calls: &[Call], questions: &[Question]) -> Replayed {
+        self.with_terms(self.turn(calls), calls, questions)
+    }
+
+    /// The same with so many terms.
+    fn with_terms(&mut self, terms: u64, calls: &[Call], questions: &[Question]) -> Replayed {
+        let questions = beside_terms(terms, questions);
+        let rooms = replayed::rooms(calls, questions.len());
+        self.bytes(&encode(terms, calls, &questions), rooms)
+    }
+
+    /// In areas with room behind.
     fn wide(&mut self, calls: &[Call], questions: &[Question]) -> Replayed {
+        let terms = self.turn(calls);
+        let questions = beside_terms(terms, questions);
         let fit = replayed::rooms(calls, questions.len());
         let rooms = Rooms {
             blocks: fit.blocks + 12,
@@ -130,8 +148,28 @@ impl Lists {
             out: fit.out + 9,
             answers: fit.answers + 6,
         };
-        self.bytes(&encode(calls, questions), rooms)
+        self.bytes(&encode(terms, calls, &questions), rooms)
     }
+}
+
+/// The first ordinal of the last block that the calls leave where the areas are big enough.
+fn last_ord(calls: &[Call]) -> u64 {
+    let entries = replayed::entries(calls).0;
+    entries.last().map_or(3, |last| last.0.ord)
+}
+
+/// Where there are questions by ordinal, also those on both sides of the number of terms.
+fn beside_terms(terms: u64, questions: &[Question]) -> Vec<Question> {
+    let by_ordinal = |question: &Question| matches!(question, Question::Ordinal(_));
+    let mut all = questions.to_vec();
+    if all.iter().any(by_ordinal) {
+        for question in [terms.saturating_sub(1), terms].map(Question::Ordinal) {
+            if !all.contains(&question) {
+                all.push(question);
+            }
+        }
+    }
+    all
 }
 
 pub fn add(start: u64, end: u64, ord: u64, key: &[u8]) -> Call {
@@ -233,6 +271,7 @@ pub fn lists() -> (String, String) {
     worked_cases(&mut lists);
     traps(&mut lists);
     few(&mut lists);
+    other_terms(&mut lists);
     rooms(&mut lists);
     rows(&mut lists);
     long_keys(&mut lists);
@@ -251,13 +290,13 @@ fn check_seen(lists: &Lists) {
         ("add", &[0, 2, 3, 4, 5, 6, 7]),
         ("shorten", &[0, 2, 6]),
         ("finish", &[0, 9]),
-        ("opening", &[0, 10]),
-        ("id", &[0, 10, 17]),
-        ("ordinal", &[0, 10, 18]),
-        ("key", &[0, 10, 19]),
-        ("address", &[0, 10, 19]),
-        ("separator", &[0, 10]),
-        ("mark", &[0, 10, 21, 22, 23]),
+        ("opening", &[0, 10, 28]),
+        ("id", &[0, 10, 17, 28]),
+        ("ordinal", &[0, 10, 18, 28, 29]),
+        ("key", &[0, 10, 19, 28]),
+        ("address", &[0, 10, 19, 28]),
+        ("separator", &[0, 10, 28]),
+        ("mark", &[0, 10, 21, 22, 23, 28]),
     ];
     let due: BTreeSet<(&str, u64)> = kinds
         .iter()
@@ -267,17 +306,18 @@ fn check_seen(lists: &Lists) {
 }
 
 fn worked_cases(lists: &mut Lists) {
-    lists.comment("the case that document 01 works by hand: 85 bytes; ids 2 and 3; ordinals 3, 4 and 1,000,000; keys; marks");
+    lists.comment("the case that documents 01 and 02 work by hand: 85 bytes, 12 terms; ids 2 and 3; ordinals 3, 4, 11 and 1,000,000;");
+    lists.comment("keys; marks");
     let calls = worked_calls();
     let mut questions = all(&calls);
     questions.extend([2, 3].map(Question::Id));
-    questions.extend([3, 4, 1_000_000].map(Question::Ordinal));
+    questions.extend([3, 4, 11, 1_000_000].map(Question::Ordinal));
     for key in [b"a", b"b", b"c", b"d", b"e", b"f", b"g"] {
         questions.push(Question::Key(key.to_vec()));
         questions.push(Question::Address(key.to_vec()));
     }
     assert_eq!(replayed::rooms(&calls, 0).out, 85);
-    lists.list(&calls, &questions);
+    lists.with_terms(12, &calls, &questions);
     lists.wide(&calls, &marks(3, &Table::words(&[b"c"])));
     lists.comment("point (1, 2^40); no points in a second group come below");
     let wide = [add(0, 7, 0, b"a"), add(7, 9, 1 << 40, b"b")];
@@ -402,8 +442,51 @@ fn few(lists: &mut Lists) {
     lists.wide(&calls, &all(&calls));
 }
 
+fn other_terms(lists: &mut Lists) {
+    lists.comment(
+        "the same with other numbers of terms: too few, just enough, more than there are ordinals",
+    );
+    let ords = [0, 3, 4, 8, 9, 10, 1 << 55, u64::MAX].map(Question::Ordinal);
+    let more = [1, 4, 5, 8, 12, LIMIT, 1 << 63];
+    for terms in around::terms(9).into_iter().chain(more) {
+        lists.with_terms(terms, &worked_calls(), &ords);
+    }
+    for terms in [9, 12] {
+        lists.with_terms(terms, &worked_calls(), &each_kind());
+    }
+    lists.comment("the first ordinal isn't 0: 18 below it, whatever the number of terms");
+    let later = [add(7, 8, 20, b"a"), add(8, 8, 30, b"b")];
+    let ords: Vec<Question> = [19, 20, 29, 30].map(Question::Ordinal).to_vec();
+    for terms in around::terms(30).into_iter().chain([1, 20, 21]) {
+        lists.with_terms(terms, &later, &ords);
+    }
+    lists.comment("the last add is refused: the last block is the one before");
+    let refused = [add(0, 1, 0, b"a"), add(1, 2, 4, b"b"), add(2, 3, 9, b"b")];
+    for terms in [0, 4, 5, 6, 9, 10] {
+        lists.with_terms(terms, &refused, &all(&refused));
+    }
+    lists.comment("no index: it doesn't open, whatever the number of terms");
+    for calls in [&[][..], &[add(3, 3, 7, b"")]] {
+        for terms in [0, 7, 8, u64::MAX] {
+            lists.with_terms(terms, calls, &[Question::Ordinal(7)]);
+        }
+    }
+    let fit = replayed::rooms(&worked_calls(), 1);
+    for terms in [0, 12] {
+        let bytes = encode(terms, &worked_calls(), &[Question::Ordinal(4)]);
+        lists.bytes(&bytes, Rooms { out: 84, ..fit });
+    }
+    lists.comment("ordinals at the limit");
+    let top = [add(0, 0, LIMIT - 9, b"a"), add(0, 0, LIMIT - 1, b"b")];
+    for terms in around::terms(LIMIT - 1) {
+        let ends = [LIMIT - 9, LIMIT - 1, u64::MAX].map(beside);
+        let ords: Vec<Question> = ends.into_iter().flatten().map(Question::Ordinal).collect();
+        lists.with_terms(terms, &top, &ords);
+    }
+}
+
 /// Lengths beside one that is just enough.
-fn beside(fit: usize) -> Vec<usize> {
+fn shorter(fit: usize) -> Vec<usize> {
     let lengths = [
         0,
         fit / 2,
@@ -434,17 +517,17 @@ fn rooms(lists: &mut Lists) {
             Question::Separator(1),
         ];
         let fit = replayed::rooms(&calls, questions.len());
-        let bytes = encode(&calls, &questions);
-        for blocks in beside(fit.blocks) {
+        let bytes = encode(12, &calls, &questions);
+        for blocks in shorter(fit.blocks) {
             lists.bytes(&bytes, Rooms { blocks, ..fit });
         }
-        for keys in beside(fit.keys) {
+        for keys in shorter(fit.keys) {
             lists.bytes(&bytes, Rooms { keys, ..fit });
         }
-        for out in beside(fit.out) {
+        for out in shorter(fit.out) {
             lists.bytes(&bytes, Rooms { out, ..fit });
         }
-        for answers in beside(fit.answers) {
+        for answers in shorter(fit.answers) {
             lists.bytes(&bytes, Rooms { answers, ..fit });
         }
     }
@@ -458,9 +541,12 @@ fn rooms(lists: &mut Lists) {
     ];
     let questions = all(&calls);
     let fit = replayed::rooms(&calls, questions.len());
+    // with few terms: the second block's first ordinal is 1
+    let bytes = encode(1, &calls, &questions);
     for keys in 6..=fit.keys {
-        lists.bytes(&encode(&calls, &questions), Rooms { keys, ..fit });
+        lists.bytes(&bytes, Rooms { keys, ..fit });
     }
+    lists.bytes(&encode(2, &calls, &questions), fit);
 }
 
 fn rows(lists: &mut Lists) {
@@ -496,7 +582,7 @@ fn rows(lists: &mut Lists) {
             out: 100,
             answers: 5 * (calls.len() + 5),
         };
-        lists.bytes(&encode(&calls, &questions), rooms);
+        lists.bytes(&encode(LIMIT, &calls, &questions), rooms);
     }
     lists.comment("numbers at the limit");
     let top = LIMIT - 1;
@@ -556,7 +642,7 @@ fn long_keys(lists: &mut Lists) {
         Question::Key(vec![]),
     ];
     let fit = replayed::rooms(&calls, questions.len());
-    let bytes = encode(&calls, &questions);
+    let bytes = encode(4, &calls, &questions);
     for keys in [fit.keys, fit.keys - 1, 2047, 2046, 1023, 1022] {
         lists.bytes(&bytes, Rooms { keys, ..fit });
     }
@@ -700,6 +786,10 @@ fn random(lists: &mut Lists) {
 fn by_chance(lists: &mut Lists, rng: &mut Numbers, calls: &[Call]) {
     let mut questions: Vec<Question> = all(calls);
     questions.retain(|_| rng.one_in(3));
+    let last = last_ord(calls);
+    let few = rng.below(last + 1);
+    let terms = rng.pick(&[last, last + 1, last + 1, last + 2, 1 << 55, u64::MAX, few]);
+    questions = beside_terms(terms, &questions);
     let byte = rng.pick(&[0x00, 0x61, 0xfe, 0xff]);
     let table = Table::rule(vec![0, 1], |s, b| {
         usize::from(b == byte || s == 1 && b > byte)
@@ -719,5 +809,5 @@ fn by_chance(lists: &mut Lists, rng: &mut Numbers, calls: &[Call]) {
         ..rooms
     };
     let rooms = if rng.one_in(4) { short } else { rooms };
-    lists.bytes(&encode(calls, &questions), rooms);
+    lists.bytes(&encode(terms, calls, &questions), rooms);
 }

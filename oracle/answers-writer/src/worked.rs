@@ -1,7 +1,8 @@
-//! The cases that document 01 works by hand. A list is written only if they come out.
+//! The cases that documents 01 and 02 work by hand. A list is written only if they come out.
 
 use model::automaton::Table;
 use model::blocks::WORKED as BLOCKS;
+use model::opening;
 use tantivy_bitpacker::{BitPacker, compute_num_bits};
 use tantivy_sstable::access::{self, Index, Store};
 
@@ -42,6 +43,15 @@ pub fn check() {
         assert_eq!(index.get_block(id), BLOCKS.get(id as usize).copied());
     }
     assert_eq!(index.locate_with_ord(4), 1);
+    // with 12 terms
+    let opening = opening::open(&bytes);
+    assert_eq!((opening.number(12), opening.number(9)), (0, 28));
+    for (ord, id) in [(3, 0), (4, 1), (11, 2)] {
+        let due = (id, BLOCKS[id as usize]);
+        assert_eq!(opening.by_ord(12, ord), Ok(due));
+        assert_eq!(index.get_and_locate_with_ord(ord), due);
+    }
+    assert_eq!(opening.by_ord(12, 1_000_000), Err(29));
     for (key, id) in [
         ("a", Some(0)),
         ("b", Some(0)),

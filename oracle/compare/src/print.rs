@@ -62,6 +62,11 @@ impl Print {
             .fold(print, |print, words| print.number(T::word(words)))
     }
 
+    /// One of these, by what was taken in.
+    pub fn turn(self, choices: &[u64]) -> u64 {
+        choices[(self.0 >> 32) as usize % choices.len()]
+    }
+
     /// What another print took in.
     pub fn and(self, other: Print) -> Print {
         self.number(other.0)

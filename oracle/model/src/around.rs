@@ -27,14 +27,25 @@ pub fn ids(rng: &mut Numbers, n: u64, some: usize) -> BTreeSet<u64> {
     ids
 }
 
-/// Each first ordinal, the one below and the one above, and some far away.
-pub fn ords(blocks: &[Block], ids: &BTreeSet<u64>) -> BTreeSet<u64> {
+/// The number and those beside it.
+pub fn beside(number: u64) -> [u64; 3] {
+    [number.saturating_sub(1), number, number.saturating_add(1)]
+}
+
+/// Each first ordinal and the number of terms, the one below and the one above, and some far away.
+pub fn ords(blocks: &[Block], ids: &BTreeSet<u64>, terms: u64) -> BTreeSet<u64> {
     let mut ords = BTreeSet::from([0, u64::MAX]);
+    ords.extend(beside(terms));
     for &id in ids {
-        let ord = blocks[id as usize].ord;
-        ords.extend([ord.saturating_sub(1), ord, ord + 1]);
+        ords.extend(beside(blocks[id as usize].ord));
     }
     ords
+}
+
+/// Numbers of terms around the last first ordinal, and far ones. The third is the least that opens, and so are those behind it.
+pub fn terms(last: u64) -> [u64; 6] {
+    let (one, two) = (last.saturating_add(1), last.saturating_add(2));
+    [0, last, one, two, 1 << 55, u64::MAX]
 }
 
 /// Each separator, keys just above and below it, the empty key, and keys above all.

@@ -213,5 +213,14 @@ pub fn others(right: Opened) -> Vec<Opened> {
     }
     let small = opening::open(&smallest().bytes()).record;
     records.push(small);
+    // another number of terms, alone and with another place
+    for terms in [0, 1, 4, 5, 9, 10, 1 << 48, 1 << 55, u64::MAX] {
+        records.push(right.with_terms(terms));
+        let (from, length) = right.records;
+        records.push(Opened {
+            records: (from.wrapping_sub(1), length),
+            ..right.with_terms(terms)
+        });
+    }
     records
 }

@@ -1,4 +1,5 @@
-//! A plain model of opening and the lookups, after document 01's table. It counts in whole numbers, and reads fields bit by bit.
+//! A plain model of opening and the lookups, after document 01's table and document 02's number of terms. It counts in whole numbers,
+//! and reads fields bit by bit.
 
 use std::collections::BTreeSet;
 
@@ -14,32 +15,65 @@ const MOST: i128 = settings::MOST_BLOCKS as i128;
 const LONGEST: i128 = settings::LONGEST_KEY as i128;
 const WIDEST: i128 = settings::WIDEST as i128;
 
-/// The opened record: n, and offset and length of the directory, the group records and the address bytes.
+/// The row of a number of terms that isn't above the last first ordinal.
+pub const TERMS_BAD: u64 = 28;
+
+/// The row of an ordinal that isn't below the number of terms.
+pub const ORDINAL_ABOVE: u64 = 29;
+
+/// The opened record: n, offset and length of the directory, the group records and the address bytes, and the number of terms.
 #[derive(Clone, Copy, Debug, Default, PartialEq, Eq)]
 pub struct Opened {
     pub n: u64,
     pub directory: (u64, u64),
     pub records: (u64, u64),
     pub addresses: (u64, u64),
+    pub terms: u64,
 }
 
 impl Opened {
     pub fn of(numbers: [u64; OPENED_LEN]) -> Opened {
-        let [n, d, dl, r, rl, a, al] = numbers;
+        let [n, d, dl, r, rl, a, al, terms] = numbers;
         Opened {
             n,
             directory: (d, dl),
             records: (r, rl),
             addresses: (a, al),
+            terms,
         }
     }
 
     pub fn numbers(&self) -> [u64; OPENED_LEN] {
         let (d, r, a) = (self.directory, self.records, self.addresses);
-        [self.n, d.0, d.1, r.0, r.1, a.0, a.1]
+        [self.n, d.0, d.1, r.0, r.1, a.0, a.1, self.terms]
     }
 
-    /// Whether it can't be the record of so many bytes, whatever they are: a lookup must say 20.
+    pub fn with_terms(self, terms: u64) -> Opened {
+        Opened { terms, ..self }
+    }
+
+    /// The first ordinal of the first group record that it names, if that is inside.
+    pub fn first_ord(&self, file: &[u8]) -> Option<u64> {
+        let first = number(file, i128::from(self.records.0) + 16, 8)?;
+        Some(first as u64)
+    }
+
+    /// Whether a lookup by ordinal may answer this number where the record isn't the file's. Found and 29 keep to the number of terms,
+    /// 18 and 29 to the first ordinal; a record that fails by itself gets 20 alone.
+    pub fn ord_no_allowed(&self, file: &[u8], ord: u64, no: u64) -> bool {
+        if self.unfit(file.len()) {
+            return no == 20;
+        }
+        let first = self.first_ord(file).expect("a record that fits");
+        match no {
+            0 => ord < self.terms,
+            18 => ord < first,
+            ORDINAL_ABOVE => first <= ord && self.terms <= ord,
+            _ => no == 20,
+        }
+    }
+
+    /// Whether it can't be the record of so many bytes, whatever they are: a lookup must say 20. The number of terms has no part in it.
     pub fn unfit(&self, len: usize) -> bool {
         let n = i128::from(self.n);
         let outside = |(from, length)| i128::from(from) + i128::from(length) > len as i128;
@@ -57,37 +91,79 @@ pub type Hit = (u64, &'static str);
 /// What a file holds, as far as it can be read.
 #[derive(Default)]
 pub struct Opening {
-    /// all that are hit, in the order in which the rows are tried
+    /// those of rows 10 to 16 that are hit, in the order in which they are tried
     pub hits: Vec<Hit>,
-    /// the record; for a refused file the one that it would have, if its parts are inside
+    /// the record, with the least number of terms that opens; for a refused file the one that it would have, if its parts are inside
     pub record: Opened,
     pub keys: Vec<Vec<u8>>,
     pub blocks: Vec<Block>,
 }
 
 impl Opening {
-    /// The first row that is hit, or 0.
+    /// The first of rows 10 to 16 that is hit, or 0: what the file alone decides, and the number of an opening with enough terms.
     pub fn no(&self) -> u64 {
         self.hits.first().map_or(0, |hit| hit.0)
     }
 
-    /// The record, or zeros after a refusal.
-    pub fn answer(&self) -> Opened {
-        if self.no() == 0 {
-            self.record
+    /// The first ordinal of the last block, if it can be read.
+    pub fn last_ord(&self) -> Option<u64> {
+        let whole = self.blocks.len() as u64 == self.record.n;
+        self.blocks.last().filter(|_| whole).map(|block| block.ord)
+    }
+
+    /// Whether so many terms aren't above the last first ordinal; 0 is above none, whatever can be read.
+    fn terms_bad(&self, terms: u64) -> bool {
+        terms == 0 || self.last_ord().is_some_and(|last| terms <= last)
+    }
+
+    /// All rows that are hit by an opening with so many terms, in the order in which they are tried.
+    pub fn hits_with(&self, terms: u64) -> Vec<Hit> {
+        let mut hits = self.hits.clone();
+        if self.terms_bad(terms) {
+            hits.push((TERMS_BAD, "terms"));
+        }
+        hits
+    }
+
+    /// The number of an opening with so many terms.
+    pub fn number(&self, terms: u64) -> u64 {
+        match self.no() {
+            0 if self.terms_bad(terms) => TERMS_BAD,
+            no => no,
+        }
+    }
+
+    /// The record of an opening with so many terms, or zeros after a refusal.
+    pub fn answer(&self, terms: u64) -> Opened {
+        if self.number(terms) == 0 {
+            self.record.with_terms(terms)
         } else {
             Opened::default()
         }
+    }
+
+    /// Whether opening gives this record, with its own number of terms.
+    pub fn opens(&self, record: Opened) -> bool {
+        self.number(record.terms) == 0 && self.is_but_for_terms(record)
+    }
+
+    /// Whether this is the record of a file that opens, whatever its number of terms.
+    pub fn is_but_for_terms(&self, record: Opened) -> bool {
+        self.no() == 0 && record == self.record.with_terms(record.terms)
     }
 
     pub fn by_id(&self, id: u64) -> Option<Block> {
         self.blocks.get(usize::try_from(id).ok()?).copied()
     }
 
-    /// The last block whose first ordinal isn't above.
-    pub fn by_ord(&self, ord: u64) -> Option<(u64, Block)> {
-        let id = self.blocks.iter().rposition(|block| block.ord <= ord)?;
-        Some((id as u64, self.blocks[id]))
+    /// The last block whose first ordinal isn't above, for an ordinal below the number of terms; 18 below the first, else 29.
+    pub fn by_ord(&self, terms: u64, ord: u64) -> Result<(u64, Block), u64> {
+        let id = self.blocks.iter().rposition(|block| block.ord <= ord);
+        let id = id.ok_or(18u64)?;
+        if ord >= terms {
+            return Err(ORDINAL_ABOVE);
+        }
+        Ok((id as u64, self.blocks[id]))
     }
 
     /// The first block whose separator isn't below.
@@ -120,8 +196,15 @@ fn number(bytes: &[u8], at: i128, count: i128) -> Option<i128> {
     Some(digits.fold(0, |value, &byte| 256 * value + i128::from(byte)))
 }
 
-/// Opens a file.
+/// Reads a file, as every opening of it does: rows 10 to 16. What opening answers depends on the number of terms besides.
 pub fn open(file: &[u8]) -> Opening {
+    let mut opening = rows(file);
+    let least = opening.last_ord().map(|last| last.saturating_add(1));
+    opening.record.terms = least.unwrap_or(0);
+    opening
+}
+
+fn rows(file: &[u8]) -> Opening {
     let mut opening = Opening::default();
     let len = file.len() as i128;
     let Some(directory_len) = number(file, len - 8, 8) else {

@@ -10,7 +10,7 @@ pub const GROUP_LEN: usize = 128;
 pub const STRIDE: usize = 5;
 
 /// Numbers of the opened record.
-pub const OPENED_LEN: usize = 7;
+pub const OPENED_LEN: usize = 8;
 
 /// Blocks that a builder, a slice or a file can have.
 pub const MOST_BLOCKS: usize = 65_536;

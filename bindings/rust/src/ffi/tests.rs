@@ -22,13 +22,28 @@ fn worked() -> (Vec<u8>, Opened) {
         directory_len: 31,
     };
     assert_eq!(finish(3, &NUMBERS, KEYS, &mut index), Ok(finished));
-    let opened = open(&index).unwrap();
+    let opened = open(12, &index).unwrap();
+    (index, opened)
+}
+
+/// The same with 3 as the first ordinal.
+fn from_three() -> (Vec<u8>, Opened) {
+    let (mut blocks, mut index) = (NUMBERS, vec![0; 85]);
+    blocks[2] = 3;
+    let total = finish(3, &blocks, KEYS, &mut index).unwrap().total;
+    index.truncate(total);
+    let opened = open(12, &index).unwrap();
     (index, opened)
 }
 
 #[test]
 fn record_of_an_opening() {
-    assert_eq!(worked().1, [3, 0, 31, 39, 36, 75, 2]);
+    let (index, opened) = worked();
+    assert_eq!(opened, [3, 0, 31, 39, 36, 75, 2, 12]);
+    for terms in [10, 11, 1 << 48, 1 << 55, u64::MAX] {
+        let record = open(terms, &index).unwrap();
+        assert_eq!((&record[..7], record[7]), (&opened[..7], terms));
+    }
 }
 
 #[test]
@@ -161,13 +176,89 @@ fn no_17_to_19() {
     assert_eq!(locate_with_key(&index, &opened, key), Err(refused));
     assert_eq!(get_block_with_key(&index, &opened, key), Err(refused));
 
-    let mut blocks = NUMBERS;
-    blocks[2] = 3;
-    let mut index = vec![0; 85];
-    let total = finish(3, &blocks, KEYS, &mut index).unwrap().total;
-    let opened = open(&index[..total]).unwrap();
-    let answer = locate_with_ord(&index[..total], &opened, 2);
-    assert_eq!(answer, Err(Refusal::OrdinalBelowFirst));
+    let (index, opened) = from_three();
+    for ord in 0..3 {
+        let answer = locate_with_ord(&index, &opened, ord);
+        assert_eq!(answer, Err(Refusal::OrdinalBelowFirst));
+    }
+}
+
+#[test]
+fn no_28() {
+    for (index, _) in [worked(), from_three()] {
+        for terms in 0..=9 {
+            assert_eq!(open(terms, &index), Err(Refusal::TooFewTerms));
+        }
+        assert!(open(10, &index).is_ok());
+        // a fault of the file comes first
+        for terms in [0, 9, 10] {
+            assert_eq!(open(terms, &index[1..]), open(u64::MAX, &index[1..]));
+            assert_ne!(open(terms, &index[1..]), Err(Refusal::TooFewTerms));
+        }
+    }
+}
+
+#[test]
+fn no_29() {
+    for (index, opened) in [worked(), from_three()] {
+        for (ord, id) in [(3, 0), (4, 1), (8, 1), (9, 2), (11, 2)] {
+            let found = locate_with_ord(&index, &opened, ord).unwrap();
+            assert_eq!(found, (id, get_block(&index, &opened, id).unwrap()));
+        }
+        for ord in [12, 13, 1_000_000, u64::MAX] {
+            let answer = locate_with_ord(&index, &opened, ord);
+            assert_eq!(answer, Err(Refusal::OrdinalBeyondTerms));
+        }
+    }
+}
+
+/// The number of terms put into the record by hand: the rest of the record fits, so 20 isn't said.
+#[test]
+fn terms_of_strangers() {
+    let (index, opened) = from_three();
+    let mut numbers: Vec<u64> = (0..20).collect();
+    numbers.extend([1 << 48, 1 << 55, u64::MAX - 1, u64::MAX]);
+    for &terms in &numbers {
+        let mut record = opened;
+        record[7] = terms;
+        for &ord in &numbers {
+            let id = u64::from(ord >= 4) + u64::from(ord >= 9);
+            // below the first ordinal and not below the number: 18
+            let due = match ord {
+                0..3 => Err(Refusal::OrdinalBelowFirst),
+                _ if ord >= terms => Err(Refusal::OrdinalBeyondTerms),
+                _ => get_block(&index, &opened, id).map(|block| (id, block)),
+            };
+            assert_eq!(locate_with_ord(&index, &record, ord), due, "{ord} {terms}");
+        }
+        // above the last first ordinal it is the record of an opening
+        assert_eq!(open(terms, &index).ok(), (terms > 9).then_some(record));
+        // no other call looks at it
+        let (mut all, mut as_opened) = [&record, &opened].map(|r| with_record(&index, r)).into();
+        (all[1], as_opened[1]) = (Ok(0), Ok(0));
+        assert_eq!(all, as_opened);
+        for id in 0..4 {
+            let place = separator(&index, &opened, id);
+            assert_eq!(separator(&index, &record, id), place);
+        }
+    }
+}
+
+/// What an ordinal may get, whatever bytes and record are.
+fn by_ordinal(index: &[u8], opened: &Opened, ord: u64) -> Result<(u64, BlockAddr), Refusal> {
+    let answer = locate_with_ord(index, opened, ord);
+    // in the first group record that the record names: there is one where the record fits
+    let first = || {
+        let place = &index[opened[3] as usize + 16..][..8];
+        u64::from_le_bytes(place.try_into().unwrap())
+    };
+    match answer {
+        Ok(_) => assert!(ord < opened[7]),
+        Err(Refusal::OrdinalBelowFirst) => assert!(ord < first()),
+        Err(Refusal::OrdinalBeyondTerms) => assert!(first() <= ord && opened[7] <= ord),
+        Err(refusal) => assert_eq!(refusal, Refusal::OpenedRecord),
+    }
+    answer
 }
 
 /// Every call with a record that isn't of these bytes.
@@ -197,7 +288,7 @@ fn with_record(index: &[u8], opened: &Opened) -> [Result<u64, Refusal>; 6] {
     };
     [
         get_block(index, opened, 1).map(|block| checked((1, block))),
-        locate_with_ord(index, opened, 5).map(checked),
+        by_ordinal(index, opened, 5).map(checked),
         locate_with_key(index, opened, b"c"),
         get_block_with_key(index, opened, b"c").map(checked),
         batch.map(|()| ids[0]),
@@ -253,32 +344,69 @@ fn no_20() {
 /// Any record at all: an answer, or a number that the call has.
 #[test]
 fn records_of_strangers() {
-    let (index, opened) = worked();
+    let (index, opened) = from_three();
     let numbers = [0, 1, 2, 3, 31, 36, 39, 75, 84, 85, 86, 1 << 32, u64::MAX];
-    for first in 0..7 {
-        for second in 0..7 {
+    let mut seen = [0; 30];
+    for first in 0..8 {
+        for second in 0..8 {
             for value in numbers {
                 for other in numbers {
                     let mut record = opened;
                     record[first] = value;
                     record[second] = other;
-                    let all = with_record(&index, &record);
-                    let allowed = [
-                        Refusal::UnknownId,
-                        Refusal::OrdinalBelowFirst,
-                        Refusal::KeyAboveLast,
-                        Refusal::KeyAboveLast,
-                        Refusal::OpenedRecord,
-                        Refusal::RoomTooShort,
-                    ];
-                    for (answer, none) in all.into_iter().zip(allowed) {
-                        if let Err(refusal) = answer {
-                            assert!(refusal == none || refusal == Refusal::OpenedRecord);
-                        }
+                    allowed(with_record(&index, &record));
+                    for ord in [0, 2, 3, 9, 12, 1 << 40, u64::MAX] {
+                        let answer = by_ordinal(&index, &record, ord);
+                        seen[answer.map_or_else(Refusal::number, |_| 0) as usize] += 1;
                     }
                 }
             }
         }
+    }
+    for no in [0, 18, 20, 29] {
+        assert!(seen[no] > 100, "{no}: {seen:?}");
+    }
+}
+
+/// Each call's own numbers, and 20.
+fn allowed(all: [Result<u64, Refusal>; 6]) {
+    let own = [
+        &[Refusal::UnknownId][..],
+        &[Refusal::OrdinalBelowFirst, Refusal::OrdinalBeyondTerms],
+        &[Refusal::KeyAboveLast],
+        &[Refusal::KeyAboveLast],
+        &[],
+        &[Refusal::RoomTooShort],
+    ];
+    for (answer, own) in all.into_iter().zip(own) {
+        if let Err(refusal) = answer {
+            assert!(own.contains(&refusal) || refusal == Refusal::OpenedRecord);
+        }
+    }
+}
+
+/// Each byte changed after the opening.
+#[test]
+fn bytes_of_strangers() {
+    let (good, opened) = from_three();
+    let mut seen = [0; 30];
+    for at in 0..good.len() {
+        for value in [0, 1, 2, 5, 57, 0x7f, 0x80, 0xff] {
+            let mut index = good.clone();
+            index[at] = value;
+            for terms in [0, 5, 12] {
+                let mut record = opened;
+                record[7] = terms;
+                allowed(with_record(&index, &record));
+                for ord in [0, 2, 3, 4, 9, 11, 12, 1 << 40, u64::MAX] {
+                    let answer = by_ordinal(&index, &record, ord);
+                    seen[answer.map_or_else(Refusal::number, |_| 0) as usize] += 1;
+                }
+            }
+        }
+    }
+    for no in [0, 18, 20, 29] {
+        assert!(seen[no] > 20, "{no}: {seen:?}");
     }
 }
 
@@ -327,7 +455,7 @@ fn no_20_after_63_keys() {
         builder.add_block(&key(i), block).unwrap();
     }
     let mut index = builder.finish().unwrap();
-    let opened = open(&index).unwrap();
+    let opened = open(5_000, &index).unwrap();
     let keys = [key(1_999), key(0)].concat();
     let mut pairs = [0, 4].repeat(64);
     pairs[126] = 4;
@@ -440,7 +568,7 @@ fn out_parameters_of_refusals() {
     let [any, e] = tables();
     let (bytes, len) = (index.as_ptr(), index.len());
     let (mut a, mut b, mut c, mut d) = (9, 9, 9, 9);
-    let mut record = [9; 7];
+    let mut record = [9; 8];
     let mut out = [9; 10];
     // SAFETY: pointers and lengths of references.
     unsafe {
@@ -463,8 +591,11 @@ fn out_parameters_of_refusals() {
         let block = BlockAddr::new(0..u64::MAX, 0);
         let number = rosmarel_store(&block, 1, out.as_mut_ptr(), 10, &mut a);
         assert_eq!((number, a), (3, 0));
-        assert_eq!(rosmarel_open(bytes, 7, &mut record), 10);
-        assert_eq!(record, [0; 7]);
+        assert_eq!(rosmarel_open(12, bytes, 7, &mut record), 10);
+        assert_eq!(record, [0; 8]);
+        record = [9; 8];
+        assert_eq!(rosmarel_open(9, bytes, len, &mut record), 28);
+        assert_eq!(record, [0; 8]);
         (a, b) = (9, 9);
         let number = rosmarel_get_block(bytes, len, &opened, 3, &mut a, &mut b, &mut c);
         assert_eq!((number, a, b, c), (17, 0, 0, 0));
@@ -472,6 +603,10 @@ fn out_parameters_of_refusals() {
         let number =
             rosmarel_locate_with_ord(bytes, 40, &opened, 3, &mut d, &mut a, &mut b, &mut c);
         assert_eq!((number, a, b, c, d), (20, 0, 0, 0, 0));
+        (a, b, c, d) = (9, 9, 9, 9);
+        let number =
+            rosmarel_locate_with_ord(bytes, len, &opened, 12, &mut d, &mut a, &mut b, &mut c);
+        assert_eq!((number, a, b, c, d), (29, 0, 0, 0, 0));
         a = 9;
         let key = b"g".as_ptr();
         let number = rosmarel_locate_with_key(bytes, len, &opened, key, 1, &mut a);
@@ -527,11 +662,11 @@ fn empty_slices() {
     assert_eq!((answer, n), (refused, 0));
     assert_eq!(shorten(0, &mut [], &mut [], &[]), Ok(()));
     assert_eq!(finish_len(0, &[], &[]), Ok(0));
-    assert_eq!(open(&[]), Err(Refusal::Footer));
+    assert_eq!(open(0, &[]), Err(Refusal::Footer));
     assert_eq!(store(&[], &mut []), Err(Refusal::OutputTooShort));
     assert_eq!(store(&[], &mut [0; 8]), Ok(8));
     assert_eq!(common_prefix_len(&[], &[]), 0);
-    let record = [0; 7];
+    let record = [0; 8];
     assert_eq!(get_block(&[], &record, 0), Err(Refusal::OpenedRecord));
     assert_eq!(separator(&[], &record, 0), (0, 0));
     let answer = locate_with_keys(&[], &record, &[], &[], &mut []);

@@ -73,7 +73,16 @@ impl Entries {
         bytes
     }
 
-    pub fn by_ord(&self, ord: u64) -> Option<(u64, BlockAddr)> {
+    /// The least number of terms that a file of these entries opens with.
+    pub fn least_terms(&self) -> u64 {
+        self.blocks[self.blocks.len() - 1].first_ordinal + 1
+    }
+
+    /// The block of an ordinal in a file of so many terms.
+    pub fn by_ord(&self, ord: u64, terms: u64) -> Option<(u64, BlockAddr)> {
+        if ord >= terms {
+            return None;
+        }
         let id = self
             .blocks
             .iter()
@@ -240,17 +249,26 @@ fn number(bytes: &[u8], at: usize, count: usize) -> u64 {
     digits.fold(0, |value, &byte| 256 * value + u64::from(byte))
 }
 
-/// The number of the check: what opening refuses, or 27 where the file isn't the index of what is read in it.
+/// The number of the check: what opening refuses in the file, or 27 where it isn't the index of what is read in it.
 pub fn canonical_no(file: &[u8]) -> u32 {
-    match open(file) {
+    match read(file) {
         Err(number) => number,
         Ok(entries) if entries.index() == file => 0,
         Ok(_) => 27,
     }
 }
 
-/// Opens a file: its entries, or the first row that it hits.
-pub fn open(file: &[u8]) -> Result<Entries, u32> {
+/// Opens a file of so many terms: its entries, or the first row that is hit.
+pub fn open(file: &[u8], terms: u64) -> Result<Entries, u32> {
+    let entries = read(file)?;
+    if terms < entries.least_terms() {
+        return Err(28);
+    }
+    Ok(entries)
+}
+
+/// Reads a file: its entries, or the first of rows 10 to 16 that it hits.
+pub fn read(file: &[u8]) -> Result<Entries, u32> {
     let Some(body) = file.len().checked_sub(8) else {
         return Err(10);
     };

@@ -1,7 +1,9 @@
--- A file that doesn't open is refused with opening's row.
+-- A file that doesn't open is refused with opening's row, and the record of one that opens is that of its own number of terms.
 use Rattle.std.proofs.Common.{sym}
 use Rattle.std.proofs.lemmas.Result.{err_from_is_err_and}
 use Rattle.builder.specs.Index.{settings_of}
+use Rattle.index.specs.Opening.{least_terms}
+use Rattle.index.proofs.Terms.{opens-own}
 use Rattle.canonical.proofs.Opened.{refused-number}
 use Rattle.canonical.proofs.check_grouped.Goals as goal
 
@@ -10,3 +12,9 @@ returns-in_err-opened c =
     let a = c.args in
     let p = err_from_is_err_and c.from_residual.result c.from_residual.ensures.1 in
     rw (p.1, p.2) (refused-number (settings_of a.group_len) a.«data».now c.in_err-opened.field-0.0 (sym c.in_err-opened.ensures))
+
+pub check_store-requires : goal.check_store-requires
+check_store-requires c =
+    let a = c.args in
+    let f = a.«data».now in
+    (c.requires, opens-own a.group_len (least_terms a.group_len f) f c.in_ok-opened.opened (sym c.in_ok-opened.ensures))

@@ -1,7 +1,7 @@
 -- The calls, the finish on what they left, and the questions to what it wrote.
 use Rattle.std.proofs.Common.{length, sym, arith}
 use lib.Seq.{length-take-le}
-use Rattle.replay.specs.Made.{list_settings, entries_of}
+use Rattle.replay.specs.Made.{finish_settings, entries_of}
 use Rattle.replay.proofs.Whole.{replay_ok, questions_there, total-fits, opened-list, replayed}
 use Rattle.replay.proofs.replay_list.Goals as goal
 
@@ -42,6 +42,6 @@ returns c =
     replayed s a.blocks.now a.keys.now a.out.now m.new.blocks m.new.keys m.result m.ensures.leaves_state
     a.answers.now c.call_count-count.result c.call_count-count.ensures.0 _ _ _ l.new.out
     m.ensures.answers_after l.ensures.out_after l.ensures.answers_after _ a.list.now.counted
-    (c.open_list.ensures _ (list_settings s) (entries_of s a.blocks.now a.keys.now)
+    (c.open_list.ensures _ _ (finish_settings s) (entries_of s a.blocks.now a.keys.now)
     (opened-list s a.blocks.now a.keys.now a.out.now m.new.blocks m.new.keys m.result m.ensures.leaves_state
     l.result l.new.out l.ensures.value l.ensures.out_after))

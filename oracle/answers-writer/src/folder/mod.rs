@@ -6,6 +6,7 @@ mod one_way;
 mod refused;
 mod tables;
 
+use std::collections::BTreeSet;
 use std::fmt::Write;
 use std::fs;
 use std::path::Path;
@@ -154,17 +155,7 @@ fn questions(index: &Index, opening: &Opening) -> String {
         }
         .unwrap();
     }
-    for ord in around::ords(&opening.blocks, &chosen) {
-        match opening.by_ord(ord) {
-            Some((id, _)) => {
-                assert_eq!(index.locate_with_ord(ord), id);
-                writeln!(text, "o {ord} 0 {id}")
-            }
-            // the Rust panics here
-            None => writeln!(text, "o {ord} 18 0"),
-        }
-        .unwrap();
-    }
+    text.push_str(&by_terms(index, opening, &chosen));
     for key in around::keys(&opening.keys, &chosen) {
         assert_eq!(index.locate_with_key(&key), opening.by_key(&key));
         match index.locate_with_key(&key) {
@@ -172,6 +163,37 @@ fn questions(index: &Index, opening: &Opening) -> String {
             None => writeln!(text, "k {} 19 0", hex(&key)),
         }
         .unwrap();
+    }
+    text
+}
+
+/// Questions with a number of terms: whether the file opens with so many, and which block holds an ordinal then. All ordinals are asked
+/// for with three terms more than the last first ordinal, which are the 12 of the worked case.
+fn by_terms(index: &Index, opening: &Opening, chosen: &BTreeSet<u64>) -> String {
+    let last = opening.last_ord().unwrap();
+    let mut text = String::new();
+    let mut all = BTreeSet::from(around::terms(last));
+    all.insert(last + 3);
+    for &terms in &all {
+        writeln!(text, "t {terms} {}", opening.number(terms)).unwrap();
+    }
+    for terms in all.into_iter().filter(|&terms| opening.number(terms) == 0) {
+        let mut ords = BTreeSet::from([last, terms - 1, terms, u64::MAX]);
+        if terms == last + 3 {
+            ords.insert(1_000_000);
+            ords.extend(around::ords(&opening.blocks, chosen, terms));
+        }
+        for ord in ords {
+            match opening.by_ord(terms, ord) {
+                Ok((id, _)) => {
+                    assert_eq!(index.locate_with_ord(ord), id);
+                    writeln!(text, "o {terms} {ord} 0 {id}")
+                }
+                // the Rust panics below the first, and knows of no number of terms
+                Err(no) => writeln!(text, "o {terms} {ord} {no} 0"),
+            }
+            .unwrap();
+        }
     }
     text
 }

@@ -15,7 +15,7 @@ use crate::tally::{By, Case, Tally};
 
 #[rustfmt::skip]
 unsafe extern "C" {
-    fn rosmarel_locate_with_keys(index: *const u8, index_len: usize, opened: *const [u64; 7], pairs: *const u64, pairs_len: usize,
+    fn rosmarel_locate_with_keys(index: *const u8, index_len: usize, opened: *const [u64; 8], pairs: *const u64, pairs_len: usize,
         keys: *const u8, keys_len: usize, ids: *mut u64, ids_len: usize) -> u32;
 }
 

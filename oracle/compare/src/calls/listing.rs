@@ -11,7 +11,7 @@ use crate::tally::{By, Case, Tally};
 
 #[rustfmt::skip]
 unsafe extern "C" {
-    fn rosmarel_list(index: *const u8, index_len: usize, opened: *const [u64; 7], automaton: *const u8,
+    fn rosmarel_list(index: *const u8, index_len: usize, opened: *const [u64; 8], automaton: *const u8,
         automaton_len: usize, marks: *mut u8, marks_len: usize, count: *mut u64) -> u32;
 }
 

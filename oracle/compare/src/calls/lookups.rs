@@ -1,5 +1,6 @@
 //! Lookups by id, ordinal and key, and separators, in files that were opened.
 
+use model::opening::{ORDINAL_ABOVE, Opened};
 use model::settings::LIMIT;
 use tantivy_sstable::access::Block;
 
@@ -14,15 +15,15 @@ use crate::tally::{By, Case, Tally};
 
 #[rustfmt::skip]
 unsafe extern "C" {
-    fn rosmarel_get_block(index: *const u8, index_len: usize, opened: *const [u64; 7], id: u64,
+    fn rosmarel_get_block(index: *const u8, index_len: usize, opened: *const [u64; 8], id: u64,
         start: *mut u64, end: *mut u64, first_ordinal: *mut u64) -> u32;
-    fn rosmarel_locate_with_ord(index: *const u8, index_len: usize, opened: *const [u64; 7], ord: u64,
+    fn rosmarel_locate_with_ord(index: *const u8, index_len: usize, opened: *const [u64; 8], ord: u64,
         id: *mut u64, start: *mut u64, end: *mut u64, first_ordinal: *mut u64) -> u32;
-    fn rosmarel_locate_with_key(index: *const u8, index_len: usize, opened: *const [u64; 7],
+    fn rosmarel_locate_with_key(index: *const u8, index_len: usize, opened: *const [u64; 8],
         key: *const u8, key_len: usize, id: *mut u64) -> u32;
-    fn rosmarel_get_block_with_key(index: *const u8, index_len: usize, opened: *const [u64; 7],
+    fn rosmarel_get_block_with_key(index: *const u8, index_len: usize, opened: *const [u64; 8],
         key: *const u8, key_len: usize, id: *mut u64, start: *mut u64, end: *mut u64, first_ordinal: *mut u64) -> u32;
-    fn rosmarel_separator(index: *const u8, index_len: usize, opened: *const [u64; 7], id: u64,
+    fn rosmarel_separator(index: *const u8, index_len: usize, opened: *const [u64; 8], id: u64,
         offset: *mut u64, len: *mut u64);
 }
 
@@ -32,7 +33,7 @@ pub static GET_BLOCK: Call = Call {
 };
 pub static LOCATE_WITH_ORD: Call = Call {
     name: "locate_with_ord",
-    numbers: &[0, 18, 20],
+    numbers: &[0, 18, 20, ORDINAL_ABOVE],
 };
 pub static LOCATE_WITH_KEY: Call = Call {
     name: "locate_with_key",
@@ -127,6 +128,8 @@ struct Due<const N: usize> {
     model: Option<[u64; N]>,
     /// None where it panics
     rust: Option<Option<[u64; N]>>,
+    /// what the Rust has to give all the same where the model finds nothing
+    differs: Option<[u64; N]>,
 }
 
 impl<const N: usize> Due<N> {
@@ -134,7 +137,10 @@ impl<const N: usize> Due<N> {
     fn is(&self, no: u64, got: [u64; N]) -> bool {
         match self.model {
             Some(numbers) => self.rust == Some(Some(numbers)) && (no, got) == (0, numbers),
-            None => (no, got) == (self.row, [0; N]),
+            None => {
+                let listed = |given| self.rust == Some(Some(given));
+                (no, got) == (self.row, [0; N]) && self.differs.is_none_or(listed)
+            }
         }
     }
 
@@ -218,6 +224,7 @@ impl File {
             row: 17,
             model: self.opening.by_id(id).map(numbers),
             rust: rust(&GET_BLOCK, || index.get_block(id).map(numbers)),
+            differs: None,
         });
         let print = self.print(&GET_BLOCK).number(id);
         let kept = self.untouched() && guarded;
@@ -237,16 +244,23 @@ impl File {
         let mut found = Out::some();
         let no = locate_with_ord(&self.lent, &self.record, ord, &mut found);
         let (got, guarded) = values(&found);
-        let due = self.judged().map(|index| Due {
-            row: 18,
-            model: self.opening.by_ord(ord).map(located),
-            rust: rust(&LOCATE_WITH_ORD, || {
-                Some(located(index.get_and_locate_with_ord(ord)))
-            }),
+        let due = self.judged().map(|index| {
+            let model = self.opening.by_ord(self.terms(), ord);
+            Due {
+                row: model.err().unwrap_or(0),
+                model: model.ok().map(located),
+                rust: rust(&LOCATE_WITH_ORD, || {
+                    Some(located(index.get_and_locate_with_ord(ord)))
+                }),
+                differs: self.last_block().filter(|_| model == Err(ORDINAL_ABOVE)),
+            }
         });
         let print = self.print(&LOCATE_WITH_ORD).number(ord);
         let kept = self.untouched() && guarded;
-        let range = in_range(self.n(), no, 18, &got, got[0], (got[1], got[2]));
+        let record = Opened::of(self.numbers());
+        // which number it may be, the record says
+        let range = in_range(self.n(), no, no, &got, got[0], (got[1], got[2]))
+            && record.ord_no_allowed(&self.bytes, ord, no);
         let made = Made {
             call: &LOCATE_WITH_ORD,
             print,
@@ -255,6 +269,14 @@ impl File {
             kept,
         };
         made.judge(tally, self, due, range, || format!("ordinal {ord}"))
+    }
+
+    /// What the Rust gives for every ordinal from the number of terms on, in a file that opens with so many.
+    fn last_block(&self) -> Option<[u64; 4]> {
+        let record = Opened::of(self.numbers());
+        let last = *self.opening.blocks.last()?;
+        let opens = self.opening.opens(record);
+        opens.then(|| located((record.n - 1, last)))
     }
 
     /// By key, the id alone.
@@ -268,6 +290,7 @@ impl File {
             rust: rust(&LOCATE_WITH_KEY, || {
                 index.locate_with_key(key).map(|id| [id])
             }),
+            differs: None,
         });
         let print = self.print(&LOCATE_WITH_KEY).part(key);
         let kept = self.untouched() && guarded && lent.holds(key);
@@ -299,6 +322,7 @@ impl File {
                     index.get_block_with_key(key)?,
                 )))
             }),
+            differs: None,
         });
         let print = self.print(&GET_BLOCK_WITH_KEY).part(key);
         let kept = self.untouched() && guarded && lent.holds(key);

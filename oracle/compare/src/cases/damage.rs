@@ -70,14 +70,16 @@ impl Whole {
         }
     }
 
-    /// Opens other bytes; lookups with the record that they have, and with the whole file's.
+    /// Opens other bytes; lookups with the record that they have, and with the whole file's. The number of terms goes by the bytes:
+    /// ordinals are searched for below it alone.
     fn with(&self, tally: &mut Tally, bytes: &[u8]) {
         let mut file = opened::open(tally, bytes);
         if file.opening.no() == 0 {
             self.look_up(tally, &file);
         }
-        if file.opening.no() != 0 || file.opening.record != self.record {
-            file.set_record(self.record);
+        if !file.opening.is_but_for_terms(self.record) {
+            let terms = file.by_turns(&[u64::MAX, u64::MAX, self.record.terms, 6, 0]);
+            file.set_record(self.record.with_terms(terms));
             self.look_up(tally, &file);
         }
     }

@@ -93,9 +93,9 @@ fn finish(tally: &mut Tally, rng: &mut Numbers, entries: Vec<Entry>) {
     assert!(n < MOST_BLOCKS);
     let mut builder = Builder::raw(areas(&entries));
     let index = builder.finish(tally, &[0, -1, 10]);
-    let file = opened::open(tally, &index);
+    let mut file = opened::open(tally, &index);
     assert_eq!((file.opening.no(), file.n()), (0, n as u64));
-    lookups::around(tally, rng, &file, 6);
+    lookups::around(tally, rng, &mut file, 6);
     broken_late(tally, rng, &builder);
 }
 

@@ -28,10 +28,10 @@ fn open(tally: &mut Tally, rng: &mut Numbers, groups: &[Group], addresses: Vec<u
         .collect();
     let keys = rising(rng, blocks.len() as u64, 4);
     let bytes = Parts::new(&keys, &foreign::store(groups, addresses)).bytes();
-    let file = opened::open(tally, &bytes);
+    let mut file = opened::open(tally, &bytes);
     assert_eq!(file.opening.no(), 0);
     assert_eq!(file.opening.blocks, blocks);
-    lookups::around(tally, rng, &file, 8);
+    lookups::around(tally, rng, &mut file, 8);
 }
 
 /// Blocks whose distances from these slopes fit these widths: up to 2^(width - 4) more in each step.
@@ -260,9 +260,9 @@ fn at_any_offset(tally: &mut Tally, rng: &mut Numbers, groups: [Group; 2], offse
     let store = foreign::store(&groups, vec![0; groups[0].length()]);
     let mut parts = Parts::new(&keys, &store);
     parts.offset(1, offset as u64);
-    let file = opened::open(tally, &parts.bytes());
+    let mut file = opened::open(tally, &parts.bytes());
     if file.opening.no() == 0 {
-        lookups::around(tally, rng, &file, 8);
+        lookups::around(tally, rng, &mut file, 8);
     } else {
         lookups::some(tally, &file);
     }

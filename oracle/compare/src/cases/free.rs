@@ -1,5 +1,6 @@
 //! Lookups and listings with records that aren't the file's.
 
+use model::around::beside;
 use model::automaton::Table;
 use model::blocks::random;
 use model::faults::others;
@@ -26,6 +27,22 @@ fn all(tally: &mut Tally, file: &File, patterns: &[Pattern]) {
     for pattern in patterns {
         for room in [n, n.saturating_sub(1), 300] {
             file.list(tally, pattern, room);
+        }
+    }
+}
+
+/// Ordinals with other numbers of terms in the record.
+fn ordinals(tally: &mut Tally, file: &mut File) {
+    let first = Opened::of(file.numbers()).first_ord(&file.bytes);
+    for terms in [0, 5, 10, first.unwrap_or(1), 1 << 55, u64::MAX] {
+        file.set_terms(terms);
+        let near = first.map_or([0, 1, 2], beside);
+        for ord in [0, 5, 9, 1 << 47]
+            .into_iter()
+            .chain(near)
+            .chain(beside(terms))
+        {
+            file.ord(tally, ord);
         }
     }
 }
@@ -72,6 +89,7 @@ fn listed(tally: &mut Tally) {
         for record in others(right).into_iter().chain(others(own)) {
             file.set_record(record);
             all(tally, &file, &patterns);
+            ordinals(tally, &mut file);
         }
     }
 }
@@ -166,10 +184,12 @@ fn record(rng: &mut Numbers, len: u64, own: Opened) -> Opened {
         2 => rng.within(1, 300),
         _ => rng.pick(&[0, 1, 65_536, 65_537, u64::MAX]),
     };
+    let terms = rng.pick(&[u64::MAX, u64::MAX, own.terms, 6, 1, 0, 1 << 55]);
     Opened {
         n,
         directory,
         records,
         addresses,
+        terms,
     }
 }

@@ -146,8 +146,8 @@ fn list(tally: &mut Tally, rng: &mut Numbers, keys: &[Vec<u8>]) {
     }
     let index = builder.finish(tally, &[0, -1, 3]);
     if count > 1 {
-        let file = opened::open(tally, &index);
-        lookups::around(tally, rng, &file, 10);
+        let mut file = opened::open(tally, &index);
+        lookups::around(tally, rng, &mut file, 10);
         changed(tally, rng, &file);
     }
 }

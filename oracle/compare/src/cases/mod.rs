@@ -16,6 +16,7 @@ mod lists;
 mod lookups;
 mod sizes;
 mod stores;
+mod terms;
 
 use crate::tally::Tally;
 
@@ -36,4 +37,5 @@ pub const TOPICS: &[(&str, fn(&mut Tally))] = &[
     ("late", late::run),
     ("batches", batches::run),
     ("canonical", canonical::run),
+    ("terms", terms::run),
 ];

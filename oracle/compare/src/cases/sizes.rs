@@ -31,9 +31,9 @@ fn build(tally: &mut Tally, rng: &mut Numbers, blocks: &[Block], keys: &[Vec<u8>
     }
     let index = builder.finish(tally, &[0, -1, 10]);
     if blocks.len() > 1 {
-        let file = opened::open(tally, &index);
+        let mut file = opened::open(tally, &index);
         assert_eq!(file.n(), blocks.len() as u64);
-        lookups::around(tally, rng, &file, 12);
+        lookups::around(tally, rng, &mut file, 12);
     }
 }
 
@@ -143,9 +143,9 @@ fn most(tally: &mut Tally) {
     builder.add(tally, after, b"");
     builder.shorten(tally, &key);
     let index = builder.finish(tally, &[0, -1, 100]);
-    let file = opened::open(tally, &index);
+    let mut file = opened::open(tally, &index);
     assert_eq!(file.n(), MOST_BLOCKS as u64);
-    lookups::around(tally, &mut rng, &file, 500);
+    lookups::around(tally, &mut rng, &mut file, 500);
     broken_late(tally, &builder);
 }
 

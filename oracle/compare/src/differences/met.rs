@@ -42,6 +42,7 @@ const MET: &[(&str, u64, Outside, &[&str])] = &[
         ],
     ),
     ("locate_with_ord", 18, Panics, &["D21"]),
+    ("locate_with_ord", 29, Answers, &["D51"]),
 ];
 
 /// `known` are the marks of the list.

@@ -1,7 +1,7 @@
 //! Files, and lookups in them.
 
 use model::blocks::touching;
-use model::files::{File as Parts, keys_of_one_byte};
+use model::files::{File as Parts, keys_of_one_byte, worked_file};
 use model::settings::{LIMIT, OPENED_LEN};
 use tantivy_sstable::access::{self, Block, Index};
 
@@ -33,10 +33,10 @@ pub fn gives(bytes: &[u8], id: u64) -> String {
     }
 }
 
-/// The library's number for a file.
+/// The library's number for a file, with as many terms as there can be.
 pub fn number(bytes: &[u8]) -> String {
     let mut record = Lent::buffer(OPENED_LEN);
-    let no = opened::call(&Lent::new(bytes), &mut record);
+    let no = opened::call(u64::MAX, &Lent::new(bytes), &mut record);
     let more = if no == 0 || record.holds(&[0; OPENED_LEN]) {
         ""
     } else {
@@ -68,6 +68,7 @@ pub fn all() -> Vec<Difference> {
     all.extend(firsts());
     all.extend(orders());
     all.push(below());
+    all.push(above());
     all
 }
 
@@ -283,21 +284,29 @@ fn orders() -> Vec<Difference> {
     ]
 }
 
-fn below() -> Difference {
-    let keys = [vec![], vec![0]];
-    let bytes = file(&touching(0, &[0, 0], 1, &[1]), &keys);
-    let index = Index::open(&bytes);
-    let answer = match quietly(|| index.get_and_locate_with_ord(0)) {
+/// What the Rust does with an ordinal in a file, and what the library does with it, opened with so many terms.
+fn ordinal(bytes: &[u8], terms: u64, ord: u64) -> [String; 2] {
+    let index = Index::open(bytes);
+    let answer = match quietly(|| index.get_and_locate_with_ord(ord)) {
         None => "panics".to_string(),
         Some((id, _)) => format!("gives id {id}"),
     };
-    let (lent, mut record) = (Lent::new(&bytes), Lent::buffer(OPENED_LEN));
-    assert_eq!(opened::call(&lent, &mut record), 0);
-    let no = lookups::locate_with_ord(&lent, &record, 0, &mut Out::some());
-    difference(
-        "D21",
-        "ordinal 0 in a file whose first is 1",
-        (answer, "panics"),
-        (format!("gets {no}"), "gets 18"),
-    )
+    let (lent, mut record) = (Lent::new(bytes), Lent::buffer(OPENED_LEN));
+    assert_eq!(opened::call(terms, &lent, &mut record), 0);
+    let no = lookups::locate_with_ord(&lent, &record, ord, &mut Out::some());
+    [answer, format!("gets {no}")]
+}
+
+fn below() -> Difference {
+    let keys = [vec![], vec![0]];
+    let bytes = file(&touching(0, &[0, 0], 1, &[1]), &keys);
+    let [rust, here] = ordinal(&bytes, u64::MAX, 0);
+    let input = "ordinal 0 in a file whose first is 1";
+    difference("D21", input, (rust, "panics"), (here, "gets 18"))
+}
+
+fn above() -> Difference {
+    let [rust, here] = ordinal(&worked_file().bytes(), 12, 12);
+    let input = "ordinal 12 in the worked file, which has 12 terms";
+    difference("D51", input, (rust, "gives id 2"), (here, "gets 29"))
 }

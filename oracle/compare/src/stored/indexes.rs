@@ -31,6 +31,7 @@ pub fn run(tally: &mut Tally, lines: &[&str]) {
                 bytes[at..at + part.len()].copy_from_slice(&part);
                 open(tally, &mut words, &bytes);
             }
+            "t" => reopen(tally, &mut words, &mut file),
             "m" => file.set_record(Opened::of(words.numbers())),
             _ => look_up(tally, &file, letter, &mut words),
         }
@@ -38,11 +39,18 @@ pub fn run(tally: &mut Tally, lines: &[&str]) {
 }
 
 fn open(tally: &mut Tally, words: &mut Words, bytes: &[u8]) -> File {
-    let file = opened::open(tally, bytes);
-    let got = (file.opening.no(), file.opening.answer().numbers());
+    let mut file = opened::open(tally, bytes);
+    reopen(tally, words, &mut file);
+    file
+}
+
+/// With the line's number of terms.
+fn reopen(tally: &mut Tally, words: &mut Words, file: &mut File) {
+    let terms = words.number();
+    file.reopen(tally, terms);
+    let got = (file.opening.number(terms), file.numbers());
     let due = (words.number(), words.numbers());
     words.hold(tally, &OPEN, got, due);
-    file
 }
 
 /// Small letters have an answer, capitals are left free.

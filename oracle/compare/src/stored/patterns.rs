@@ -19,7 +19,7 @@ pub fn run(tally: &mut Tally, lines: &[&str]) {
             }
             "f" => {
                 file = opened::open(tally, &words.bytes());
-                let (got, due) = (file.opening.answer().n, words.number());
+                let (got, due) = (file.n(), words.number());
                 words.hold(tally, &OPEN, got, due);
             }
             "m" => file.set_record(Opened::of(words.numbers())),

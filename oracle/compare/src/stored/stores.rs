@@ -1,4 +1,4 @@
-//! Stores, and lookups in stores: these are made in an index that holds the store.
+//! Stores, and lookups in stores: these are made in an index that holds the store, opened with as many terms as there can be.
 
 use model::blocks::{block, by_rule};
 use model::files::File as Parts;
@@ -33,14 +33,14 @@ pub fn run(tally: &mut Tally, lines: &[&str]) {
     }
 }
 
-/// No index has fewer than two blocks, so lookups in such stores are left out.
+/// No index has fewer than two blocks, and none has a term 2^64 - 1, so lookups in such stores and of that ordinal are left out.
 fn look_up(tally: &mut Tally, letter: &str, words: &mut Words) {
     let (bytes, n) = (words.bytes(), words.number());
-    if n < 2 {
+    let asked = words.number();
+    if n < 2 || letter == "o" && asked == u64::MAX {
         return;
     }
     let file = index(tally, &bytes, n);
-    let asked = words.number();
     match letter {
         "i" => {
             let (got, due) = (file.id(tally, asked), (0, words.numbers()));
@@ -60,5 +60,7 @@ fn look_up(tally: &mut Tally, letter: &str, words: &mut Words) {
 
 fn index(tally: &mut Tally, store: &[u8], n: u64) -> File {
     let keys: Vec<Vec<u8>> = (0..n).map(|i| i.to_be_bytes()[5..].to_vec()).collect();
-    opened::open(tally, &Parts::new(&keys, store).bytes())
+    let mut file = opened::open(tally, &Parts::new(&keys, store).bytes());
+    file.reopen(tally, u64::MAX);
+    file
 }

@@ -131,7 +131,8 @@ impl Tally {
             .expect("a call of a family")
     }
 
-    pub fn case(&mut self, case: Case, what: impl FnOnce() -> String) {
+    /// Returns whether the call is new.
+    pub fn case(&mut self, case: Case, what: impl FnOnce() -> String) -> bool {
         let Case {
             call,
             by,
@@ -155,6 +156,7 @@ impl Tally {
             self.count(call).failed += 1;
             self.failure(call.name, what);
         }
+        new
     }
 
     fn failure(&mut self, name: &str, what: impl FnOnce() -> String) {

@@ -1,33 +1,17 @@
--- Rows 10 and 11, rows 12 and 13 of the directory's part, then the store.
-use Rattle.std.proofs.Common.{arith, sym, ◌∙◌}
+-- Opening with the least number of terms, then row 28 for the number that is given.
+use Rattle.std.proofs.Common.{sym}
 use Rattle.std.proofs.lemmas.Result.{err_from_is_err_and}
-use Rattle.layout.proofs.Numbers.{number_positive}
-use Rattle.index.proofs.OpeningRows.{footer-ok, length-directory_part, open-footer, open-directory, open-refused}
+use Rattle.index.proofs.Terms.{least-none, least-few, least-enough}
 use Rattle.index_load.proofs.grouped.load.Goals as goal
 
-pub returns-in_err-directory_len : goal.returns-in_err-directory_len
-returns-in_err-directory_len c =
+pub returns-in_err-least : goal.returns-in_err-least
+returns-in_err-least c =
     let p = err_from_is_err_and c.from_residual.result c.from_residual.ensures.1 in
-    let no = c.in_err-directory_len.ensures.number in
-    rw (p.1, p.2) (open-refused _ _ _ (no ∙ open-footer c.args.group_len c.args.«data».now
-    (λ z. let some = number_positive c.in_err-directory_len.field-0.0 in omega arith)))
+    rw (p.1, p.2) (least-none c.args.group_len c.args.terms c.args.«data».now _ (sym c.in_err-least.ensures))
 
-pub slice_bounds-directory_no-end : goal.slice_bounds-directory_no-end
-slice_bounds-directory_no-end c =
-    let f = c.args.«data».now in
-    rw c.in_ok-directory_len.ensures.value (sym (length-directory_part f (footer-ok f (sym c.in_ok-directory_len.ensures.number))))
+pub returns-then-terms-least : goal.returns-then-terms-least
+returns-then-terms-least c =
+    least-few c.args.group_len c.args.terms c.args.«data».now _ (sym c.in_ok-least.ensures) c.if-terms-least.true
 
-pub returns-in_err-directory_no : goal.returns-in_err-directory_no
-returns-in_err-directory_no c =
-    let p = err_from_is_err_and c.from_residual-in_err-directory_no.result c.from_residual-in_err-directory_no.ensures.1 in
-    let no = rw c.in_ok-directory_len.ensures.value at c.in_err-directory_no.ensures in
-    rw (p.1, p.2) (open-refused _ _ _ (no ∙ open-directory c.args.group_len c.args.«data».now (sym c.in_ok-directory_len.ensures.number)
-    (λ z. let some = number_positive c.in_err-directory_no.field-0.0 in omega arith)))
-
-pub load_store-requires : goal.load_store-requires
-load_store-requires c = (
-  c.requires,
-  sym c.in_ok-directory_len.ensures.number,
-  c.in_ok-directory_len.ensures.value,
-  sym (rw c.in_ok-directory_len.ensures.value at c.in_ok-directory_no.ensures),
-)
+pub returns : goal.returns
+returns c = least-enough c.args.group_len c.args.terms c.args.«data».now _ (sym c.in_ok-least.ensures) c.if-terms-least.false

@@ -1,15 +1,18 @@
--- Row 14, then rows 15 and 16 of the parts that the lengths give, and the record of these lengths.
+-- Row 14, then rows 15 and 16 of the parts that the lengths give, and the record of these lengths with the least number of terms.
 use Rattle.std.proofs.Common.{◌≡◌, ◌≤◌, ◌+◌, ◌-◌, ℕ, List, false, length, take, drop, arith, sym, ap, ap₂, ◌∙◌, Ok}
 use Rattle.std.proofs.lemmas.Result.{err_from_is_err_and}
 use Rattle.serialize.specs.Digits.{le_val}
+use Rattle.store.specs.Read.{store_block}
 use Rattle.store.specs.Check.{store_no}
 use Rattle.store.specs.Facts.{GroupRecordsOk}
 use Rattle.directory.specs.Read.{directory_no}
 use Rattle.directory.proofs.Rules.{DirectoryOk}
-use Rattle.index.specs.Parts.{len_of_directory, directory_part, group_records_part, addrs_part, count_in}
-use Rattle.index.specs.Opening.{footer_no, group_records_bad, open_no}
+use Rattle.index.specs.Parts.{len_of_directory, directory_part, group_records_part, addrs_part, count_in, block_in, last_first_ordinal}
+use Rattle.index.specs.Opening.{footer_no, group_records_bad, file_no, opened_of}
 use Rattle.index.proofs.OpeningRows.{FooterOk, footer-ok, directory-ok, count-front, records-ok, addrs-inside, metas-part}
-use Rattle.index.proofs.OpeningRows.{addrs-part, metas-enough, opened-is, open-records, open-store, open-refused, open-taken}
+use Rattle.index.proofs.OpeningRows.{addrs-part, metas-enough, opened-is, file-records, file-store}
+use Rattle.index.proofs.OpenFacts.{least-fits}
+use Rattle.index.proofs.Terms.{least-refused, least-taken}
 use Rattle.index_load.proofs.grouped.load_store.Goals as goal
 
 -- what is known of the file's numbers once row 14 is passed: d the directory's length, n the count and m the records' length, as they
@@ -34,14 +37,26 @@ module _ (L : ℕ) (f : List ℕ) (d n m : ℕ) (footer : footer_no f ≡ 0) (ed
     enough =
         metas-enough L f d m foot ed (records-ok L f good) em n count (omega (arith, count, kept.some)) (omega (arith, count, kept.few))
 
-    -- the number of rows 15 and 16 is the opening's
+    -- the number of rows 15 and 16 is the file's
     number : store_no L (take (d + 8 + m - (d + 8)) (drop (d + 8) f)) (take (length f - 8 - (d + 8 + m)) (drop (d + 8 + m) f)) n
-        ≡ open_no L f
+        ≡ file_no L f
     number =
         ap₂ (λ (r l : List ℕ). store_no L r l n) (metas-part L f d m foot ed (records-ok L f good) em)
         (addrs-part L f d m foot ed (records-ok L f good) em)
         ∙ ap (store_no L (group_records_part f) (addrs_part f)) count
-        ∙ open-store L f footer keys good
+        ∙ file-store L f footer keys good
+
+    -- and the last block read there is the file's
+    last_is : (store_block L (take (d + 8 + m - (d + 8)) (drop (d + 8) f)) (take (length f - 8 - (d + 8 + m)) (drop (d + 8 + m) f))
+        (n - 1)).first_ordinal
+        ≡ last_first_ordinal L f
+    unfolding last_first_ordinal block_in
+    last_is =
+        rw (
+          metas-part L f d m foot ed (records-ok L f good) em,
+          addrs-part L f d m foot ed (records-ok L f good) em,
+          count,
+        )
 
 pub deserialize_u32-n-requires : goal.deserialize_u32-n-requires
 deserialize_u32-n-requires c = omega (arith, (footer-ok c.args.«data».now c.requires.1).inside)
@@ -60,7 +75,7 @@ records_bad-requires c =
 pub returns-then-records_bad : goal.returns-then-records_bad
 returns-then-records_bad c =
     let f = c.args.«data».now in
-    open-refused c.args.group_len f _ (open-records c.args.group_len f c.requires.1 c.requires.3
+    least-refused c.args.group_len f _ (file-records c.args.group_len f c.requires.1 c.requires.3
     (sym c.records_bad.ensures ∙ c.if-records_bad.true))
 
 pub deserialize_u64-metas_len-requires : goal.deserialize_u64-metas_len-requires
@@ -90,8 +105,11 @@ slice_bounds-check-end c =
 
 pub slice_bounds-check-count-2 : goal.slice_bounds-check-count-2
 slice_bounds-check-count-2 c =
-    inside _ _ _ _ _ c.requires.1 c.requires.2 c.requires.3 c.deserialize_u32-n.ensures c.deserialize_u64-metas_len.ensures
-    (sym c.records_bad.ensures ∙ c.if-records_bad.false)
+    omega (
+      arith,
+      inside _ _ _ _ _ c.requires.1 c.requires.2 c.requires.3 c.deserialize_u32-n.ensures c.deserialize_u64-metas_len.ensures
+          (sym c.records_bad.ensures ∙ c.if-records_bad.false),
+    )
 
 pub slice_bounds-check-start-2 : goal.slice_bounds-check-start-2
 slice_bounds-check-start-2 c =
@@ -109,10 +127,10 @@ invariant_of-check c =
           (sym c.records_bad.ensures ∙ c.if-records_bad.false);
     }
 
-pub returns-in_err-check : goal.returns-in_err-check
-returns-in_err-check c =
+pub returns-in_err-last : goal.returns-in_err-last
+returns-in_err-last c =
     let p = err_from_is_err_and c.from_residual.result c.from_residual.ensures.1 in
-    rw (p.1, p.2) (open-refused _ _ _ (c.in_err-check.ensures
+    rw (p.1, p.2) (least-refused _ _ _ (c.in_err-last.ensures.number
     ∙ number _ _ _ _ _ c.requires.1 c.requires.2 c.requires.3 c.deserialize_u32-n.ensures c.deserialize_u64-metas_len.ensures
     (sym c.records_bad.ensures ∙ c.if-records_bad.false)))
 
@@ -121,12 +139,28 @@ overflow_sub-result c =
     inside _ _ _ _ _ c.requires.1 c.requires.2 c.requires.3 c.deserialize_u32-n.ensures c.deserialize_u64-metas_len.ensures
     (sym c.records_bad.ensures ∙ c.if-records_bad.false)
 
+-- the store kept its rows, and what it gave is the last first ordinal
+passed : (c : goal.In_ok-last) → file_no c.args.group_len c.args.«data».now ≡ 0
+passed c =
+    sym (c.in_ok-last.ensures.number
+    ∙ number _ _ _ _ _ c.requires.1 c.requires.2 c.requires.3 c.deserialize_u32-n.ensures c.deserialize_u64-metas_len.ensures
+    (sym c.records_bad.ensures ∙ c.if-records_bad.false))
+
+ordinal : (c : goal.In_ok-last) → c.in_ok-last.last ≡ last_first_ordinal c.args.group_len c.args.«data».now
+ordinal c =
+    c.in_ok-last.ensures.value
+    ∙ last_is _ _ _ _ _ c.requires.1 c.requires.2 c.requires.3 c.deserialize_u32-n.ensures c.deserialize_u64-metas_len.ensures
+    (sym c.records_bad.ensures ∙ c.if-records_bad.false)
+
+pub overflow_add-result : goal.overflow_add-result
+overflow_add-result c = omega (arith, ordinal c, least-fits c.args.group_len c.args.«data».now c.requires.0 (passed c))
+
 pub returns : goal.returns
 returns c =
     let f = c.args.«data».now in
     let foot = footer-ok f c.requires.1 in
     let good = sym c.records_bad.ensures ∙ c.if-records_bad.false in
     ap Ok (opened-is c.args.group_len f c.args.directory_len _ foot c.requires.2
-    (records-ok _ f good) c.deserialize_u64-metas_len.ensures _ (c.deserialize_u32-n.ensures ∙ count-front f foot c.requires.3))
-    ∙ open-taken c.args.group_len f (sym (c.in_ok-check.ensures
-    ∙ number _ _ _ _ _ c.requires.1 c.requires.2 c.requires.3 c.deserialize_u32-n.ensures c.deserialize_u64-metas_len.ensures good))
+    (records-ok _ f good) c.deserialize_u64-metas_len.ensures _ (c.deserialize_u32-n.ensures ∙ count-front f foot c.requires.3) _)
+    ∙ ap (λ (t : ℕ). Ok (opened_of (t + 1) f)) (ordinal c)
+    ∙ least-taken c.args.group_len f (passed c)

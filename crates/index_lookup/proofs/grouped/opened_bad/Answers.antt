@@ -1,5 +1,5 @@
 -- A test that is hit is a fact that the record lacks, and else the last decides.
-use Rattle.std.proofs.Common.{◌≡◌, ◌≤◌, ◌*◌, ℕ, Bool, true, false, true≢false, ltb, arith, sym, ap, ◌∙◌, rules, tests}
+use Rattle.std.proofs.Common.{◌≡◌, ◌≤◌, ◌*◌, ℕ, Bool, true, true≢false, ltb, arith, sym, ap, ◌∙◌, rules, tests}
 use borrow.Author.Tests.{ltb-false, le-ltb}
 use Rattle.index.proofs.Fits.{last-test, unfit-bad}
 use Rattle.index_lookup.proofs.grouped.opened_bad.Goals as goal

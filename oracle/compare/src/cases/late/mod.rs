@@ -91,7 +91,9 @@ impl Whole {
         let last = self.keys.len() - 1;
         file.id(tally, last as u64);
         file.separator(tally, last as u64);
-        file.ord(tally, self.blocks[last].ord);
+        // the last ordinal, and the number of terms
+        file.ord(tally, whole.terms - 1);
+        file.ord(tally, whole.terms);
         file.key(tally, &self.keys[last]);
         file.address(tally, &self.keys[last - 1]);
         file.list(tally, &self.pattern, self.keys.len());
@@ -121,6 +123,7 @@ impl Whole {
             directory: (0, d),
             records: (d + 8, r),
             addresses: (d + 8 + r, a),
+            terms: self.blocks[self.blocks.len() - 1].ord + 1,
         }
     }
 }

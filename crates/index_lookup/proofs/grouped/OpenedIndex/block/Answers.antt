@@ -7,7 +7,8 @@ use Rattle.index.specs.Opening.{OpensBy}
 use Rattle.index.specs.Parts.{block_in}
 use Rattle.index.specs.declared.SSTableIndexV3.{SSTableIndexV3}
 use Rattle.store.specs.Facts.{GroupLenOk}
-use Rattle.index.proofs.OpenFacts.{metas_at, addrs_at, opens-facts-by}
+use Rattle.index.specs.Lookups.{metas_at, addrs_at}
+use Rattle.index.proofs.OpenFacts.{opens-facts-by}
 use Rattle.index.proofs.Answered.{got-as, kept}
 use Rattle.index.proofs.LookupLaws.{opened-legal}
 use Rattle.index_lookup.proofs.grouped.OpenedIndex.block.Goals as goal

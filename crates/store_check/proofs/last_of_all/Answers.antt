@@ -1,10 +1,8 @@
 -- Each group is refused, or passed with the blocks before it.
-use Rattle.std.proofs.Common.{◌≡◌, ◌≤◌, arith, sym}
+use Rattle.std.proofs.Common.{◌≤◌, arith}
 use Rattle.store.specs.Store.{group_count}
-use Rattle.store.proofs.Groups.{group-count-above}
-use Rattle.store.proofs.Passed.{passed-all}
-use Rattle.store_check.proofs.Groups.{before-passed, first-values-refused, lends, blocks-refused, blocks-passed}
-use Rattle.store_check.proofs.blocks_bad.Goals as goal
+use Rattle.store_check.proofs.Groups.{all-passed, first-values-refused, lends, blocks-refused, blocks-passed}
+use Rattle.store_check.proofs.last_of_all.Goals as goal
 
 pub returns-then-first_bad : goal.returns-then-first_bad
 returns-then-first_bad c =
@@ -30,6 +28,4 @@ pub returns : goal.returns
 returns c =
     let s = c.args.store.now in
     let end : group_count s.group_len s.n ≤ c.loop-g.g = rw c.group_count-g-end.ensures at c.loop-g-test.false in
-    let is : c.loop-g.g ≡ group_count s.group_len s.n = omega arith in
-    sym (passed-all s.group_len s.metas.now s.addrs.now s.n _ (group-count-above s.len.some s.n) (rw is at (before-passed s
-    c.loop-g.before c.loop-g.g c.loop-g.invariant)))
+    all-passed s c.loop-g.before c.loop-g.g c.loop-g.invariant (omega arith)
