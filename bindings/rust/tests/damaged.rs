@@ -69,15 +69,7 @@ fn any() -> Automaton {
 }
 
 fn worked() -> Vec<u8> {
-    let mut entries = Entries::default();
-    for (key, block) in [
-        (b"b", BlockAddr::new(0..10, 0)),
-        (b"d", BlockAddr::new(10..25, 4)),
-        (b"f", BlockAddr::new(25..30, 9)),
-    ] {
-        assert_eq!(entries.add(key, block), 0);
-    }
-    entries.index()
+    Entries::worked().index()
 }
 
 /// Each byte of the 85 set to each value.

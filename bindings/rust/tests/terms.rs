@@ -5,19 +5,6 @@ mod model;
 use model::{Draw, Entries, LIMIT};
 use rosmarel::{Automaton, BlockAddr, Index, Refusal};
 
-/// First ordinals 0, 4 and 9.
-fn worked() -> Entries {
-    let mut entries = Entries::default();
-    for (key, block) in [
-        (b"b", BlockAddr::new(0..10, 0)),
-        (b"d", BlockAddr::new(10..25, 4)),
-        (b"f", BlockAddr::new(25..30, 9)),
-    ] {
-        assert_eq!(entries.add(key, block), 0);
-    }
-    entries
-}
-
 /// Two blocks, the second with the highest first ordinal that there is.
 fn highest() -> Entries {
     let mut entries = Entries::default();
@@ -26,12 +13,15 @@ fn highest() -> Entries {
     entries
 }
 
-/// These two, and lists of sizes around full groups.
+/// The worked one, that one, and lists of sizes around full groups.
 fn lists() -> Vec<Entries> {
     let mut draw = Draw::new(40);
     let sizes = [2, 3, 127, 128, 129, 256, 257, 1_000];
     let drawn = sizes.map(|n| draw.entries(n));
-    [worked(), highest()].into_iter().chain(drawn).collect()
+    [Entries::worked(), highest()]
+        .into_iter()
+        .chain(drawn)
+        .collect()
 }
 
 /// Numbers of terms below and above the least one.
@@ -71,7 +61,7 @@ fn every_number_above_the_last_first_ordinal() {
 /// All small numbers with all small ordinals, in the worked index.
 #[test]
 fn small_numbers() {
-    let entries = worked();
+    let entries = Entries::worked();
     let bytes = entries.index();
     for terms in 0..40 {
         let Ok(index) = Index::open(&bytes, terms) else {

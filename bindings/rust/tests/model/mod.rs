@@ -16,6 +16,19 @@ pub struct Entries {
 }
 
 impl Entries {
+    /// The specification's three blocks (15.1): first ordinals 0, 4 and 9.
+    pub fn worked() -> Entries {
+        let mut entries = Entries::default();
+        for (key, block) in [
+            (b"b", BlockAddr::new(0..10, 0)),
+            (b"d", BlockAddr::new(10..25, 4)),
+            (b"f", BlockAddr::new(25..30, 9)),
+        ] {
+            assert_eq!(entries.add(key, block), 0);
+        }
+        entries
+    }
+
     fn key_order(&self, key: &[u8]) -> bool {
         self.keys.last().is_none_or(|last| &last[..] < key)
     }
