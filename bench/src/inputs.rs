@@ -1,7 +1,7 @@
 //! What both sides get: blocks, keys, and the index of them.
 
 use rosmarel::BlockAddr;
-use tantivy_sstable::access;
+use tantivy_sstable::{Block, Builder as _, Rust};
 
 use crate::ffi;
 
@@ -173,8 +173,8 @@ impl Steps {
     }
 }
 
-pub fn theirs(block: BlockAddr) -> access::Block {
-    access::Block {
+pub fn theirs(block: BlockAddr) -> Block {
+    Block {
         start: block.start,
         end: block.end,
         ord: block.first_ordinal,
@@ -182,8 +182,8 @@ pub fn theirs(block: BlockAddr) -> access::Block {
 }
 
 /// The Rust's builder with all blocks in it.
-pub fn rust_builder(keys: &[Vec<u8>], blocks: &[BlockAddr]) -> access::Builder {
-    let mut builder = access::Builder::default();
+pub fn rust_builder<R: Rust>(keys: &[Vec<u8>], blocks: &[BlockAddr]) -> R::Builder {
+    let mut builder = R::Builder::default();
     for (key, &block) in keys.iter().zip(blocks) {
         builder.add_block(key, theirs(block));
     }
@@ -224,14 +224,14 @@ pub struct Input {
 }
 
 impl Input {
-    /// The keys are the separators as they are; no key is shortened.
-    pub fn new(kind: Keys, n: usize) -> Input {
+    /// An index of the version that this Rust writes. The keys are the separators as they are; no key is shortened.
+    pub fn new<R: Rust>(kind: Keys, n: usize) -> Input {
         let keys = kind.make(n);
         let blocks = Steps::Random.blocks(n);
         let mut index = Vec::new();
-        rust_builder(&keys, &blocks).serialize(&mut index);
+        rust_builder::<R>(&keys, &blocks).serialize(&mut index);
         let terms = blocks[n - 1].first_ordinal + LAST_TERMS;
-        let opened = ffi::open(terms, &index).expect("an index of the Rust opens");
+        let opened = ffi::open(R::VERSION, terms, &index).expect("an index of the Rust opens");
         Input {
             n,
             kind,
@@ -245,6 +245,10 @@ impl Input {
     /// The number of terms that the record has.
     pub fn terms(&self) -> u64 {
         self.opened[7]
+    }
+
+    pub fn version(&self) -> u64 {
+        self.opened[8]
     }
 
     /// The least number of terms that the index opens with.

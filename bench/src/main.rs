@@ -5,12 +5,16 @@ use std::error::Error;
 use std::path::Path;
 use std::process::{Command, ExitCode};
 
-use rosmarel_bench::calls::FAMILIES;
+use rosmarel_bench::calls::{FAMILIES, Measure};
 use rosmarel_bench::inputs::{Input, Keys};
 use rosmarel_bench::report::{Options, Report, head};
 use rosmarel_bench::{document, readme};
+use tantivy_sstable::{Rust, V3, V4};
 
 const SIZES: [usize; 8] = [2, 16, 128, 129, 1_000, 4_096, 16_384, 65_536];
+
+/// Those of version 4: its own full group, and a block more.
+const SIZES_V4: [usize; 8] = [2, 16, 256, 257, 1_000, 4_096, 16_384, 65_536];
 
 const USAGE: &str = "\
 bench/run [--repeat K]                      all rows; writes docs/BENCHMARKS.md, docs/plots and the table in README.md
@@ -41,13 +45,21 @@ fn options() -> Option<Options> {
 
 /// All rows once.
 fn pass(report: &mut Report) {
+    let v3: Vec<Measure> = FAMILIES.iter().map(|family| family.measure).collect();
+    let v4 = FAMILIES.iter().filter_map(|family| family.measure_v4);
+    let v4: Vec<Measure> = v4.collect();
     for kind in Keys::ALL {
-        for n in SIZES {
-            if report.wants_keys(kind, n) {
-                let input = Input::new(kind, n);
-                for family in &FAMILIES {
-                    (family.measure)(report, &input);
-                }
+        in_version::<V3>(report, kind, SIZES, &v3);
+        in_version::<V4>(report, kind, SIZES_V4, &v4);
+    }
+}
+
+fn in_version<R: Rust>(report: &mut Report, kind: Keys, sizes: [usize; 8], all: &[Measure]) {
+    for n in sizes {
+        if report.wants_keys(kind, n) {
+            let input = Input::new::<R>(kind, n);
+            for measure in all {
+                measure(report, &input);
             }
         }
     }

@@ -56,8 +56,9 @@ pub fn section(memory: &str, archive: Option<&str>) -> String {
 }
 
 const STACK: &str = "Stacks were measured by painting one of 4 MB, on which each call ran, over the keys long-shared and the \
-pattern \"follows half (64)\": the bytes from the top to the deepest one that the call changed. Beside them what the Rust's \
-counterpart, over the stand-ins, allocates in one call, bytes in so many pieces; for `rosmarel_can_block_match` and the listing, \
+pattern \"follows half (64)\": the bytes from the top to the deepest one that the call changed. Of both versions the deeper \
+stack is told. Beside them what the Rust's counterpart, over the stand-ins, allocates in one call in version 3, bytes in so many \
+pieces; for `rosmarel_can_block_match` and the listing, \
 which is the one that marks, the automaton is in it.";
 
 fn table(all: &[Taken]) -> String {

@@ -246,7 +246,7 @@ pub fn time(ns: f64) -> String {
 
 pub fn head() -> String {
     format!(
-        "{:<20} {:<34} {:>6} {:>6} {:>7} {:>5}      times (least of the runs)",
+        "{:<29} {:<34} {:>6} {:>6} {:>7} {:>5}      times (least of the runs)",
         "call", "workload", "n", "ratio", "medians", "bar"
     )
 }
@@ -260,7 +260,7 @@ fn line(row: &Row) -> String {
         None => "",
     };
     let mut line = format!(
-        "{:<20} {:<34} {:>6} {:>6} {:>7} {bar:>5} {verdict:<4}",
+        "{:<29} {:<34} {:>6} {:>6} {:>7} {bar:>5} {verdict:<4}",
         row.what,
         row.load,
         row.n,

@@ -13,8 +13,9 @@ pub const WHOSE: &str = "
 ## Whose code it is compared with
 
 The files of tantivy-sstable that the block index is made of are compiled as they are; bench/sstable/build.rs reads them and keeps
-no copy. The crates under them can't be had here. What stands in for them is ours, under bench/stand-ins, and made for speed, so
-that the Rust's side isn't slow for our sake; the oracle has plainer ones of its own.
+no copy. For version 4 they are compiled a second time with `STORE_BLOCK_LEN` set to 256, and the build sees that this line is all
+that differs. The crates under them can't be had here. What stands in for them is ours, under bench/stand-ins, and made for speed,
+so that the Rust's side isn't slow for our sake; the oracle has plainer ones of its own.
 
 | stand-in | in place of | how it is made |
 |---|---|---|
@@ -33,6 +34,9 @@ pub const METHOD: &str = "\
 ## How it was measured
 
 - Both sides stand in one program and get the same inputs. Before a row is timed, their answers are compared.
+- Rows that name no version are version 3's, with groups of 128 blocks. Those of version 4 have groups of 256 on both sides, the same
+  lists and questions, and 256 and 257 blocks in place of 128 and 129. Of listings they have those of short keys: what a listing
+  reads of a group is the address of each marked block, whatever the keys are.
 - The archive is what `rt lib --cpu x86-64` in crates/rosmarel writes: for x86-64 without extensions. The Rust is built for the same,
   with `opt-level = 3`, `codegen-units = 1` and `lto = \"fat\"`: its calls may be inlined into the driver, those of the archive can't. Its
   comparisons of keys are calls of the C library's `memcmp`, which at run time takes the widest vectors that the processor has.

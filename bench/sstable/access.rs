@@ -1,17 +1,12 @@
-//! What the bench calls of the block index, much of it private there. No answer is made here.
+//! What the bench calls of the block index, much of it private there. No answer is made here. The file is compiled beside
+//! each of the two `index/v3.rs`.
 
 use common::OwnedBytes;
 use tantivy_fst::{Automaton, Streamer};
 
 use super::super::{SSTableIndex, SSTableIndexBuilder};
-use super::{BlockAddr, BlockAddrStore, BlockAddrStoreWriter, SSTableIndexV3};
-
-#[derive(Clone, Copy, Debug, PartialEq, Eq)]
-pub struct Block {
-    pub start: u64,
-    pub end: u64,
-    pub ord: u64,
-}
+use super::{BlockAddr, BlockAddrStore, BlockAddrStoreWriter, STORE_BLOCK_LEN, SSTableIndexV3};
+use crate::Block;
 
 impl From<BlockAddr> for Block {
     #[inline]
@@ -46,56 +41,68 @@ pub fn can_block_match_automaton(
     crate::block_match_automaton::can_block_match_automaton(start, end, automaton)
 }
 
+/// The block index with the groups of this `index/v3.rs`.
+pub struct Groups;
+
+impl crate::Rust for Groups {
+    const VERSION: u64 = match STORE_BLOCK_LEN {
+        128 => 3,
+        256 => 4,
+        _ => panic!("no version has such groups"),
+    };
+    type Builder = Builder;
+    type Store = Store;
+    type Index = Index;
+
+    fn append_store(blocks: &[Block], bytes: &mut Vec<u8>) {
+        let mut writer = BlockAddrStoreWriter::new();
+        for &block in blocks {
+            writer.write_block_meta(block.into()).unwrap();
+        }
+        writer.serialize(bytes).unwrap();
+    }
+}
+
 #[derive(Default)]
 pub struct Builder(SSTableIndexBuilder);
 
-impl Builder {
+impl crate::Builder for Builder {
     #[inline]
-    pub fn add_block(&mut self, key: &[u8], block: Block) {
+    fn add_block(&mut self, key: &[u8], block: Block) {
         let addr = BlockAddr::from(block);
         self.0.add_block(key, addr.byte_range, addr.first_ordinal);
     }
 
     #[inline]
-    pub fn shorten_last_block_key_given_next_key(&mut self, next_key: &[u8]) {
+    fn shorten_last_block_key_given_next_key(&mut self, next_key: &[u8]) {
         self.0.shorten_last_block_key_given_next_key(next_key);
     }
 
-    pub fn last_key(&mut self) -> Option<&mut Vec<u8>> {
+    fn last_key(&mut self) -> Option<&mut Vec<u8>> {
         let last = self.0.blocks.last_mut();
         last.map(|block| &mut block.last_key_or_greater)
     }
 
-    /// Appends the index with its footer.
-    pub fn serialize(&self, bytes: &mut Vec<u8>) {
+    fn serialize(&self, bytes: &mut Vec<u8>) {
         let footer = self.0.serialize(&mut *bytes).unwrap();
         bytes.extend_from_slice(&footer.to_le_bytes());
     }
 }
 
-/// Appends the store of the blocks.
-pub fn append_store(blocks: &[Block], bytes: &mut Vec<u8>) {
-    let mut writer = BlockAddrStoreWriter::new();
-    for &block in blocks {
-        writer.write_block_meta(block.into()).unwrap();
-    }
-    writer.serialize(bytes).unwrap();
-}
-
 pub struct Store(BlockAddrStore);
 
-impl Store {
-    pub fn open(bytes: &[u8]) -> Store {
+impl crate::Store for Store {
+    fn open(bytes: &[u8]) -> Store {
         Store(BlockAddrStore::open(OwnedBytes::new(bytes.to_vec())).unwrap())
     }
 
     #[inline]
-    pub fn get(&self, id: u64) -> Option<Block> {
+    fn get(&self, id: u64) -> Option<Block> {
         self.0.get(id).map(Block::from)
     }
 
     #[inline]
-    pub fn binary_search_ord(&self, ord: u64) -> (u64, Block) {
+    fn binary_search_ord(&self, ord: u64) -> (u64, Block) {
         let (id, addr) = self.0.binary_search_ord(ord);
         (id, addr.into())
     }
@@ -103,41 +110,34 @@ impl Store {
 
 pub struct Index(SSTableIndex);
 
-impl Index {
-    /// Opens shared bytes, which aren't copied.
-    pub fn load(bytes: OwnedBytes) -> Index {
+impl crate::Index for Index {
+    fn load(bytes: OwnedBytes) -> Index {
         Index(SSTableIndex::open(3, 0, bytes).unwrap())
     }
 
-    pub fn open(bytes: &[u8]) -> Index {
-        Index::load(OwnedBytes::new(bytes.to_vec()))
-    }
-
     #[inline]
-    pub fn get_block(&self, id: u64) -> Option<Block> {
+    fn get_block(&self, id: u64) -> Option<Block> {
         self.0.get_block(id).map(Block::from)
     }
 
-    /// The block's id, and the block.
     #[inline]
-    pub fn get_and_locate_with_ord(&self, ord: u64) -> (u64, Block) {
+    fn get_and_locate_with_ord(&self, ord: u64) -> (u64, Block) {
         let (addr, id) = self.0.get_and_locate_with_ord(ord);
         (id, addr.into())
     }
 
     #[inline]
-    pub fn locate_with_key(&self, key: &[u8]) -> Option<u64> {
+    fn locate_with_key(&self, key: &[u8]) -> Option<u64> {
         self.0.locate_with_key(key)
     }
 
     #[inline]
-    pub fn get_block_with_key(&self, key: &[u8]) -> Option<Block> {
+    fn get_block_with_key(&self, key: &[u8]) -> Option<Block> {
         self.0.get_block_with_key(key).map(Block::from)
     }
 
-    /// The blocks that may hold an accepted key, with their addresses.
     #[inline]
-    pub fn get_block_for_automaton<'a>(
+    fn get_block_for_automaton<'a>(
         &'a self,
         automaton: &'a impl Automaton,
     ) -> impl Iterator<Item = (u64, Block)> + 'a {
@@ -145,9 +145,7 @@ impl Index {
         found.map(|(id, addr)| (id, addr.into()))
     }
 
-    /// Marks the blocks that may hold an accepted key, and counts them. No address is read: a walk over the keys that
-    /// asks `can_block_match_automaton` for each block.
-    pub fn mark_for_automaton(&self, automaton: &impl Automaton, marks: &mut [u8]) -> usize {
+    fn mark_for_automaton(&self, automaton: &impl Automaton, marks: &mut [u8]) -> usize {
         let SSTableIndex::V3(SSTableIndexV3 { fst_index, .. }) = &self.0 else {
             unreachable!()
         };

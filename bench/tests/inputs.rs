@@ -1,6 +1,8 @@
 //! The lists of blocks are legal, and what their names say.
 
+use rosmarel::{BlockAddr, Version};
 use rosmarel_bench::inputs::{Keys, Steps, our_builder, rust_builder};
+use tantivy_sstable::{Builder as _, Rust, V3, V4};
 
 const SIZES: [usize; 5] = [2, 3, 128, 1_000, 65_536];
 
@@ -24,14 +26,25 @@ fn blocks_touch_and_ordinals_rise() {
     }
 }
 
+/// The index as the Rust writes it and as we do.
+fn index<R: Rust>(keys: &[Vec<u8>], blocks: &[BlockAddr]) -> Vec<u8> {
+    let version = Version::from_number(R::VERSION).unwrap();
+    let mut index = Vec::new();
+    rust_builder::<R>(keys, blocks).serialize(&mut index);
+    assert_eq!(
+        our_builder(keys, blocks).finish(version).as_ref(),
+        Ok(&index)
+    );
+    index
+}
+
 #[test]
 fn both_sides_write_the_same_index_of_all_lists() {
     for steps in Steps::ALL {
-        for n in [2, 128, 129, 1_000] {
+        for n in [2, 128, 129, 256, 257, 1_000] {
             let (keys, blocks) = (Keys::Short.make(n), steps.blocks(n));
-            let mut index = Vec::new();
-            rust_builder(&keys, &blocks).serialize(&mut index);
-            assert_eq!(our_builder(&keys, &blocks).finish(), Ok(index));
+            let same = index::<V3>(&keys, &blocks) == index::<V4>(&keys, &blocks);
+            assert_eq!(same, n <= 128);
         }
     }
 }

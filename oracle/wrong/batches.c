@@ -9,7 +9,8 @@ static bool outside(uint64_t from, uint64_t len, uint64_t all) {
 
 /* Whether the record can't be one of so many bytes. */
 static bool record_bad(const uint64_t *opened, size_t len) {
-    if (opened[0] < 1 || opened[0] > 65536 || opened[4] < GROUP_RECORD * ((opened[0] + GROUP_LEN - 1) / GROUP_LEN)) return true;
+    if (!known(opened[VERSION]) || opened[0] < 1 || opened[0] > 65536) return true;
+    if (opened[4] < GROUP_RECORD * groups_of(opened[VERSION], opened[0])) return true;
     return outside(opened[1], opened[2], len) || outside(opened[3], opened[4], len) || outside(opened[5], opened[6], len);
 }
 
@@ -92,9 +93,12 @@ static void spoil(const uint64_t *opened, const uint64_t *pairs, size_t count, c
     if (fault("batch_last_of_64") && count == MOST_KEYS) ids[63] = ids[62];
 }
 
-uint32_t rosmarel_locate_with_keys(const uint8_t *index, size_t index_len, const uint64_t opened[8], const uint64_t *pairs,
+uint32_t rosmarel_locate_with_keys(const uint8_t *index, size_t index_len, const uint64_t opened[9], const uint64_t *pairs,
                                    size_t pairs_len, const uint8_t *keys, size_t keys_len, uint64_t *ids, size_t ids_len) {
     size_t count = pairs_len / 2;
+    uint64_t other[OPENED_LEN];
+    if (fault("batch_version_ignored")) opened = with_a_version(index, index_len, opened, other);
+    if (fault("batch_version_8_bits")) opened = with_version(opened, (uint8_t)opened[VERSION], other);
     uint64_t before = ids_len > 0 ? ids[0] : 0;
     if (fault("batch_terms_20") && few_terms(opened)) return 20;
     bool unfit = record_bad(opened, index_len), bad = list_bad(pairs, pairs_len, keys_len, ids_len);
@@ -110,6 +114,8 @@ uint32_t rosmarel_locate_with_keys(const uint8_t *index, size_t index_len, const
     if (fault("batch_20_writes") && no == 20 && unfit && ids_len > 0) ids[0] = 0;
     if (fault("batch_26_writes") && no == 26 && ids_len > 0) ids[ids_len - 1] = UINT64_MAX;
     if (fault("batch_26_first") && no == 20 && bad) no = 26;
+    if (fault("batch_26_before_version") && !known(opened[VERSION]) && bad) no = 26;
+    if (fault("batch_version_as_26") && !known(opened[VERSION])) no = 26;
     if (fault("batch_other_row") && no == 26) no = 24;
     if (fault("batch_clears_rest") && no == 0 && ids_len > count) ids[count] = UINT64_MAX;
     if (fault("batch_free_id") && no == 0 && count > 0 && !own_record(index, index_len, opened)) ids[count - 1] = opened[0];

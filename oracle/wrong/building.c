@@ -15,6 +15,10 @@ bool fault_begins(const char *front) {
     return strncmp(chosen(), front, strlen(front)) == 0;
 }
 
+uint64_t rosmarel_interface(void) {
+    return right_interface() - fault("interface_before");
+}
+
 uint32_t rosmarel_add(uint64_t *n, uint64_t *blocks, size_t blocks_len, uint8_t *keys, size_t keys_len,
                       const uint8_t *key, size_t key_len, uint64_t start, uint64_t end, uint64_t first_ordinal) {
     uint64_t before = *n;
@@ -65,11 +69,12 @@ uint32_t rosmarel_shorten(uint64_t n, uint64_t *blocks, size_t blocks_len, uint8
 }
 
 /* The index with the store of the plain writer in place of its own. */
-static uint32_t own_finish(uint64_t n, const uint64_t *blocks, uint8_t *out, size_t out_len, uint64_t *total, uint64_t directory) {
+static uint32_t own_finish(uint64_t version, uint64_t n, const uint64_t *blocks, uint8_t *out, size_t out_len, uint64_t *total,
+                           uint64_t directory) {
     rosmarel_block_addr *list = malloc(n * sizeof *list);
     for (uint64_t i = 0; i < n; i++) memcpy(list + i, blocks + STRIDE * i, sizeof *list);
     uint8_t *store, footer[8];
-    size_t len = own_store(list, n, &store);
+    size_t len = own_store(version, list, n, &store);
     memcpy(footer, out + *total - 8, 8);
     *total = directory + len + 8;
     if (*total <= out_len) {
@@ -81,10 +86,41 @@ static uint32_t own_finish(uint64_t n, const uint64_t *blocks, uint8_t *out, siz
     return *total <= out_len ? 0 : 9;
 }
 
-uint32_t rosmarel_finish(uint64_t n, const uint64_t *blocks, size_t blocks_len, const uint8_t *keys, size_t keys_len,
-                         uint8_t *out, size_t out_len, uint64_t *total, uint64_t *directory_len) {
-    uint64_t before = *total;
-    uint32_t no = right_finish(n, blocks, blocks_len, keys, keys_len, out, out_len, total, directory_len);
+/* Faults with a version that there isn't: the number in place of a finish's 30. `no` and `len` are what version 3 says of the length. */
+static uint32_t finish_not_30(uint64_t n, uint32_t no, uint64_t len, size_t out_len) {
+    if (fault("finish_30_after_1") && no == 1) return no;
+    if (fault("finish_30_after_8") && (no == 1 || no == 8)) return no;
+    if (fault("finish_30_after_9") && no == 0 && out_len < len) return 9;
+    if (fault("finish_30_not_at_0") && no == 0 && n == 0) return 0;
+    if (fault("finish_30_not_at_1") && no == 0 && n == 1) return 0;
+    if (fault("finish_30_as_1")) return 1;
+    return 30;
+}
+
+/* The version that a finish with these faults takes. */
+static uint64_t finish_version(uint64_t version) {
+    if (fault("finish_version_8_bits")) return (uint8_t)version;
+    if (fault("finish_version_32_bits")) return (uint32_t)version;
+    if (fault("finish_version_63_bits")) return version & INT64_MAX;
+    if (fault("finish_version_above_taken") && version > ROSMAREL_V4) return ROSMAREL_V4;
+    if (fault("finish_version_below_taken") && version < ROSMAREL_V3) return ROSMAREL_V3;
+    if (fault("finish_4_as_3")) return as_3(version);
+    if (fault("finish_3_as_4") && version == ROSMAREL_V3) return ROSMAREL_V4;
+    return version;
+}
+
+uint32_t rosmarel_finish(uint64_t version, uint64_t n, const uint64_t *blocks, size_t blocks_len, const uint8_t *keys,
+                         size_t keys_len, uint8_t *out, size_t out_len, uint64_t *total, uint64_t *directory_len) {
+    uint64_t before = *total, len;
+    version = finish_version(version);
+    uint32_t no = right_finish(version, n, blocks, blocks_len, keys, keys_len, out, out_len, total, directory_len);
+    if (no == 30) {
+        uint32_t other = right_finish_len(ROSMAREL_V3, n, blocks, blocks_len, keys, keys_len, &len);
+        no = finish_not_30(n, other, len, out_len);
+        if (fault("finish_30_kept")) *total = before;
+        if (fault("finish_30_writes") && out_len > 0) out[0] ^= 1;
+        if (fault("finish_30_changes_areas") && blocks_len > 0) ((uint64_t *)blocks)[0] ^= 1;
+    }
     if (fault("finish_bit") && no == 0 && n == 129) out[*total - 20] ^= 16;
     if (fault("finish_byte_after") && no == 0 && *total < out_len) out[*total] = 0;
     if (fault("finish_directory_len") && no == 0 && n > 1) ++*directory_len;
@@ -97,14 +133,23 @@ uint32_t rosmarel_finish(uint64_t n, const uint64_t *blocks, size_t blocks_len, 
     if (fault("finish_reads_after_out")) touch(out + out_len);
     if (fault("finish_reads_after_keys")) touch(keys + keys_len);
     if (fault("finish_reads_after_blocks")) touch(blocks + blocks_len);
-    if (own_writer() && no == 0 && n > 1) no = own_finish(n, blocks, out, out_len, total, *directory_len);
+    if (own_writer() && no == 0 && n > 1) no = own_finish(version, n, blocks, out, out_len, total, *directory_len);
     return no;
 }
 
-uint32_t rosmarel_finish_len(uint64_t n, const uint64_t *blocks, size_t blocks_len, const uint8_t *keys,
+uint32_t rosmarel_finish_len(uint64_t version, uint64_t n, const uint64_t *blocks, size_t blocks_len, const uint8_t *keys,
                              size_t keys_len, uint64_t *total) {
-    uint64_t before = *total;
-    uint32_t no = right_finish_len(n, blocks, blocks_len, keys, keys_len, total);
+    uint64_t before = *total, len;
+    if (fault("finish_len_version_8_bits")) version = (uint8_t)version;
+    if (fault("finish_len_4_as_3")) version = as_3(version);
+    uint32_t no = right_finish_len(version, n, blocks, blocks_len, keys, keys_len, total);
+    if (no == 30) {
+        uint32_t other = right_finish_len(ROSMAREL_V3, n, blocks, blocks_len, keys, keys_len, &len);
+        if (fault("finish_len_30_after_1") && other == 1) no = 1;
+        if (fault("finish_len_30_after_8") && other != 0) no = other;
+        if (fault("finish_len_30_not_at_0") && other == 0 && n == 0) no = 0;
+        if (fault("finish_len_30_kept")) *total = before;
+    }
     if (fault("finish_len_one") && no == 0 && n == 1) *total = 8;
     if (fault("finish_len_most") && no == 0 && n == 65536) *total -= 1;
     if (fault("finish_len_even_groups") && no == 0 && n > 1000 && n % 256 == 0 && n < 65536) *total -= 1;
@@ -113,10 +158,32 @@ uint32_t rosmarel_finish_len(uint64_t n, const uint64_t *blocks, size_t blocks_l
     return no;
 }
 
-uint32_t rosmarel_store(const rosmarel_block_addr *blocks, size_t blocks_len, uint8_t *out, size_t out_len,
-                        uint64_t *len) {
+/* Faults with a version that there isn't: the number in place of a store's 30. The scratch is for what isn't to be written. */
+static uint32_t store_not_30(const rosmarel_block_addr *blocks, size_t blocks_len, size_t out_len) {
+    size_t most = 8 + GROUP_RECORD * groups_of(ROSMAREL_V3, blocks_len) + 13 * blocks_len;
+    uint8_t *scratch = malloc(most);
+    uint64_t len;
+    uint32_t no = right_store(ROSMAREL_V3, blocks, blocks_len, scratch, most, &len);
+    free(scratch);
+    if (fault("store_30_after_3") && no == 3) return no;
+    if (fault("store_30_after_7") && no != 0) return no;
+    if (fault("store_30_after_9") && no == 0 && out_len < len) return 9;
+    if (fault("store_30_not_at_0") && blocks_len == 0) return 0;
+    return 30;
+}
+
+uint32_t rosmarel_store(uint64_t version, const rosmarel_block_addr *blocks, size_t blocks_len, uint8_t *out,
+                        size_t out_len, uint64_t *len) {
     uint64_t before = *len;
-    uint32_t no = right_store(blocks, blocks_len, out, out_len, len);
+    if (fault("store_version_8_bits")) version = (uint8_t)version;
+    if (fault("store_version_32_bits")) version = (uint32_t)version;
+    if (fault("store_4_as_3")) version = as_3(version);
+    uint32_t no = right_store(version, blocks, blocks_len, out, out_len, len);
+    if (no == 30) {
+        no = store_not_30(blocks, blocks_len, out_len);
+        if (fault("store_30_kept")) *len = before;
+        if (fault("store_30_writes") && out_len > 0) out[0] ^= 1;
+    }
     if (fault("store_bit") && no == 0 && blocks_len == 257) out[*len - 1] ^= 1;
     if (fault("store_refusal_writes") && no == 9 && out_len > 0) out[out_len - 1] ^= 1;
     if (fault("store_one_slope") && no == 0 && blocks_len == 2 && blocks[0].end == LIMIT >> 8) out[32] ^= 1;
@@ -127,7 +194,7 @@ uint32_t rosmarel_store(const rosmarel_block_addr *blocks, size_t blocks_len, ui
     if (fault("store_writes_after_out") && no == 0) out[out_len] = 0;
     if (own_writer() && no == 0) {
         uint8_t *store;
-        *len = own_store(blocks, blocks_len, &store);
+        *len = own_store(version, blocks, blocks_len, &store);
         if (*len <= out_len) memcpy(out, store, *len);
         free(store);
     }

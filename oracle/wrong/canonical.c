@@ -25,15 +25,15 @@ static uint8_t padding(const uint8_t *fields, uint64_t bits) {
 /* Whether the file, which opens with this record, is the one that finish writes: with the writer's slopes and widths its fields can
    only be the writer's. */
 static bool own_check(const uint8_t *index, const uint64_t *opened) {
-    uint64_t n = opened[0], groups = (n + GROUP_LEN - 1) / GROUP_LEN, next = 0;
+    uint64_t n = opened[0], full = group_len(opened[VERSION]), groups = groups_of(opened[VERSION], n), next = 0;
     for (uint64_t g = 0; g < groups; g++) {
         const uint8_t *record = index + opened[3] + GROUP_RECORD * g;
-        uint64_t count = g + 1 < groups ? GROUP_LEN : n - GROUP_LEN * g, offset = number(record, 8);
+        uint64_t count = g + 1 < groups ? full : n - full * g, offset = number(record, 8);
         uint64_t bits = (uint64_t)(record[32] + record[33]) * (count - 1) + record[33];
-        rosmarel_block_addr blocks[GROUP_LEN];
-        for (uint64_t i = 0; i < count; i++) blocks[i] = own_block(index, opened, GROUP_LEN * g + i);
+        rosmarel_block_addr blocks[256];
+        for (uint64_t i = 0; i < count; i++) blocks[i] = own_block(index, opened, full * g + i);
         uint8_t *store;
-        own_store(blocks, count, &store);
+        own_store(opened[VERSION], blocks, count, &store);
         bool same = same_plan(record, store + 8, count);
         free(store);
         if (fault("canonical_gap_before") && g == 0) next = offset;
@@ -55,7 +55,7 @@ static bool same_length(const uint8_t *index, const uint64_t *opened) {
     rosmarel_block_addr *blocks = malloc(n * sizeof *blocks);
     for (uint64_t i = 0; i < n; i++) blocks[i] = own_block(index, opened, i);
     uint8_t *store;
-    size_t len = own_store(blocks, n, &store);
+    size_t len = own_store(opened[VERSION], blocks, n, &store);
     free(blocks);
     free(store);
     return len == 8 + opened[4] + opened[6];
@@ -73,10 +73,27 @@ static bool own_checks(void) {
     return false;
 }
 
-uint32_t rosmarel_check_canonical(const uint8_t *index, size_t index_len) {
+/* Faults with a version that there isn't: the number in place of 30. */
+static uint32_t other_than_30(const uint8_t *index, size_t index_len) {
+    uint32_t no = right_check_canonical(ROSMAREL_V3, index, index_len);
+    if (fault("canonical_30_after_10") && no == 10) return no;
+    if (fault("canonical_30_after_11") && no == 11) return no;
+    if (fault("canonical_30_after_16") && no >= 10 && no <= 16) return no;
+    if (fault("canonical_30_after_27") && no != 0) return no;
+    if (fault("canonical_30_not_at_0") && no == 0) return no;
+    if (fault("canonical_30_as_16")) return 16;
+    return 30;
+}
+
+uint32_t rosmarel_check_canonical(uint64_t version, const uint8_t *index, size_t index_len) {
     uint64_t opened[OPENED_LEN];
-    uint32_t no = right_check_canonical(index, index_len);
-    bool opens = right_open(UINT64_MAX, index, index_len, opened) == 0;
+    if (fault("canonical_version_8_bits")) version = (uint8_t)version;
+    if (fault("canonical_version_32_bits")) version = (uint32_t)version;
+    if (fault("canonical_4_as_3")) version = as_3(version);
+    uint32_t no = right_check_canonical(version, index, index_len);
+    bool opens = right_open(version, UINT64_MAX, index, index_len, opened) == 0;
+    if (no == 30) no = other_than_30(index, index_len);
+    if (fault("canonical_4_as_27") && version == ROSMAREL_V4 && opens) no = 27;
     if (opens && own_checks()) no = own_check(index, opened) ? 0 : 27;
     if (fault("canonical_lengths_only") && opens) no = same_length(index, opened) ? 0 : 27;
     if (fault("canonical_always_0")) no = 0;
@@ -86,7 +103,7 @@ uint32_t rosmarel_check_canonical(const uint8_t *index, size_t index_len) {
     if (fault("canonical_27_before_16") && no == 16) no = 27;
     if (fault("canonical_27_before_13") && no == 13) no = 27;
     if (fault("canonical_other_row") && no == 27) no = 16;
-    if (fault("canonical_full_refused") && opens && opened[0] % GROUP_LEN == 0) no = 27;
+    if (fault("canonical_full_refused") && opens && opened[0] % group_len(version) == 0) no = 27;
     if (fault("canonical_most_refused") && opens && opened[0] == 65536) no = 27;
     if (fault("canonical_two_refused") && opens && opened[0] == 2) no = 27;
     if (fault("canonical_writes") && no == 27) ((uint8_t *)index)[index_len - 9] ^= 1;

@@ -28,11 +28,35 @@ static void lose_long(const uint8_t *index, const uint64_t *opened, uint8_t *mar
     }
 }
 
-uint32_t rosmarel_list(const uint8_t *index, size_t index_len, const uint64_t opened[8], const uint8_t *automaton,
+/* The number of a listing with the version that the file opens with, where the record's is none. Its marks go nowhere. */
+static uint32_t list_without_version(const uint8_t *index, size_t index_len, const uint64_t *opened, const uint8_t *automaton,
+                                     size_t automaton_len, size_t marks_len) {
+    uint64_t other[OPENED_LEN], count;
+    uint8_t *scratch = malloc(marks_len + 1);
+    opened = with_a_version(index, index_len, opened, other);
+    uint32_t no = right_list(index, index_len, opened, automaton, automaton_len, scratch, marks_len, &count);
+    free(scratch);
+    return no;
+}
+
+/* Faults with a version that there isn't: another number in place of 20. */
+static uint32_t list_not_20(const uint8_t *index, size_t index_len, const uint64_t *opened, const uint8_t *automaton,
+                            size_t automaton_len, size_t marks_len) {
+    uint32_t no = list_without_version(index, index_len, opened, automaton, automaton_len, marks_len);
+    if (fault("list_21_before_version") && no >= 21 && no <= 23) return no;
+    if (fault("list_24_before_version") && no == 24) return no;
+    return 20;
+}
+
+uint32_t rosmarel_list(const uint8_t *index, size_t index_len, const uint64_t opened[9], const uint8_t *automaton,
                        size_t automaton_len, uint8_t *marks, size_t marks_len, uint64_t *count) {
-    uint64_t before = *count;
+    uint64_t before = *count, other[OPENED_LEN];
+    if (fault("list_version_ignored")) opened = with_a_version(index, index_len, opened, other);
+    if (fault("list_version_8_bits")) opened = with_version(opened, (uint8_t)opened[VERSION], other);
+    if (fault("list_5_taken") && opened[VERSION] == 5) opened = with_a_version(index, index_len, opened, other);
     if (fault("list_terms_20") && few_terms(opened)) return *count = 0, 20;
     uint32_t no = right_list(index, index_len, opened, automaton, automaton_len, marks, marks_len, count);
+    if (no == 20 && !known(opened[VERSION])) no = list_not_20(index, index_len, opened, automaton, automaton_len, marks_len);
     bool ours = no == 0 && own_record(index, index_len, opened);
     if (fault("list_last_mark") && no == 0 && opened[0] > 200) marks[opened[0] - 1] ^= 1;
     if (fault("list_count") && no == 0) ++*count;

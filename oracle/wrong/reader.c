@@ -8,9 +8,10 @@ static uint64_t bits(const uint8_t *bytes, size_t bit, int width) {
 }
 
 rosmarel_block_addr own_block(const uint8_t *index, const uint64_t *opened, uint64_t id) {
-    const uint8_t *record = index + opened[3] + GROUP_RECORD * (id / GROUP_LEN);
+    uint64_t full = group_len(fault("id_splits_by_128") ? as_3(opened[VERSION]) : opened[VERSION]);
+    const uint8_t *record = index + opened[3] + GROUP_RECORD * (id / full);
     const uint8_t *fields = index + opened[5] + number(record, 8);
-    uint64_t i = id % GROUP_LEN, firsts[2] = {number(record + 8, 8), number(record + 16, 8)};
+    uint64_t i = id % full, firsts[2] = {number(record + 8, 8), number(record + 16, 8)};
     uint64_t slopes[2] = {number(record + 24, 4), number(record + 28, 4)};
     int widths[2] = {record[33], record[32]};
     if (fault("id_one_order")) widths[0] = record[32], widths[1] = record[33];

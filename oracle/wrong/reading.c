@@ -3,14 +3,27 @@
 
 bool own_record(const uint8_t *index, size_t index_len, const uint64_t *opened) {
     uint64_t own[OPENED_LEN];
-    return right_open(UINT64_MAX, index, index_len, own) == 0 && memcmp(own, opened, TERMS * sizeof *own) == 0;
+    return right_open(opened[VERSION], UINT64_MAX, index, index_len, own) == 0 && memcmp(own, opened, TERMS * sizeof *own) == 0;
+}
+
+const uint64_t *with_version(const uint64_t *opened, uint64_t version, uint64_t *other) {
+    memcpy(other, opened, OPENED_LEN * sizeof *other);
+    other[VERSION] = version;
+    return other;
+}
+
+const uint64_t *with_a_version(const uint8_t *index, size_t index_len, const uint64_t *opened, uint64_t *other) {
+    if (known(opened[VERSION])) return opened;
+    for (uint64_t version = ROSMAREL_V3; version <= ROSMAREL_V4; version++)
+        if (own_record(index, index_len, with_version(opened, version, other))) return other;
+    return opened;
 }
 
 /* The record that a file would have. */
-static void fill(uint64_t terms, const uint8_t *index, size_t len, uint64_t opened[8]) {
+static void fill(uint64_t version, uint64_t terms, const uint8_t *index, size_t len, uint64_t opened[9]) {
     uint64_t directory = number(index + len - 8, 8), records = number(index + directory, 8);
     uint64_t places[OPENED_LEN] = {number(index, 4), 0, directory, directory + 8, records, directory + 8 + records,
-                                   len - 8 - directory - 8 - records, terms};
+                                   len - 8 - directory - 8 - records, terms, version};
     memcpy(opened, places, sizeof places);
 }
 
@@ -41,7 +54,7 @@ static bool groups_before_last(const uint8_t *index, const uint64_t *opened, uin
     for (uint64_t g = 0; g + 1 < groups; g++) {
         const uint8_t *record = index + opened[3] + GROUP_RECORD * g;
         if (record[32] < 1 || record[32] > 56 || record[33] < 1 || record[33] > 56) return false;
-        if (number(record + 34, 2) != GROUP_LEN - 1) return false;
+        if (number(record + 34, 2) != group_len(opened[VERSION]) - 1) return false;
     }
     return true;
 }
@@ -49,7 +62,7 @@ static bool groups_before_last(const uint8_t *index, const uint64_t *opened, uin
 /* Whether the blocks of all groups but the last keep row 16. */
 static bool blocks_before_last(const uint8_t *index, const uint64_t *opened, uint64_t groups) {
     rosmarel_block_addr last = {0, 0, 0};
-    for (uint64_t id = 0; id < GROUP_LEN * (groups - 1); id++) {
+    for (uint64_t id = 0; id < group_len(opened[VERSION]) * (groups - 1); id++) {
         rosmarel_block_addr block = own_block(index, opened, id);
         if (block.start > block.end || block.end >= LIMIT || block.first_ordinal >= LIMIT) return false;
         if (id > 0 && (block.start != last.end || block.first_ordinal <= last.first_ordinal)) return false;
@@ -59,11 +72,11 @@ static bool blocks_before_last(const uint8_t *index, const uint64_t *opened, uin
 }
 
 /* A large file that breaks this row at its end alone is taken. */
-static bool missed_late(const uint8_t *index, size_t len, uint32_t no) {
-    uint64_t opened[OPENED_LEN], n = number(index, 4), groups = (n + GROUP_LEN - 1) / GROUP_LEN;
+static bool missed_late(uint64_t version, const uint8_t *index, size_t len, uint32_t no) {
+    uint64_t opened[OPENED_LEN], n = number(index, 4), groups = groups_of(version, n);
     if (no == 12) return fault("open_late_12") && n > 1 && n <= 65536 && 4 + 8 * n < len && pairs_before_last(index, n);
     if (no < 13) return false;
-    fill(0, index, len, opened);
+    fill(version, 0, index, len, opened);
     if (no == 13) return fault("open_late_13") && keys_before_last(index, opened);
     if (no == 14) return fault("open_late_14") && opened[4] == GROUP_RECORD * groups + 1;
     if (no == 15) return fault("open_late_15") && groups_before_last(index, opened, groups);
@@ -72,7 +85,8 @@ static bool missed_late(const uint8_t *index, size_t len, uint32_t no) {
 
 /* Faults with the number of terms, in a file that opens with some: the number in place of the right one. */
 static uint32_t spoil_terms(uint64_t terms, const uint8_t *index, const uint64_t *own, uint32_t no) {
-    uint64_t last = own_block(index, own, own[0] - 1).first_ordinal, group = (own[0] - 1) / GROUP_LEN * GROUP_LEN;
+    uint64_t last = own_block(index, own, own[0] - 1).first_ordinal, full = group_len(own[VERSION]);
+    uint64_t group = (own[0] - 1) / full * full;
     if (fault("open_terms_ignored")) return 0;
     if (fault("open_28_last_plus_1")) return terms <= last + 1 ? 28 : 0;
     if (fault("open_28_last_taken")) return terms < last ? 28 : 0;
@@ -87,32 +101,77 @@ static uint32_t spoil_terms(uint64_t terms, const uint8_t *index, const uint64_t
 }
 
 /* Faults with the number of terms, in the number and in the record's last word. */
-static uint32_t wrong_terms(uint64_t terms, const uint8_t *index, size_t index_len, uint64_t *opened, uint32_t no, uint64_t before) {
+static uint32_t wrong_terms(uint64_t version, uint64_t terms, const uint8_t *index, size_t index_len, uint64_t *opened, uint32_t no,
+                            uint64_t before) {
     uint64_t own[OPENED_LEN];
-    if ((fault_begins("open_28_") || fault_begins("open_terms_")) && right_open(UINT64_MAX, index, index_len, own) == 0) {
+    if ((fault_begins("open_28_") || fault_begins("open_terms_")) && right_open(version, UINT64_MAX, index, index_len, own) == 0) {
         no = spoil_terms(terms, index, own, no);
-        if (no == 0) fill(terms, index, index_len, opened);
+        if (no == 0) fill(version, terms, index, index_len, opened);
         if (no != 0) memset(opened, 0, sizeof own);
         if (fault("open_terms_not_carried") && no == 0) opened[TERMS] = before;
         if (fault("open_terms_least") && no == 0) opened[TERMS] = own_block(index, own, own[0] - 1).first_ordinal + 1;
         if (fault("open_terms_32_bits")) opened[TERMS] = (uint32_t)opened[TERMS];
-        if (fault("open_28_returns") && no == 28) fill(terms, index, index_len, opened);
+        if (fault("open_28_returns") && no == 28) fill(version, terms, index, index_len, opened);
         if (fault("open_28_terms_kept") && no == 28) opened[TERMS] = before;
         if (fault("open_28_other_row") && no == 28) no = 16;
     }
     if (fault("open_28_before_16") && no == 16 && terms == 0) no = 28;
     if (fault("open_28_before_15") && no == 15 && terms == 0) no = 28;
     if (fault("open_28_before_12") && no == 12 && terms == 0) no = 28;
-    if (fault("open_28_before_all") && no != 0 && terms == 0) no = 28;
+    if (fault("open_28_before_all") && no != 0 && no != 30 && terms == 0) no = 28;
+    if (fault("open_28_before_30") && no == 30 && terms == 0) no = 28;
     if (fault("open_refused_terms") && no != 0) opened[TERMS] = terms;
     return no;
 }
 
-uint32_t rosmarel_open(uint64_t terms, const uint8_t *index, size_t index_len, uint64_t opened[8]) {
-    uint64_t before[OPENED_LEN];
+/* The version that an opening with these faults takes. */
+static uint64_t open_version(uint64_t version) {
+    if (fault("open_version_8_bits")) return (uint8_t)version;
+    if (fault("open_version_32_bits")) return (uint32_t)version;
+    if (fault("open_version_63_bits")) return version & INT64_MAX;
+    if (fault("open_version_above_taken") && version > ROSMAREL_V4) return ROSMAREL_V4;
+    if (fault("open_version_below_taken") && version < ROSMAREL_V3) return ROSMAREL_V3;
+    return fault("open_4_as_3") ? as_3(version) : version;
+}
+
+/* Faults with a version that there isn't: the number in place of 30, from what the file gets in version 3. */
+static uint32_t open_not_30(uint64_t terms, const uint8_t *index, size_t index_len, uint64_t *opened, const uint64_t *before) {
+    uint64_t other[OPENED_LEN];
+    uint32_t no = right_open(ROSMAREL_V3, terms, index, index_len, other);
+    if (fault("open_30_after_10") && no == 10) return no;
+    if (fault("open_30_after_11") && no == 11) return no;
+    if (fault("open_30_after_16") && no >= 10 && no <= 16) return no;
+    if (fault("open_30_after_28") && no != 0) return no;
+    if (fault("open_30_as_16")) return 16;
+    if (fault("open_30_returns") && no == 0) memcpy(opened, other, sizeof other);
+    if (fault("open_30_kept")) opened[VERSION] = before[VERSION];
+    return 30;
+}
+
+/* Faults with the two versions: the number, and the record's last word. */
+static uint32_t wrong_versions(uint64_t version, uint64_t terms, const uint8_t *index, size_t index_len, uint64_t *opened, uint32_t no,
+                               const uint64_t *before) {
+    uint64_t other = version == ROSMAREL_V3 ? ROSMAREL_V4 : ROSMAREL_V3;
+    if (no == 30) return open_not_30(terms, index, index_len, opened, before);
+    if (fault("open_14_other_taken") && no == 14) no = right_open(other, terms, index, index_len, opened);
+    if (fault("open_128_as_4_refused") && no == 0 && version == ROSMAREL_V4 && opened[0] == 128)
+        no = 14, memset(opened, 0, OPENED_LEN * sizeof *opened);
+    if (fault("open_short_as_3") && no == 0 && opened[0] <= 128) opened[VERSION] = ROSMAREL_V3;
+    if (fault("open_version_not_carried") && no == 0) opened[VERSION] = before[VERSION];
+    if (fault("open_version_always_3") && no == 0) opened[VERSION] = ROSMAREL_V3;
+    if (fault("open_refused_version") && no != 0) opened[VERSION] = version;
+    return no;
+}
+
+uint32_t rosmarel_open(uint64_t version, uint64_t terms, const uint8_t *index, size_t index_len, uint64_t opened[9]) {
+    uint64_t before[OPENED_LEN], asked = version;
     memcpy(before, opened, sizeof before);
-    uint32_t no = right_open(terms, index, index_len, opened);
-    if (index_len >= LARGE && no >= 12 && no <= 16 && missed_late(index, index_len, no)) fill(terms, index, index_len, opened), no = 0;
+    version = open_version(version);
+    uint32_t no = right_open(version, terms, index, index_len, opened);
+    if (no == 0 && asked != version) opened[VERSION] = asked;
+    no = wrong_versions(version, terms, index, index_len, opened, no, before);
+    if (index_len >= LARGE && no >= 12 && no <= 16 && missed_late(version, index, index_len, no))
+        fill(version, terms, index, index_len, opened), no = 0;
     if (fault("open_late_10") && no == 10 && index_len >= LARGE && number(index + index_len - 8, 8) == index_len - 15) no = 14;
     if (fault("open_late_11") && no == 11 && index_len >= LARGE) no = 12;
     if (fault("open_other_row") && no == 16) no = 15;
@@ -125,12 +184,15 @@ uint32_t rosmarel_open(uint64_t terms, const uint8_t *index, size_t index_len, u
     if (fault("open_reads_after_index")) touch(index + index_len);
     if (fault("open_reads_before_index") && index_len > 8) touch(index - 1);
     if (fault("open_writes_after_record")) opened[OPENED_LEN] = 0;
-    return wrong_terms(terms, index, index_len, opened, no, before[TERMS]);
+    return wrong_terms(version, terms, index, index_len, opened, no, before[TERMS]);
 }
 
-uint32_t rosmarel_get_block(const uint8_t *index, size_t index_len, const uint64_t opened[8], uint64_t id,
+uint32_t rosmarel_get_block(const uint8_t *index, size_t index_len, const uint64_t opened[9], uint64_t id,
                             uint64_t *start, uint64_t *end, uint64_t *first_ordinal) {
-    uint64_t before = *end;
+    uint64_t before = *end, other[OPENED_LEN];
+    if (fault("id_version_ignored")) opened = with_a_version(index, index_len, opened, other);
+    if (fault("id_version_8_bits")) opened = with_version(opened, (uint8_t)opened[VERSION], other);
+    if (fault("id_17_before_version") && !known(opened[VERSION]) && id >= opened[0]) return *start = *end = *first_ordinal = 0, 17;
     if (fault("id_terms_20") && few_terms(opened)) return *start = *end = *first_ordinal = 0, 20;
     uint32_t no = right_get_block(index, index_len, opened, id, start, end, first_ordinal);
     if (fault("id_last_end") && no == 0 && id == 127) ++*end;
@@ -141,13 +203,15 @@ uint32_t rosmarel_get_block(const uint8_t *index, size_t index_len, const uint64
     if (fault("id_next_block") && no == 0 && id == 1 && opened[0] > 2)
         right_get_block(index, index_len, opened, id + 1, start, end, first_ordinal);
     if (fault("id_wrong_group") && no == 0 && id >= 32768)
-        right_get_block(index, index_len, opened, id - GROUP_LEN, start, end, first_ordinal);
+        right_get_block(index, index_len, opened, id - group_len(opened[VERSION]), start, end, first_ordinal);
     if (fault("id_reads_after_index")) touch(index + index_len);
     if (fault("id_reads_after_record")) touch(opened + OPENED_LEN);
-    bool swapped = fault("id_one_order");
-    bool own_reads = swapped || fault("own_reader") || fault("id_place_13_bits");
+    bool swapped = fault("id_one_order"), by_128 = fault("id_splits_by_128");
+    bool own_reads = swapped || by_128 || fault("own_reader") || fault("id_place_13_bits");
     if (own_reads && no == 0 && own_record(index, index_len, opened)) {
-        const uint8_t *record = index + opened[3] + GROUP_RECORD * (id / GROUP_LEN);
+        const uint8_t *record = index + opened[3] + GROUP_RECORD * (id / group_len(opened[VERSION]));
+        /* there are records enough for groups of 128 in the first half alone */
+        if (by_128 && id / 128 >= opened[4] / GROUP_RECORD) return no;
         /* a group of one block has no ordinal field to be taken for the other */
         if (swapped && number(record + 34, 2) == 0) return no;
         rosmarel_block_addr block = own_block(index, opened, id);
@@ -180,9 +244,13 @@ static uint32_t other_refusal(const uint8_t *index, size_t index_len, const uint
     return no;
 }
 
-uint32_t rosmarel_locate_with_ord(const uint8_t *index, size_t index_len, const uint64_t opened[8], uint64_t ord,
+uint32_t rosmarel_locate_with_ord(const uint8_t *index, size_t index_len, const uint64_t opened[9], uint64_t ord,
                                   uint64_t *id, uint64_t *start, uint64_t *end, uint64_t *first_ordinal) {
-    uint64_t before = *id, any[OPENED_LEN];
+    uint64_t before = *id, any[OPENED_LEN], other[OPENED_LEN];
+    if (fault("ord_version_ignored")) opened = with_a_version(index, index_len, opened, other);
+    if (fault("ord_version_8_bits")) opened = with_version(opened, (uint8_t)opened[VERSION], other);
+    if (fault("ord_29_before_version") && !known(opened[VERSION]) && ord >= opened[TERMS])
+        return *id = *start = *end = *first_ordinal = 0, 29;
     if (fault("ord_terms_20") && few_terms(opened)) return *id = *start = *end = *first_ordinal = 0, 20;
     uint32_t no = right_locate_with_ord(index, index_len, opened, ord, id, start, end, first_ordinal);
     memcpy(any, opened, sizeof any), any[TERMS] = UINT64_MAX;
@@ -202,6 +270,7 @@ uint32_t rosmarel_locate_with_ord(const uint8_t *index, size_t index_len, const 
     if (fault("ord_strictly_below") && no == 0 && *first_ordinal == ord && *id > 0)
         right_get_block(index, index_len, opened, --*id, start, end, first_ordinal);
     if (fault("ord_last_group") && no == 0 && *id >= 65280) *id -= 1;
+    if (fault("ord_id_by_128") && no == 0 && opened[VERSION] == ROSMAREL_V4) *id -= *id / 256 * 128;
     if (fault("ord_reads_after_index")) touch(index + index_len);
     if (fault("ord_reads_after_record")) touch(opened + OPENED_LEN);
     return no;
@@ -220,9 +289,12 @@ static uint64_t by_front(const uint8_t *index, const uint64_t *opened, const uin
     return id;
 }
 
-uint32_t rosmarel_locate_with_key(const uint8_t *index, size_t index_len, const uint64_t opened[8],
+uint32_t rosmarel_locate_with_key(const uint8_t *index, size_t index_len, const uint64_t opened[9],
                                   const uint8_t *key, size_t key_len, uint64_t *id) {
-    uint64_t before = *id;
+    uint64_t before = *id, other[OPENED_LEN];
+    if (fault("key_version_ignored")) opened = with_a_version(index, index_len, opened, other);
+    if (fault("key_version_8_bits")) opened = with_version(opened, (uint8_t)opened[VERSION], other);
+    if (fault("key_version_as_19") && !known(opened[VERSION])) return *id = 0, 19;
     if (fault("key_terms_20") && few_terms(opened)) return *id = 0, 20;
     uint32_t no = right_locate_with_key(index, index_len, opened, key, key_len, id);
     if (fault("key_block_0") && no == 0) *id = 0;
@@ -241,10 +313,12 @@ uint32_t rosmarel_locate_with_key(const uint8_t *index, size_t index_len, const 
     return no;
 }
 
-uint32_t rosmarel_get_block_with_key(const uint8_t *index, size_t index_len, const uint64_t opened[8],
+uint32_t rosmarel_get_block_with_key(const uint8_t *index, size_t index_len, const uint64_t opened[9],
                                      const uint8_t *key, size_t key_len, uint64_t *id, uint64_t *start,
                                      uint64_t *end, uint64_t *first_ordinal) {
-    uint64_t before = *start;
+    uint64_t before = *start, other[OPENED_LEN];
+    if (fault("address_version_ignored")) opened = with_a_version(index, index_len, opened, other);
+    if (fault("address_version_8_bits")) opened = with_version(opened, (uint8_t)opened[VERSION], other);
     if (fault("address_terms_20") && few_terms(opened)) return *id = *start = *end = *first_ordinal = 0, 20;
     uint32_t no = right_get_block_with_key(index, index_len, opened, key, key_len, id, start, end, first_ordinal);
     if (fault("address_ordinal") && no == 0 && *id == 1) ++*first_ordinal;
@@ -252,12 +326,17 @@ uint32_t rosmarel_get_block_with_key(const uint8_t *index, size_t index_len, con
     if (fault("address_kept") && no == 19) *start = before;
     if (fault("address_of_next") && no == 0 && *id + 1 < opened[0])
         right_get_block(index, index_len, opened, *id + 1, start, end, first_ordinal);
+    if (fault("address_by_128") && no == 0 && opened[VERSION] == ROSMAREL_V4 && *id % 256 >= 128)
+        right_get_block(index, index_len, opened, *id - 128, start, end, first_ordinal);
     if (fault("address_reads_after_key")) touch(key + key_len);
     return no;
 }
 
-void rosmarel_separator(const uint8_t *index, size_t index_len, const uint64_t opened[8], uint64_t id,
+void rosmarel_separator(const uint8_t *index, size_t index_len, const uint64_t opened[9], uint64_t id,
                         uint64_t *offset, uint64_t *len) {
+    uint64_t other[OPENED_LEN];
+    if (fault("separator_version_ignored")) opened = with_a_version(index, index_len, opened, other);
+    if (fault("separator_version_8_bits")) opened = with_version(opened, (uint8_t)opened[VERSION], other);
     right_separator(index, index_len, opened, id, offset, len);
     if (fault("separator_terms_20") && few_terms(opened)) *offset = *len = 0;
     if (fault("separator_miss") && id == opened[0]) *offset = 1;

@@ -54,7 +54,7 @@ static uint64_t field(uint64_t value, uint32_t slope, size_t i, int width) {
 
 /* One group: its record, and its fields at addresses + offset. Returns how many bytes they take. */
 static size_t own_group(const rosmarel_block_addr *blocks, size_t n, uint8_t *record, uint8_t *addresses, size_t offset) {
-    uint64_t range[GROUP_LEN], ord[GROUP_LEN];
+    uint64_t range[256], ord[256];
     for (size_t i = 1; i <= n; i++) range[i - 1] = (i < n ? blocks[i].start : blocks[n - 1].end) - blocks[0].start;
     for (size_t i = 1; i < n; i++) ord[i - 1] = blocks[i].first_ordinal - blocks[0].first_ordinal;
     uint32_t range_slope = best_slope(range, n), ord_slope = best_slope(ord, n - 1);
@@ -77,15 +77,15 @@ static size_t own_group(const rosmarel_block_addr *blocks, size_t n, uint8_t *re
     return (bit + 7) / 8;
 }
 
-size_t own_store(const rosmarel_block_addr *blocks, size_t n, uint8_t **store) {
-    size_t groups = (n + GROUP_LEN - 1) / GROUP_LEN, records = GROUP_RECORD * groups;
+size_t own_store(uint64_t version, const rosmarel_block_addr *blocks, size_t n, uint8_t **store) {
+    size_t full = group_len(version), groups = groups_of(version, n), records = GROUP_RECORD * groups;
     /* two fields of up to 64 bits a block */
     *store = calloc(1, 8 + records + 16 * n + 64);
     uint8_t *addresses = *store + 8 + records;
     size_t offset = 0;
     put(*store, records, 8);
     for (size_t g = 0; g < groups; g++) {
-        size_t first = g * GROUP_LEN, count = n - first < GROUP_LEN ? n - first : GROUP_LEN;
+        size_t first = g * full, count = n - first < full ? n - first : full;
         offset += own_group(blocks + first, count, *store + 8 + GROUP_RECORD * g, addresses, offset);
     }
     return 8 + records + offset;

@@ -12,12 +12,12 @@
 #include <string.h>
 
 #define LIMIT ((uint64_t)1 << 48)
-#define GROUP_LEN 128
 #define GROUP_RECORD 36
 #define STRIDE 5
-/* the record's numbers, and the place of the number of terms among them */
-#define OPENED_LEN 8
+/* the record's numbers, and the places of the number of terms and the version among them */
+#define OPENED_LEN 9
 #define TERMS 7
+#define VERSION 8
 /* files from here on are large */
 #define LARGE 20000
 
@@ -36,6 +36,24 @@ static inline bool few_terms(const uint64_t *opened) {
     return opened[TERMS] < opened[0];
 }
 
+/* Blocks in a group. */
+static inline uint64_t group_len(uint64_t version) {
+    return version == ROSMAREL_V4 ? 256 : 128;
+}
+
+static inline uint64_t groups_of(uint64_t version, uint64_t n) {
+    return (n + group_len(version) - 1) / group_len(version);
+}
+
+static inline bool known(uint64_t version) {
+    return version == ROSMAREL_V3 || version == ROSMAREL_V4;
+}
+
+/* Version 4 taken for 3. */
+static inline uint64_t as_3(uint64_t version) {
+    return version == ROSMAREL_V4 ? ROSMAREL_V3 : version;
+}
+
 static inline uint64_t number(const uint8_t *at, int bytes) {
     uint64_t value = 0;
     while (bytes-- > 0) value = value << 8 | at[bytes];
@@ -43,25 +61,30 @@ static inline uint64_t number(const uint8_t *at, int bytes) {
 }
 
 /* writer.c: a plain store writer, with document 01's errors. Returns the length; *store is allocated. */
-size_t own_store(const rosmarel_block_addr *blocks, size_t n, uint8_t **store);
+size_t own_store(uint64_t version, const rosmarel_block_addr *blocks, size_t n, uint8_t **store);
 /* Whether the writer is to be used in place of the right one. */
 bool own_writer(void);
 
-/* reader.c: the block by id of a file whose record is its own, with document 01's first error. */
+/* reader.c: the block by id of a file whose record is its own, with document 01's first error and with groups of 128 in version 4. */
 rosmarel_block_addr own_block(const uint8_t *index, const uint64_t *opened, uint64_t id);
 /* reading.c: whether opening the file gives this record, whatever its number of terms. */
 bool own_record(const uint8_t *index, size_t index_len, const uint64_t *opened);
+/* The record with the version with which the file opens, in `other`, where its own is none. */
+const uint64_t *with_a_version(const uint8_t *index, size_t index_len, const uint64_t *opened, uint64_t *other);
+/* The record with another version, in `other`. */
+const uint64_t *with_version(const uint64_t *opened, uint64_t version, uint64_t *other);
 /* A separator of such a file. */
 const uint8_t *own_separator(const uint8_t *index, const uint64_t *opened, uint64_t id, size_t *len);
 
 uint32_t right_add(uint64_t *, uint64_t *, size_t, uint8_t *, size_t, const uint8_t *, size_t, uint64_t, uint64_t, uint64_t);
 uint32_t right_shorten(uint64_t, uint64_t *, size_t, uint8_t *, size_t, const uint8_t *, size_t);
-uint32_t right_finish(uint64_t, const uint64_t *, size_t, const uint8_t *, size_t, uint8_t *, size_t, uint64_t *, uint64_t *);
-uint32_t right_finish_len(uint64_t, const uint64_t *, size_t, const uint8_t *, size_t, uint64_t *);
-uint32_t right_store(const rosmarel_block_addr *, size_t, uint8_t *, size_t, uint64_t *);
+uint64_t right_interface(void);
+uint32_t right_finish(uint64_t, uint64_t, const uint64_t *, size_t, const uint8_t *, size_t, uint8_t *, size_t, uint64_t *, uint64_t *);
+uint32_t right_finish_len(uint64_t, uint64_t, const uint64_t *, size_t, const uint8_t *, size_t, uint64_t *);
+uint32_t right_store(uint64_t, const rosmarel_block_addr *, size_t, uint8_t *, size_t, uint64_t *);
 uint64_t right_common_prefix_len(const uint8_t *, size_t, const uint8_t *, size_t);
-uint32_t right_open(uint64_t, const uint8_t *, size_t, uint64_t *);
-uint32_t right_check_canonical(const uint8_t *, size_t);
+uint32_t right_open(uint64_t, uint64_t, const uint8_t *, size_t, uint64_t *);
+uint32_t right_check_canonical(uint64_t, const uint8_t *, size_t);
 uint32_t right_get_block(const uint8_t *, size_t, const uint64_t *, uint64_t, uint64_t *, uint64_t *, uint64_t *);
 uint32_t right_locate_with_ord(const uint8_t *, size_t, const uint64_t *, uint64_t, uint64_t *, uint64_t *, uint64_t *, uint64_t *);
 uint32_t right_locate_with_key(const uint8_t *, size_t, const uint64_t *, const uint8_t *, size_t, uint64_t *);

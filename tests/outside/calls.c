@@ -1,5 +1,5 @@
-/* Every exported call, accepted and refused, over parts of exact length on the heap: a read or a write outside one is
-   valgrind's to see. A refusal has its number, zeroes what it hands out and leaves what is lent. */
+/* Every exported call, accepted and refused and in both versions, over parts of exact length on the heap: a read or a write
+   outside one is valgrind's to see. A refusal has its number, zeroes what it hands out and leaves what is lent. */
 #include <rosmarel.h>
 
 #include <stdio.h>
@@ -16,6 +16,17 @@ static void want(bool held, const char *what, int line) {
 }
 
 #define WANT(condition) want((condition), #condition, __LINE__)
+
+/* What the calls that take a version are given. */
+static uint64_t version = ROSMAREL_V3;
+
+static const uint64_t versions[2] = {ROSMAREL_V3, ROSMAREL_V4};
+
+static uint64_t other_version(void) { return version == ROSMAREL_V3 ? ROSMAREL_V4 : ROSMAREL_V3; }
+
+/* Some of those that there aren't. */
+static const uint64_t no_versions[] = {0, 1, 2, 5, 6, 7, 30, 128, 256, 259, UINT64_C(1) << 32 | 3, UINT64_C(1) << 63 | 4, UINT64_MAX};
+enum { NO_VERSIONS = sizeof no_versions / sizeof *no_versions };
 
 /* ---- parts */
 
@@ -160,7 +171,7 @@ static void adding(void) {
 
 static uint32_t finish(areas a, part out, uint64_t *total, uint64_t *directory_len) {
     *total = *directory_len = 77;
-    uint32_t no = rosmarel_finish(a.n, numbers(a.blocks), a.blocks.len / 8, a.keys.at, a.keys.len, out.at, out.len,
+    uint32_t no = rosmarel_finish(version, a.n, numbers(a.blocks), a.blocks.len / 8, a.keys.at, a.keys.len, out.at, out.len,
                                   total, directory_len);
     WANT(stays(a.blocks) && stays(a.keys));
     if (no != ROSMAREL_OK) WANT(*total == 0 && *directory_len == 0 && stays(out));
@@ -169,7 +180,7 @@ static uint32_t finish(areas a, part out, uint64_t *total, uint64_t *directory_l
 
 static uint32_t finish_len(areas a, uint64_t *total) {
     *total = 77;
-    uint32_t no = rosmarel_finish_len(a.n, numbers(a.blocks), a.blocks.len / 8, a.keys.at, a.keys.len, total);
+    uint32_t no = rosmarel_finish_len(version, a.n, numbers(a.blocks), a.blocks.len / 8, a.keys.at, a.keys.len, total);
     WANT(stays(a.blocks) && stays(a.keys));
     if (no != ROSMAREL_OK) WANT(*total == 0);
     return no;
@@ -198,7 +209,7 @@ static void finishing(void) {
 static uint32_t store(const rosmarel_block_addr *blocks, size_t count, part out, uint64_t want_len) {
     part lent = part_of(blocks, count * sizeof *blocks);
     uint64_t len = 77;
-    uint32_t no = rosmarel_store((rosmarel_block_addr *)(void *)lent.at, count, out.at, out.len, &len);
+    uint32_t no = rosmarel_store(version, (rosmarel_block_addr *)(void *)lent.at, count, out.at, out.len, &len);
     WANT(stays(lent));
     if (no != ROSMAREL_OK) WANT(stays(out));
     drop(lent);
@@ -217,27 +228,31 @@ static void storing(void) {
     rosmarel_block_addr *blocks = fresh(many * sizeof *blocks);
     for (size_t i = 0; i < many; i++) blocks[i] = (rosmarel_block_addr){i, i + 1, i};
     WANT(store(blocks, many, tight, 0) == ROSMAREL_FULL);
+    uint64_t known = version;
+    version = 5;
+    WANT(store(blocks, many, tight, 0) == ROSMAREL_NO_VERSION);
+    version = known;
     free(blocks);
     drop(out), drop(tight), drop(eight);
 }
 
 /* ---- opening and lookups */
 
-static uint32_t open_terms(uint64_t terms, part index, uint64_t opened[8]) {
-    for (size_t i = 0; i < 8; i++) opened[i] = 77;
-    uint32_t no = rosmarel_open(terms, index.at, index.len, opened);
+static uint32_t open_terms(uint64_t terms, part index, uint64_t opened[9]) {
+    for (size_t i = 0; i < 9; i++) opened[i] = 77;
+    uint32_t no = rosmarel_open(version, terms, index.at, index.len, opened);
     WANT(stays(index));
-    for (size_t i = 0; i < 8 && no != ROSMAREL_OK; i++) WANT(opened[i] == 0);
-    if (no == ROSMAREL_OK) WANT(opened[7] == terms);
+    for (size_t i = 0; i < 9 && no != ROSMAREL_OK; i++) WANT(opened[i] == 0);
+    if (no == ROSMAREL_OK) WANT(opened[7] == terms && opened[8] == version);
     return no;
 }
 
 /* With more terms than any first ordinal. */
-static uint32_t open_part(part index, uint64_t opened[8]) { return open_terms(UINT64_MAX, index, opened); }
+static uint32_t open_part(part index, uint64_t opened[9]) { return open_terms(UINT64_MAX, index, opened); }
 
 /* Opens the worked index with one number put in another's place; its fault comes before a number of terms that is too low. */
 static uint32_t opened_with(size_t at, uint64_t number, size_t len) {
-    uint64_t opened[8];
+    uint64_t opened[9];
     part index = part_of(worked, sizeof worked);
     put(index, at, number, len);
     uint32_t no = open_part(index, opened);
@@ -247,8 +262,8 @@ static uint32_t opened_with(size_t at, uint64_t number, size_t len) {
 }
 
 static void opening(void) {
-    static const uint64_t parts[8] = {3, 0, 31, 39, 36, 75, 2, 12};
-    uint64_t opened[8];
+    const uint64_t parts[9] = {3, 0, 31, 39, 36, 75, 2, 12, version};
+    uint64_t opened[9];
     part index = part_of(worked, sizeof worked);
     WANT(open_terms(12, index, opened) == ROSMAREL_OK && memcmp(opened, parts, sizeof parts) == 0);
     for (uint64_t terms = 0; terms < 20; terms++)
@@ -274,7 +289,7 @@ static void opening(void) {
 /* ---- the check */
 
 static uint32_t check(part index) {
-    uint32_t no = rosmarel_check_canonical(index.at, index.len);
+    uint32_t no = rosmarel_check_canonical(version, index.at, index.len);
     WANT(stays(index));
     return no;
 }
@@ -296,7 +311,7 @@ static uint32_t checked_with_byte(size_t at, uint8_t byte, uint64_t offset) {
     memcpy(bytes + at + 1, worked + at, sizeof worked - at);
     part index = part_of(bytes, sizeof bytes);
     put(index, 39, offset, 8);
-    uint64_t opened[8];
+    uint64_t opened[9];
     WANT(open_part(index, opened) == ROSMAREL_OK);
     uint32_t no = check(index);
     drop(index);
@@ -305,7 +320,7 @@ static uint32_t checked_with_byte(size_t at, uint8_t byte, uint64_t offset) {
 
 static void checking(void) {
     part index = part_of(worked, sizeof worked), nothing = filled(0, 0);
-    uint64_t opened[8];
+    uint64_t opened[9];
     WANT(check(index) == ROSMAREL_OK && check(nothing) == ROSMAREL_FOOTER);
     for (size_t len = 0; len < sizeof worked; len++) {
         part front = part_of(worked, len), rear = part_of(worked + sizeof worked - len, len);
@@ -343,18 +358,18 @@ static bool is_zero(found f) { return f.id == 0 && f.start == 0 && f.end == 0 &&
 
 static const found unset = {77, 77, 77, 77};
 
-static uint32_t by_id(part index, const uint64_t opened[8], uint64_t id, found *f) {
+static uint32_t by_id(part index, const uint64_t opened[9], uint64_t id, found *f) {
     *f = unset;
     f->id = 0;
     return rosmarel_get_block(index.at, index.len, opened, id, &f->start, &f->end, &f->first_ordinal);
 }
 
-static uint32_t by_ordinal(part index, const uint64_t opened[8], uint64_t ord, found *f) {
+static uint32_t by_ordinal(part index, const uint64_t opened[9], uint64_t ord, found *f) {
     *f = unset;
     return rosmarel_locate_with_ord(index.at, index.len, opened, ord, &f->id, &f->start, &f->end, &f->first_ordinal);
 }
 
-static uint32_t by_key(part index, const uint64_t opened[8], const char *text, found *f) {
+static uint32_t by_key(part index, const uint64_t opened[9], const char *text, found *f) {
     part key = part_of(text, strlen(text));
     uint64_t id = 77;
     *f = unset;
@@ -365,14 +380,14 @@ static uint32_t by_key(part index, const uint64_t opened[8], const char *text, f
     return no;
 }
 
-static bool separator_is(part index, const uint64_t opened[8], uint64_t id, uint64_t offset, uint64_t len) {
+static bool separator_is(part index, const uint64_t opened[9], uint64_t id, uint64_t offset, uint64_t len) {
     uint64_t at = 77, long_ = 77;
     rosmarel_separator(index.at, index.len, opened, id, &at, &long_);
     return at == offset && long_ == len;
 }
 
 static void lookups(void) {
-    uint64_t opened[8];
+    uint64_t opened[9];
     found f;
     part index = part_of(worked, sizeof worked);
     WANT(open_terms(12, index, opened) == ROSMAREL_OK);
@@ -398,10 +413,10 @@ static void least_terms_example(void) {
     part lent = part_of(worked, sizeof worked);
     const uint8_t *index = lent.at;
     size_t index_len = lent.len;
-    uint64_t same[8];
+    uint64_t same[9];
 
-    uint64_t opened[8], start, end, first_ordinal;
-    uint32_t no = rosmarel_open(UINT64_MAX, index, index_len, opened);
+    uint64_t opened[9], start, end, first_ordinal;
+    uint32_t no = rosmarel_open(version, UINT64_MAX, index, index_len, opened);
     if (no == ROSMAREL_OK) {
         WANT(rosmarel_get_block(index, index_len, opened, opened[0] - 1, &start, &end, &first_ordinal) == ROSMAREL_OK);
         opened[7] = first_ordinal + 1;
@@ -413,7 +428,7 @@ static void least_terms_example(void) {
 
 /* Word 7 put in by hand, with the first ordinal 3: a block is found below it alone, and 18 comes before 29. */
 static void terms_by_hand(void) {
-    uint64_t opened[8];
+    uint64_t opened[9];
     found f, same;
     part index = part_of(worked, sizeof worked);
     put(index, 55, 3, 8); /* all ordinals are 3 higher: 3, 7 and 12 */
@@ -435,7 +450,7 @@ static void terms_by_hand(void) {
 /* ---- batches */
 
 /* The keys are parts of text; words is twice their number. The ids begin as they were kept. */
-static uint32_t by_keys(part index, const uint64_t opened[8], const uint64_t *pairs, size_t words, const char *text, part ids) {
+static uint32_t by_keys(part index, const uint64_t opened[9], const uint64_t *pairs, size_t words, const char *text, part ids) {
     part lent = part_of(pairs, words * sizeof *pairs), keys = part_of(text, strlen(text));
     memcpy(ids.at, ids.kept, ids.len);
     uint32_t no = rosmarel_locate_with_keys(index.at, index.len, opened, numbers(lent), words, keys.at, keys.len, numbers(ids),
@@ -461,8 +476,8 @@ static void batch_example(void) {
     part lent = part_of(worked, sizeof worked);
     const uint8_t *index = lent.at;
     size_t index_len = lent.len;
-    uint64_t opened[8];
-    WANT(rosmarel_open(12, index, index_len, opened) == ROSMAREL_OK);
+    uint64_t opened[9];
+    WANT(rosmarel_open(version, 12, index, index_len, opened) == ROSMAREL_OK);
 
     const uint64_t pairs[6] = {0, 1, 1, 2, 3, 1};
     uint64_t ids[3];
@@ -473,7 +488,7 @@ static void batch_example(void) {
 
 static void batches(void) {
     const uint64_t most = UINT64_MAX;
-    uint64_t opened[8], pairs[2 * 65] = {0};
+    uint64_t opened[9], pairs[2 * 65] = {0};
     part index = part_of(worked, sizeof worked), nothing = filled(0, 0);
     part ids = filled(0xcc, 4 * 8), full = filled(0xcc, 64 * 8), more = filled(0xcc, 65 * 8);
     WANT(open_part(index, opened) == ROSMAREL_OK);
@@ -504,29 +519,6 @@ static void batches(void) {
     drop(index), drop(nothing), drop(ids), drop(full), drop(more);
 }
 
-/* Records that no opening gave: each lookup refuses them, or answers some block. */
-static void foreign_records(void) {
-    uint64_t opened[8];
-    found f;
-    part index = part_of(worked, sizeof worked), nothing = filled(0, 0), ids = filled(0xcc, 8);
-    WANT(open_part(index, opened) == ROSMAREL_OK);
-    for (size_t i = 0; i < 7; i++) { /* word 7 is free */
-        uint64_t was = opened[i];
-        opened[i] = UINT64_MAX;
-        WANT(by_id(index, opened, 0, &f) == ROSMAREL_OPENED && is_zero(f));
-        WANT(by_ordinal(index, opened, 0, &f) == ROSMAREL_OPENED && is_zero(f));
-        WANT(by_key(index, opened, "b", &f) == ROSMAREL_OPENED && is_zero(f));
-        WANT(BATCH("b", ids, 0, 1) == ROSMAREL_OPENED && by_keys(index, opened, NULL, 0, "", nothing) == ROSMAREL_OPENED);
-        WANT(separator_is(index, opened, 0, 0, 0));
-        opened[i] = was;
-    }
-    WANT(by_id(nothing, opened, 0, &f) == ROSMAREL_OPENED && is_zero(f));
-    put(index, 55, 3, 8); /* all ordinals are 3 higher */
-    WANT(open_part(index, opened) == ROSMAREL_OK);
-    WANT(by_ordinal(index, opened, 2, &f) == ROSMAREL_BELOW && is_zero(f));
-    drop(index), drop(nothing), drop(ids);
-}
-
 /* ---- patterns */
 
 /* Accepts the one string of this one byte. */
@@ -539,7 +531,7 @@ static part one_byte(uint8_t byte) {
     return table;
 }
 
-static uint32_t list(part index, const uint64_t opened[8], part table, part marks, uint64_t *count) {
+static uint32_t list(part index, const uint64_t opened[9], part table, part marks, uint64_t *count) {
     *count = 77;
     uint32_t no = rosmarel_list(index.at, index.len, opened, table.at, table.len, marks.at, marks.len, count);
     WANT(stays(index) && stays(table));
@@ -548,7 +540,7 @@ static uint32_t list(part index, const uint64_t opened[8], part table, part mark
 }
 
 static void listings(void) {
-    uint64_t opened[8], count;
+    uint64_t opened[9], count;
     part index = part_of(worked, sizeof worked), table = one_byte('c'), marks = filled(0xcc, 3), tight = filled(0xcc, 2);
     WANT(open_part(index, opened) == ROSMAREL_OK);
     WANT(list(index, opened, table, tight, &count) == ROSMAREL_ROOM);
@@ -600,6 +592,54 @@ static uint64_t shared(const char *left, const char *right) {
     return len;
 }
 
+/* ---- records that no opening gave */
+
+/* No call takes the record for one of these bytes, whatever else it is given. */
+static void all_refuse(part index, const uint64_t opened[9]) {
+    found f;
+    uint64_t count;
+    part ids = filled(0xcc, 8), nothing = filled(0, 0), table = one_byte('c'), marks = filled(0xcc, 3), no_table = filled(0, 1);
+    WANT(by_id(index, opened, 0, &f) == ROSMAREL_OPENED && is_zero(f));
+    WANT(by_id(index, opened, UINT64_MAX, &f) == ROSMAREL_OPENED && is_zero(f));
+    WANT(by_ordinal(index, opened, 0, &f) == ROSMAREL_OPENED && is_zero(f));
+    WANT(by_ordinal(index, opened, UINT64_MAX, &f) == ROSMAREL_OPENED && is_zero(f));
+    WANT(by_key(index, opened, "b", &f) == ROSMAREL_OPENED && is_zero(f));
+    WANT(by_key(index, opened, "g", &f) == ROSMAREL_OPENED && is_zero(f));
+    WANT(BATCH("b", ids, 0, 1) == ROSMAREL_OPENED && BATCH("b", ids, 0) == ROSMAREL_OPENED);
+    WANT(by_keys(index, opened, NULL, 0, "", nothing) == ROSMAREL_OPENED);
+    for (uint64_t id = 0; id < 4; id++) WANT(separator_is(index, opened, id, 0, 0));
+    WANT(list(index, opened, table, marks, &count) == ROSMAREL_OPENED);
+    WANT(list(index, opened, no_table, nothing, &count) == ROSMAREL_OPENED);
+    drop(ids), drop(nothing), drop(table), drop(marks), drop(no_table);
+}
+
+/* Records that no opening gave: each lookup refuses them, or answers some block. */
+static void foreign_records(void) {
+    uint64_t opened[9];
+    found f;
+    part index = part_of(worked, sizeof worked), nothing = filled(0, 0);
+    WANT(open_part(index, opened) == ROSMAREL_OK);
+    for (size_t i = 0; i < 9; i++) {
+        if (i == 7) continue; /* the number of terms is free */
+        uint64_t was = opened[i];
+        opened[i] = UINT64_MAX;
+        all_refuse(index, opened);
+        opened[i] = was;
+    }
+    for (size_t i = 0; i < NO_VERSIONS; i++) {
+        opened[8] = no_versions[i];
+        all_refuse(index, opened);
+    }
+    /* groups that aren't full are the same in both */
+    opened[8] = other_version();
+    WANT(by_id(index, opened, 2, &f) == ROSMAREL_OK && f.start == 25 && by_ordinal(index, opened, 8, &f) == ROSMAREL_OK && f.id == 1);
+    all_refuse(nothing, opened);
+    put(index, 55, 3, 8); /* all ordinals are 3 higher */
+    WANT(open_part(index, opened) == ROSMAREL_OK);
+    WANT(by_ordinal(index, opened, 2, &f) == ROSMAREL_BELOW && is_zero(f));
+    drop(index), drop(nothing);
+}
+
 /* ---- an index of several groups: every length of key, each block found again */
 
 static size_t key_of(size_t i, uint8_t *key) {
@@ -611,7 +651,7 @@ static size_t key_of(size_t i, uint8_t *key) {
 }
 
 /* The keys of 64 blocks from all over the index, in one batch. */
-static void batch_of_groups(part index, const uint64_t opened[8], size_t n) {
+static void batch_of_groups(part index, const uint64_t opened[9], size_t n) {
     uint8_t bytes[64 * 101];
     uint64_t pairs[2 * 64];
     size_t len = 0;
@@ -628,8 +668,31 @@ static void batch_of_groups(part index, const uint64_t opened[8], size_t n) {
     drop(lent), drop(keys), drop(ids);
 }
 
-/* The same blocks, the fields of the first two groups in each other's place. */
-static void exchanged_groups(part index, const uint64_t opened[8]) {
+static rosmarel_block_addr block_of(size_t i) { return (rosmarel_block_addr){i * i, (i + 1) * (i + 1), 3 * i}; }
+
+static areas many_blocks(size_t n) {
+    uint8_t key[101];
+    areas a = areas_for(n, n * sizeof key);
+    for (size_t i = 0; i < n; i++) {
+        size_t len = key_of(i, key);
+        WANT(add(&a, key, len, block_of(i)) == ROSMAREL_OK);
+    }
+    return a;
+}
+
+/* Their index in the version that is set. */
+static part finished(areas a) {
+    uint64_t total, directory_len;
+    WANT(finish_len(a, &total) == ROSMAREL_OK);
+    part index = filled(0xcc, total);
+    WANT(finish(a, index, &total, &directory_len) == ROSMAREL_OK && total == index.len);
+    memcpy(index.kept, index.at, index.len);
+    return index;
+}
+
+/* The same blocks, the fields of the first two of more groups in each other's place. */
+static void exchanged_groups(part index, const uint64_t opened[9]) {
+    size_t in_second = (version == ROSMAREL_V4 ? 256 : 128) + 2;
     part other = part_of(index.at, index.len);
     const uint8_t *records = index.at + opened[3], *fields = index.at + opened[5];
     size_t first = 0, both = 0;
@@ -638,31 +701,41 @@ static void exchanged_groups(part index, const uint64_t opened[8]) {
     memcpy(other.at + opened[5] + (both - first), fields, first);
     memcpy(other.kept, other.at, other.len);
     put(other, opened[3], both - first, 8), put(other, opened[3] + 36, 0, 8);
-    uint64_t again[8];
+    uint64_t again[9];
     found f;
     WANT(open_terms(opened[7], other, again) == ROSMAREL_OK && memcmp(again, opened, sizeof again) == 0);
-    WANT(by_id(other, again, 130, &f) == ROSMAREL_OK && f.start == 130 * 130);
+    WANT(by_id(other, again, in_second, &f) == ROSMAREL_OK && f.start == in_second * in_second);
     WANT(check(other) == ROSMAREL_NOT_CANONICAL);
     drop(other);
 }
 
-static void several_groups(size_t n) {
-    uint8_t key[101];
-    uint64_t total, directory_len, opened[8];
-    found f;
-    areas a = areas_for(n, n * sizeof key);
-    for (size_t i = 0; i < n; i++) {
-        size_t len = key_of(i, key);
-        WANT(add(&a, key, len, (rosmarel_block_addr){i * i, (i + 1) * (i + 1), 3 * i}) == ROSMAREL_OK);
+/* A record with the other version. That of version 4 has too few group records for version 3. Of the other way round only what
+   reads no group is said. */
+static void exchanged_versions(part index, const uint64_t opened[9]) {
+    uint64_t exchanged[9], count, offset, len;
+    memcpy(exchanged, opened, sizeof exchanged);
+    exchanged[8] = other_version();
+    if (version == ROSMAREL_V4) {
+        all_refuse(index, exchanged);
+        return;
     }
-    WANT(finish_len(a, &total) == ROSMAREL_OK);
-    part index = filled(0xcc, total);
-    WANT(finish(a, index, &total, &directory_len) == ROSMAREL_OK && total == index.len);
-    memcpy(index.kept, index.at, index.len);
+    part table = one_byte(0), marks = filled(0xcc, opened[0]);
+    WANT(list(index, exchanged, table, marks, &count) == ROSMAREL_OK && count == 1 && marks.at[0] == 1);
+    rosmarel_separator(index.at, index.len, opened, 200, &offset, &len);
+    WANT(len > 0 && separator_is(index, exchanged, 200, offset, len));
+    drop(table), drop(marks);
+}
+
+static void several_groups(size_t n) {
+    uint64_t opened[9];
+    found f;
+    areas a = many_blocks(n);
+    part index = finished(a);
     WANT(open_terms(3 * (n - 1), index, opened) == ROSMAREL_TERMS);
     WANT(open_terms(3 * n, index, opened) == ROSMAREL_OK && opened[0] == n);
     WANT(check(index) == ROSMAREL_OK);
     exchanged_groups(index, opened);
+    exchanged_versions(index, opened);
     WANT(by_ordinal(index, opened, 3 * n, &f) == ROSMAREL_NO_TERM && is_zero(f));
     for (size_t i = 0; i < n; i++) {
         WANT(by_id(index, opened, i, &f) == ROSMAREL_OK && f.start == i * i && f.end == (i + 1) * (i + 1));
@@ -676,10 +749,71 @@ static void several_groups(size_t n) {
     drop_areas(a);
 }
 
-int main(void) {
-    WANT(rosmarel_interface() == ROSMAREL_INTERFACE);
-    WANT(shared("abcdef", "abf") == 2 && shared("", "a") == 0 && shared("aaaaaaaaaaaaaaaaa", "aaaaaaaaaaaaaaaaa") == 17);
-    adding();
+/* ---- versions */
+
+/* 30 comes before all other numbers, and before what is accepted without a look at the version. */
+static void unknown_versions(void) {
+    uint64_t total, directory_len, opened[9];
+    areas a = three_blocks(), none = areas_for(0, 0), over = a, broken = three_blocks();
+    part out = filled(0xcc, 85), nothing = filled(0, 0), index = part_of(worked, sizeof worked), cut = part_of(worked, 7);
+    rosmarel_block_addr turned = {1, 0, 0};
+    over.n = 65537;
+    numbers(broken.blocks)[5 + 2] = 10; /* an ordinal above the next one */
+    keep(&broken);
+    const areas lists[] = {a, none, over, broken};
+    const part files[] = {index, cut, nothing};
+    for (size_t i = 0; i < NO_VERSIONS; i++) {
+        version = no_versions[i];
+        for (size_t k = 0; k < sizeof lists / sizeof *lists; k++) {
+            WANT(finish_len(lists[k], &total) == ROSMAREL_NO_VERSION);
+            WANT(finish(lists[k], out, &total, &directory_len) == ROSMAREL_NO_VERSION);
+            WANT(finish(lists[k], nothing, &total, &directory_len) == ROSMAREL_NO_VERSION);
+        }
+        WANT(store(three, 3, out, 0) == ROSMAREL_NO_VERSION && store(three, 3, nothing, 0) == ROSMAREL_NO_VERSION);
+        WANT(store(three, 0, out, 0) == ROSMAREL_NO_VERSION && store(&turned, 1, out, 0) == ROSMAREL_NO_VERSION);
+        for (size_t k = 0; k < sizeof files / sizeof *files; k++) {
+            WANT(open_terms(12, files[k], opened) == ROSMAREL_NO_VERSION && open_terms(0, files[k], opened) == ROSMAREL_NO_VERSION);
+            WANT(check(files[k]) == ROSMAREL_NO_VERSION);
+        }
+    }
+    drop(out), drop(nothing), drop(index), drop(cut);
+    drop_areas(a), drop_areas(none), drop_areas(broken);
+}
+
+/* The store of the blocks alone is what stands between the index's directory and its last 8 bytes. */
+static void stores_alike(size_t n, part index, size_t directory_len) {
+    size_t len = index.len - directory_len - 8;
+    rosmarel_block_addr *blocks = fresh(n * sizeof *blocks);
+    part out = filled(0xcc, len), tight = filled(0xcc, len - 1);
+    for (size_t i = 0; i < n; i++) blocks[i] = block_of(i);
+    WANT(store(blocks, n, out, len) == ROSMAREL_OK && memcmp(out.at, index.at + directory_len, len) == 0);
+    WANT(store(blocks, n, tight, 0) == ROSMAREL_OUTPUT_SHORT);
+    drop(out), drop(tight);
+    free(blocks);
+}
+
+/* One list in both versions: the same bytes up to 128 blocks, and above them 14 with the other version. */
+static void both_versions(size_t n) {
+    uint64_t opened[9];
+    areas a = many_blocks(n);
+    part files[2];
+    for (size_t i = 0; i < 2; i++) version = versions[i], files[i] = finished(a);
+    bool same = files[0].len == files[1].len && memcmp(files[0].at, files[1].at, files[0].len) == 0;
+    WANT(same == (n <= 128));
+    for (size_t i = 0; i < 2; i++) {
+        uint32_t with_other = n <= 128 ? ROSMAREL_OK : ROSMAREL_RECORDS;
+        version = versions[i];
+        WANT(open_terms(3 * n, files[i], opened) == ROSMAREL_OK && check(files[i]) == ROSMAREL_OK);
+        stores_alike(n, files[i], opened[2]);
+        version = other_version();
+        WANT(open_terms(3 * n, files[i], opened) == with_other && check(files[i]) == with_other);
+        WANT(open_terms(0, files[i], opened) == (n <= 128 ? ROSMAREL_TERMS : ROSMAREL_RECORDS));
+    }
+    drop(files[0]), drop(files[1]);
+    drop_areas(a);
+}
+
+static void in_one_version(void) {
     finishing();
     storing();
     opening();
@@ -689,11 +823,21 @@ int main(void) {
     terms_by_hand();
     batch_example();
     batches();
-    foreign_records();
     listings();
-    examples();
-    several_groups(300);
+    foreign_records();
+    several_groups(600);
     several_groups(5000);
+}
+
+int main(void) {
+    WANT(rosmarel_interface() == ROSMAREL_INTERFACE);
+    WANT(shared("abcdef", "abf") == 2 && shared("", "a") == 0 && shared("aaaaaaaaaaaaaaaaa", "aaaaaaaaaaaaaaaaa") == 17);
+    adding();
+    examples();
+    for (size_t i = 0; i < 2; i++) version = versions[i], in_one_version();
+    unknown_versions();
+    static const size_t counts[] = {2, 127, 128, 129, 255, 256, 257, 512, 513};
+    for (size_t i = 0; i < sizeof counts / sizeof *counts; i++) both_versions(counts[i]);
     printf("%d failures\n", failures);
     return failures > 0;
 }

@@ -1,6 +1,7 @@
 /* The stack that each exported call takes, at most LIMIT. A call runs on a stack of its own that is painted before it;
-   what is no longer paint afterwards was used. Calls run on small and on the largest inputs, refused ones too, and the
-   deepest counts. What the switch to the painted stack takes is subtracted: it is that of a call that does nothing. */
+   what is no longer paint afterwards was used. Calls run on small and on the largest inputs in both versions, refused ones
+   too, and the deepest counts. What the switch to the painted stack takes is subtracted: it is that of a call that does
+   nothing. */
 #include <rosmarel.h>
 
 #include <stdio.h>
@@ -58,7 +59,7 @@ static void measure(const char *name, void (*call)(void)) {
 
 /* ---- what the calls are lent */
 
-static uint64_t n, terms, ord, opened[8], word[4];
+static uint64_t version, n, terms, ord, opened[9], word[4];
 static uint64_t blocks[5 * MOST];
 static rosmarel_block_addr addrs[MOST];
 static uint8_t *keys, *out, marks[MOST];
@@ -104,16 +105,16 @@ static void call_add(void) {
 static void call_shorten(void) { answer = rosmarel_shorten(n, blocks, 5 * n, keys, keys_room, end_key, key_len); }
 
 static void call_finish(void) {
-    answer = rosmarel_finish(n, blocks, 5 * n, keys, keys_room, out, out_len, &word[0], &word[1]);
+    answer = rosmarel_finish(version, n, blocks, 5 * n, keys, keys_room, out, out_len, &word[0], &word[1]);
 }
 
-static void call_finish_len(void) { answer = rosmarel_finish_len(n, blocks, 5 * n, keys, keys_room, &word[0]); }
+static void call_finish_len(void) { answer = rosmarel_finish_len(version, n, blocks, 5 * n, keys, keys_room, &word[0]); }
 
-static void call_store(void) { answer = rosmarel_store(addrs, n, out, out_len, &word[0]); }
+static void call_store(void) { answer = rosmarel_store(version, addrs, n, out, out_len, &word[0]); }
 
-static void call_open(void) { answer = rosmarel_open(terms, out, index_len, opened); }
+static void call_open(void) { answer = rosmarel_open(version, terms, out, index_len, opened); }
 
-static void call_check_canonical(void) { answer = rosmarel_check_canonical(out, index_len); }
+static void call_check_canonical(void) { answer = rosmarel_check_canonical(version, out, index_len); }
 
 static void call_get_block(void) {
     answer = rosmarel_get_block(out, index_len, opened, n - 1, &word[0], &word[1], &word[2]);
@@ -186,6 +187,17 @@ static void add_blocks(void) {
     }
 }
 
+static void unknown_version(void) {
+    uint64_t known = version;
+    version = 5;
+    ANSWERED(30, finish);
+    ANSWERED(30, finish_len);
+    ANSWERED(30, store);
+    ANSWERED(30, open);
+    ANSWERED(30, check_canonical);
+    version = known;
+}
+
 static void building(void) {
     add_blocks();
     ANSWERED(0, add);
@@ -201,6 +213,7 @@ static void building(void) {
     write_key(end_key, key_len, 0);
     ANSWERED(6, add);
     ANSWERED(6, shorten);
+    unknown_version();
     free(keys);
 }
 
@@ -261,6 +274,9 @@ static void lookups(void) {
     opened[0] = MOST + 1;
     ANSWERED(20, get_block);
     opened[0] = n;
+    opened[8] = 5;
+    ANSWERED(20, get_block);
+    opened[8] = version;
 }
 
 /* ---- patterns */
@@ -326,22 +342,26 @@ static void intervals(size_t len) {
     MEASURE(common_prefix_len);
 }
 
+static void of_kind(int kind) {
+    key_len = kind == 1 && n <= 1000 ? LONGEST : 40;
+    plan_blocks(kind);
+    building();
+    lookups();
+    listings();
+    free(out);
+    out_len = 8 + 36 * ((n + 127) / 128) + 16 * n + 16;
+    out = room(out_len);
+    ANSWERED(0, store);
+    free(out);
+}
+
 int main(void) {
-    static const size_t counts[] = {2, 128, 129, 1000, MOST};
+    static const size_t counts[] = {2, 128, 129, 256, 257, 1000, MOST};
     MEASURE(interface);
-    for (size_t i = 0; i < sizeof counts / sizeof *counts; i++) {
-        n = counts[i];
-        for (int kind = 0; kind < 3; kind++) {
-            key_len = kind == 1 && n <= 1000 ? LONGEST : 40;
-            plan_blocks(kind);
-            building();
-            lookups();
-            listings();
-            free(out);
-            out_len = 8 + 36 * ((n + 127) / 128) + 16 * n + 16;
-            out = room(out_len);
-            ANSWERED(0, store);
-            free(out);
+    for (version = ROSMAREL_V3; version <= ROSMAREL_V4; version++) {
+        for (size_t i = 0; i < sizeof counts / sizeof *counts; i++) {
+            n = counts[i];
+            for (int kind = 0; kind < 3; kind++) of_kind(kind);
         }
     }
     intervals(4);

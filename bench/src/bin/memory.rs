@@ -1,4 +1,5 @@
-//! The stack that each call of the archive takes, and what the Rust's calls allocate. A line each, tabs between the parts.
+//! The stack that each call of the archive takes, the deeper one of both versions, and what the Rust's calls allocate, in
+//! version 3. A line each, tabs between the parts.
 
 use std::alloc::{GlobalAlloc, Layout, System};
 use std::arch::asm;
@@ -10,7 +11,7 @@ use rosmarel_bench::calls::by_keys::{BATCH, Batch};
 use rosmarel_bench::ffi;
 use rosmarel_bench::inputs::{Input, Keys, areas, rust_builder, theirs};
 use rosmarel_bench::patterns::{self, Table};
-use tantivy_sstable::access;
+use tantivy_sstable::{Block, Builder as _, Index as _, Rust, V3, V4, access};
 
 static COUNT: AtomicUsize = AtomicUsize::new(0);
 static BYTES: AtomicUsize = AtomicUsize::new(0);
@@ -88,6 +89,12 @@ fn stack(mut call: impl FnMut()) -> usize {
     painted(&mut call).saturating_sub(empty)
 }
 
+/// The deeper stack of a call over the two indexes.
+fn deeper(inputs: &[Input; 2], mut call: impl FnMut(&Input)) -> usize {
+    let stacks = inputs.each_ref().map(|input| stack(|| call(input)));
+    stacks[0].max(stacks[1])
+}
+
 /// A line; a call without a counterpart has two dashes at its end.
 fn line(call: &str, n: usize, stack: usize, rust: Option<(usize, usize)>) {
     let rust = rust.map_or("-\t-".to_string(), |(count, bytes)| {
@@ -96,10 +103,11 @@ fn line(call: &str, n: usize, stack: usize, rust: Option<(usize, usize)>) {
     println!("{call}\t{n}\t{stack}\t{rust}");
 }
 
-fn building(input: &Input) {
+fn building(inputs: &[Input; 2]) {
+    let input = &inputs[0];
     let n = input.n as u64;
     let (mut blocks, mut keys) = areas(&input.keys, &input.blocks);
-    let mut builder = rust_builder(&input.keys, &input.blocks);
+    let mut builder = rust_builder::<V3>(&input.keys, &input.blocks);
     let (last, block) = (input.keys.last().unwrap(), *input.blocks.last().unwrap());
     let add = stack(|| {
         ffi::add(&mut (n - 1), &mut blocks, &mut keys, last, block).unwrap();
@@ -111,67 +119,70 @@ fn building(input: &Input) {
         add,
         allocations(|| other.add_block(last, theirs(block))),
     );
-    let mut out = vec![0; input.index.len()];
-    let finish = stack(|| {
-        ffi::finish(n, &blocks, &keys, &mut out).unwrap();
+    let mut out = vec![0; input.index.len().max(inputs[1].index.len())];
+    let finish = deeper(inputs, |input| {
+        ffi::finish(input.version(), n, &blocks, &keys, &mut out).unwrap();
     });
     let mut bytes = Vec::with_capacity(input.index.len());
     let rust = allocations(|| builder.serialize(&mut bytes));
     line("rosmarel_finish", input.n, finish, rust);
-    let finish_len = stack(|| {
-        ffi::finish_len(n, &blocks, &keys).unwrap();
+    let finish_len = deeper(inputs, |input| {
+        ffi::finish_len(input.version(), n, &blocks, &keys).unwrap();
     });
     line("rosmarel_finish_len", input.n, finish_len, None);
     let shorten = stack(|| ffi::shorten(n, &mut blocks, &mut keys, b"zz").unwrap());
     let rust = allocations(|| builder.shorten_last_block_key_given_next_key(b"zz"));
     line("rosmarel_shorten", input.n, shorten, rust);
-    let rust_blocks: Vec<access::Block> = input.blocks.iter().map(|&block| theirs(block)).collect();
-    let store = stack(|| {
-        ffi::store(&input.blocks, &mut out).unwrap();
+    let rust_blocks: Vec<Block> = input.blocks.iter().map(|&block| theirs(block)).collect();
+    let store = deeper(inputs, |input| {
+        ffi::store(input.version(), &input.blocks, &mut out).unwrap();
     });
     bytes.clear();
-    let rust = allocations(|| access::append_store(&rust_blocks, &mut bytes));
+    let rust = allocations(|| V3::append_store(&rust_blocks, &mut bytes));
     line("rosmarel_store", input.n, store, rust);
 }
 
-fn looking_up(input: &Input) {
-    let (index, opened) = (&input.index[..], &input.opened);
-    let shared = OwnedBytes::new(index.to_vec());
+fn looking_up(inputs: &[Input; 2]) {
+    let input = &inputs[0];
+    let shared = OwnedBytes::new(input.index.clone());
     let rust = access::Index::load(shared.clone());
     let (id, key) = (input.n as u64 / 3, &input.keys[input.n / 3][..]);
     let ord = input.blocks[input.n / 3].first_ordinal;
-    let taken = stack(|| {
-        black_box(ffi::open(input.least_terms(), index).unwrap());
+    let taken = deeper(inputs, |input| {
+        let answer = ffi::open(input.version(), input.least_terms(), &input.index);
+        black_box(answer.unwrap());
     });
     let of_rust = allocations(|| {
         black_box(access::Index::load(shared.clone()));
     });
     line("rosmarel_open", input.n, taken, of_rust);
-    let taken = stack(|| ffi::check_canonical(index).unwrap());
+    let taken = deeper(inputs, |input| {
+        ffi::check_canonical(input.version(), &input.index).unwrap();
+    });
     line("rosmarel_check_canonical", input.n, taken, None);
-    let taken = stack(|| {
-        black_box(ffi::get_block(index, opened, id).unwrap());
+    let taken = deeper(inputs, |input| {
+        black_box(ffi::get_block(&input.index, &input.opened, id).unwrap());
     });
     let of_rust = allocations(|| {
         black_box(rust.get_block(id));
     });
     line("rosmarel_get_block", input.n, taken, of_rust);
-    let taken = stack(|| {
-        black_box(ffi::locate_with_ord(index, opened, ord).unwrap());
+    let taken = deeper(inputs, |input| {
+        black_box(ffi::locate_with_ord(&input.index, &input.opened, ord).unwrap());
     });
     let of_rust = allocations(|| {
         black_box(rust.get_and_locate_with_ord(ord));
     });
     line("rosmarel_locate_with_ord", input.n, taken, of_rust);
-    let taken = stack(|| {
-        black_box(ffi::locate_with_key(index, opened, key).unwrap());
+    let taken = deeper(inputs, |input| {
+        black_box(ffi::locate_with_key(&input.index, &input.opened, key).unwrap());
     });
     let of_rust = allocations(|| {
         black_box(rust.locate_with_key(key));
     });
     line("rosmarel_locate_with_key", input.n, taken, of_rust);
-    let taken = stack(|| {
-        black_box(ffi::get_block_with_key(index, opened, key).unwrap());
+    let taken = deeper(inputs, |input| {
+        black_box(ffi::get_block_with_key(&input.index, &input.opened, key).unwrap());
     });
     let of_rust = allocations(|| {
         black_box(rust.get_block_with_key(key));
@@ -182,7 +193,8 @@ fn looking_up(input: &Input) {
         .collect();
     let batch = Batch::new(&wanted);
     let mut ids = [0; BATCH];
-    let taken = stack(|| {
+    let taken = deeper(inputs, |input| {
+        let (index, opened) = (&input.index, &input.opened);
         ffi::locate_with_keys(index, opened, &batch.pairs, &batch.keys, &mut ids).unwrap();
     });
     let of_rust = allocations(|| {
@@ -191,17 +203,18 @@ fn looking_up(input: &Input) {
         }
     });
     line("rosmarel_locate_with_keys", input.n, taken, of_rust);
-    let taken = stack(|| {
-        black_box(ffi::separator(index, opened, id));
+    let taken = deeper(inputs, |input| {
+        black_box(ffi::separator(&input.index, &input.opened, id));
     });
     line("rosmarel_separator", input.n, taken, None);
 }
 
-fn matching(input: &Input) {
+fn matching(inputs: &[Input; 2]) {
+    let input = &inputs[0];
     let table = patterns::follow(54);
     let rust = access::Index::open(&input.index);
     let mut marks = vec![0; input.n];
-    let taken = stack(|| {
+    let taken = deeper(inputs, |input| {
         ffi::list(&input.index, &input.opened, &table, &mut marks).unwrap();
     });
     let of_rust = allocations(|| {
@@ -240,9 +253,12 @@ fn matching(input: &Input) {
 
 fn main() {
     for n in [2, 1_000, 65_536] {
-        let input = Input::new(Keys::Shared, n);
-        building(&input);
-        looking_up(&input);
-        matching(&input);
+        let inputs = [
+            Input::new::<V3>(Keys::Shared, n),
+            Input::new::<V4>(Keys::Shared, n),
+        ];
+        building(&inputs);
+        looking_up(&inputs);
+        matching(&inputs);
     }
 }

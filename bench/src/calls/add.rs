@@ -2,8 +2,8 @@
 
 use std::hint::black_box;
 
-use rosmarel::Builder;
-use tantivy_sstable::access;
+use rosmarel::{Builder, Version};
+use tantivy_sstable::{Builder as _, access};
 
 use super::{Call, Family, Plots, Whose};
 use crate::ffi;
@@ -15,6 +15,7 @@ use crate::report::{Report, Row};
 pub const FAMILY: Family = Family {
     calls: &[ADD, CRATE],
     measure,
+    measure_v4: None,
 };
 
 const ADD: Call = Call {
@@ -64,7 +65,7 @@ fn measure_lent(report: &mut Report, input: &Input, row: Row) {
     if report.first_pass() {
         // the Rust's builder wrote the input's index
         let mut out = vec![0; input.index.len()];
-        ffi::finish(input.n as u64, &numbers, &bytes, &mut out).unwrap();
+        ffi::finish(3, input.n as u64, &numbers, &bytes, &mut out).unwrap();
         assert!(out == input.index);
     }
     let batch = ADDS.div_ceil(input.n);
@@ -83,7 +84,9 @@ fn measure_lent(report: &mut Report, input: &Input, row: Row) {
 
 fn measure_grown(report: &mut Report, input: &Input, row: Row) {
     if report.first_pass() {
-        let index = our_builder(&input.keys, &input.blocks).finish().unwrap();
+        let index = our_builder(&input.keys, &input.blocks)
+            .finish(Version::V3)
+            .unwrap();
         assert!(index == input.index);
     }
     let batch = ADDS.div_ceil(input.n);

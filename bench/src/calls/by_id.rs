@@ -2,9 +2,9 @@
 
 use std::hint::black_box;
 
-use tantivy_sstable::access;
+use tantivy_sstable::{Rust, Store as _, V3, V4};
 
-use super::{Call, Family, Plots, Whose};
+use super::{Call, Family, IN_V4, Plots, Whose, in_version};
 use crate::ffi;
 use crate::inputs::{Input, Keys, Numbers, theirs};
 use crate::measure::side;
@@ -12,8 +12,9 @@ use crate::plot::Scale;
 use crate::report::{Report, Row};
 
 pub const FAMILY: Family = Family {
-    calls: &[BY_ID],
-    measure,
+    calls: &[BY_ID, BY_ID_V4],
+    measure: measure::<V3>,
+    measure_v4: Some(measure::<V4>),
 };
 
 const BY_ID: Call = Call {
@@ -26,17 +27,25 @@ const BY_ID: Call = Call {
     plots: Plots::One,
 };
 
+const BY_ID_V4: Call = Call {
+    what: "get by id, version 4",
+    says: IN_V4,
+    plots: Plots::None,
+    ..BY_ID
+};
+
 /// Questions in one piece of work, made beforehand.
 pub const QUESTIONS: usize = 4_096;
 
 /// The store of the index, open on the Rust's side.
-pub fn store(input: &Input) -> access::Store {
+pub fn store<R: Rust>(input: &Input) -> R::Store {
     let end = input.index.len() - 8;
-    access::Store::open(&input.index[input.opened[2] as usize..end])
+    R::Store::open(&input.index[input.opened[2] as usize..end])
 }
 
-fn measure(report: &mut Report, input: &Input) {
-    let row = Row::new(BY_ID.what, input.kind.name(), input.n).held(1.0);
+fn measure<R: Rust>(report: &mut Report, input: &Input) {
+    let call = in_version::<R>(&BY_ID, &BY_ID_V4);
+    let row = Row::new(call.what, input.kind.name(), input.n).held(1.0);
     // no key is looked at
     if input.kind != Keys::Short || !report.wants(&row) {
         return;
@@ -45,7 +54,7 @@ fn measure(report: &mut Report, input: &Input) {
     let ids: Vec<u64> = (0..QUESTIONS)
         .map(|_| numbers.below(input.n) as u64)
         .collect();
-    let store = store(input);
+    let store = store::<R>(input);
     if report.first_pass() {
         for &id in &ids {
             let ours = ffi::get_block(&input.index, &input.opened, id).unwrap();

@@ -2,10 +2,10 @@
 
 use std::hint::black_box;
 
-use tantivy_sstable::access;
+use tantivy_sstable::{Index as _, Rust, V3, V4, access};
 
 use super::by_id::QUESTIONS;
-use super::{Call, Family, Plots, Whose};
+use super::{Call, Family, IN_V4, Plots, Whose, in_version};
 use crate::ffi;
 use crate::inputs::{Input, Numbers, theirs};
 use crate::measure::side;
@@ -13,8 +13,9 @@ use crate::plot::Scale;
 use crate::report::{Report, Row};
 
 pub const FAMILY: Family = Family {
-    calls: &[LOCATE, GET],
+    calls: &[LOCATE, GET, GET_V4],
     measure,
+    measure_v4: Some(measure_get::<V4>),
 };
 
 const LOCATE: Call = Call {
@@ -38,14 +39,26 @@ const GET: Call = Call {
     plots: Plots::One,
 };
 
+const GET_V4: Call = Call {
+    what: "get by key, version 4",
+    says: IN_V4,
+    plots: Plots::None,
+    ..GET
+};
+
 fn measure(report: &mut Report, input: &Input) {
     let row = Row::new(LOCATE.what, input.kind.name(), input.n).held(1.0);
     if report.wants(&row) {
         locate(report, input, row);
     }
-    let row = Row::new(GET.what, input.kind.name(), input.n).held(1.0);
+    measure_get::<V3>(report, input);
+}
+
+fn measure_get<R: Rust>(report: &mut Report, input: &Input) {
+    let call = in_version::<R>(&GET, &GET_V4);
+    let row = Row::new(call.what, input.kind.name(), input.n).held(1.0);
     if report.wants(&row) {
-        get(report, input, row);
+        get::<R>(report, input, row);
     }
 }
 
@@ -93,9 +106,9 @@ fn locate(report: &mut Report, input: &Input, row: Row) {
     report.measure(row, sides, QUESTIONS);
 }
 
-fn get(report: &mut Report, input: &Input, row: Row) {
+fn get<R: Rust>(report: &mut Report, input: &Input, row: Row) {
     let keys = wanted(input);
-    let rust_index = access::Index::open(&input.index);
+    let rust_index = R::Index::open(&input.index);
     if report.first_pass() {
         for key in &keys {
             let (_, block) = ffi::get_block_with_key(&input.index, &input.opened, key).unwrap();

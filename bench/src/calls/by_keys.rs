@@ -2,7 +2,7 @@
 
 use std::hint::black_box;
 
-use tantivy_sstable::access;
+use tantivy_sstable::{Index as _, access};
 
 use super::by_id::QUESTIONS;
 use super::by_key::wanted;
@@ -16,6 +16,7 @@ use crate::report::{Report, Row};
 pub const FAMILY: Family = Family {
     calls: &[BATCHES],
     measure,
+    measure_v4: None,
 };
 
 const BATCHES: Call = Call {

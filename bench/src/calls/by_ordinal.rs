@@ -2,8 +2,10 @@
 
 use std::hint::black_box;
 
+use tantivy_sstable::{Rust, Store as _, V3, V4};
+
 use super::by_id::{QUESTIONS, store};
-use super::{Call, Family, Plots, Whose};
+use super::{Call, Family, IN_V4, Plots, Whose, in_version};
 use crate::ffi;
 use crate::inputs::{Input, Keys, Numbers, theirs};
 use crate::measure::side;
@@ -11,8 +13,9 @@ use crate::plot::Scale;
 use crate::report::{Report, Row};
 
 pub const FAMILY: Family = Family {
-    calls: &[BY_ORDINAL],
-    measure,
+    calls: &[BY_ORDINAL, BY_ORDINAL_V4],
+    measure: measure::<V3>,
+    measure_v4: Some(measure::<V4>),
 };
 
 const BY_ORDINAL: Call = Call {
@@ -27,9 +30,17 @@ const BY_ORDINAL: Call = Call {
     plots: Plots::One,
 };
 
+const BY_ORDINAL_V4: Call = Call {
+    what: "get by ordinal, version 4",
+    says: IN_V4,
+    plots: Plots::None,
+    ..BY_ORDINAL
+};
+
 /// Ordinals below the number of terms.
-fn measure(report: &mut Report, input: &Input) {
-    let row = Row::new(BY_ORDINAL.what, input.kind.name(), input.n).held(1.0);
+fn measure<R: Rust>(report: &mut Report, input: &Input) {
+    let call = in_version::<R>(&BY_ORDINAL, &BY_ORDINAL_V4);
+    let row = Row::new(call.what, input.kind.name(), input.n).held(1.0);
     // no key is looked at
     if input.kind != Keys::Short || !report.wants(&row) {
         return;
@@ -39,7 +50,7 @@ fn measure(report: &mut Report, input: &Input) {
     let ords: Vec<u64> = (0..QUESTIONS)
         .map(|_| numbers.below(terms) as u64)
         .collect();
-    let store = store(input);
+    let store = store::<R>(input);
     if report.first_pass() {
         for &ord in &ords {
             let (id, block) = ffi::locate_with_ord(&input.index, &input.opened, ord).unwrap();

@@ -2,7 +2,9 @@
 
 use std::hint::black_box;
 
-use super::{Call, Family, Plots, Whose};
+use tantivy_sstable::{Rust, V3, V4};
+
+use super::{Call, Family, IN_V4, Plots, Whose, in_version};
 use crate::ffi;
 use crate::inputs::{Input, areas};
 use crate::measure::side;
@@ -10,8 +12,9 @@ use crate::plot::Scale;
 use crate::report::{Report, Row};
 
 pub const FAMILY: Family = Family {
-    calls: &[CHECK],
-    measure,
+    calls: &[CHECK, CHECK_V4],
+    measure: measure::<V3>,
+    measure_v4: Some(measure::<V4>),
 };
 
 const CHECK: Call = Call {
@@ -26,11 +29,19 @@ const CHECK: Call = Call {
     plots: Plots::One,
 };
 
+const CHECK_V4: Call = Call {
+    what: "check canonical, version 4",
+    says: IN_V4,
+    plots: Plots::None,
+    ..CHECK
+};
+
 /// How often the other side opens and finishes.
 const TIMES: usize = 3;
 
-fn measure(report: &mut Report, input: &Input) {
-    let row = Row::new(CHECK.what, input.kind.name(), input.n).held(1.0);
+fn measure<R: Rust>(report: &mut Report, input: &Input) {
+    let call = in_version::<R>(&CHECK, &CHECK_V4);
+    let row = Row::new(call.what, input.kind.name(), input.n).held(1.0);
     if !report.wants(&row) {
         return;
     }
@@ -39,19 +50,21 @@ fn measure(report: &mut Report, input: &Input) {
     let (n, terms) = (input.n as u64, input.least_terms());
     let mut out = vec![0; index.len()];
     if report.first_pass() {
-        compare(index);
-        ffi::finish(n, &numbers, &bytes, &mut out).unwrap();
+        compare(R::VERSION, index);
+        ffi::finish(R::VERSION, n, &numbers, &bytes, &mut out).unwrap();
         assert!(out == index);
     }
-    let ours = side(|| ffi::check_canonical(black_box(index)).unwrap());
+    let version = black_box(R::VERSION);
+    let ours = side(|| ffi::check_canonical(version, black_box(index)).unwrap());
     let both = side(|| {
         for _ in 0..TIMES {
-            let _ = black_box(ffi::open(terms, black_box(index)).unwrap());
+            let _ = black_box(ffi::open(version, terms, black_box(index)).unwrap());
             let (numbers, bytes) = black_box((&numbers[..], &bytes[..]));
-            let _ = black_box(ffi::finish(n, numbers, bytes, black_box(&mut out)).unwrap());
+            let out = black_box(&mut out);
+            let _ = black_box(ffi::finish(version, n, numbers, bytes, out).unwrap());
         }
     });
-    let opening = side(|| ffi::open(terms, black_box(index)).unwrap());
+    let opening = side(|| ffi::open(version, terms, black_box(index)).unwrap());
     let sides = vec![
         ("ours", ours),
         ("3 × (opening + finish)", both),
@@ -61,10 +74,10 @@ fn measure(report: &mut Report, input: &Input) {
 }
 
 /// The index is canonical, and isn't with a byte more behind its groups.
-fn compare(index: &[u8]) {
-    assert_eq!(ffi::check_canonical(index), Ok(()));
+fn compare(version: u64, index: &[u8]) {
+    assert_eq!(ffi::check_canonical(version, index), Ok(()));
     let mut more = index.to_vec();
     more.insert(index.len() - 8, 0);
-    let refusal = ffi::check_canonical(&more).unwrap_err();
+    let refusal = ffi::check_canonical(version, &more).unwrap_err();
     assert_eq!(refusal.number(), 27);
 }

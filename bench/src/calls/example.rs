@@ -16,6 +16,7 @@ use crate::report::{Report, Row};
 pub const FAMILY: Family = Family {
     calls: &[EXAMPLE],
     measure,
+    measure_v4: None,
 };
 
 const EXAMPLE: Call = Call {

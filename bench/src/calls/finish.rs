@@ -2,9 +2,10 @@
 
 use std::hint::black_box;
 
-use rosmarel::BlockAddr;
+use rosmarel::{BlockAddr, Version};
+use tantivy_sstable::{Builder as _, Rust, V3, V4};
 
-use super::{Call, Family, Plots, Whose};
+use super::{Call, Family, IN_V4, Plots, Whose, in_version};
 use crate::ffi;
 use crate::inputs::{Input, Keys, Steps, areas, our_builder, rust_builder};
 use crate::measure::side;
@@ -12,8 +13,9 @@ use crate::plot::Scale;
 use crate::report::{Report, Row};
 
 pub const FAMILY: Family = Family {
-    calls: &[FINISH, CRATE],
-    measure,
+    calls: &[FINISH, FINISH_V4, CRATE],
+    measure: measure::<V3>,
+    measure_v4: Some(measure::<V4>),
 };
 
 const FINISH: Call = Call {
@@ -27,6 +29,13 @@ const FINISH: Call = Call {
     plots: Plots::One,
 };
 
+const FINISH_V4: Call = Call {
+    what: "finish, version 4",
+    says: IN_V4,
+    plots: Plots::None,
+    ..FINISH
+};
+
 const CRATE: Call = Call {
     what: "Builder::finish",
     ours: "`Builder::finish` of bindings/rust: `rosmarel_finish_len`, a zeroed buffer, `rosmarel_finish`",
@@ -38,35 +47,40 @@ const CRATE: Call = Call {
 };
 
 /// All kinds of lists with short keys, random steps with the others.
-fn measure(report: &mut Report, input: &Input) {
+fn measure<R: Rust>(report: &mut Report, input: &Input) {
     for steps in Steps::ALL {
         if steps == Steps::Random {
-            of_list(report, input, input.kind.name(), &input.blocks);
+            of_list::<R>(report, input, input.kind.name(), &input.blocks);
         } else if input.kind == Keys::Short {
             let load = format!("{}, {}", input.kind.name(), steps.name());
-            of_list(report, input, &load, &steps.blocks(input.n));
+            of_list::<R>(report, input, &load, &steps.blocks(input.n));
         }
     }
 }
 
-fn of_list(report: &mut Report, input: &Input, load: &str, blocks: &[BlockAddr]) {
-    let finish = Row::new(FINISH.what, load, input.n).held(1.0);
+fn of_list<R: Rust>(report: &mut Report, input: &Input, load: &str, blocks: &[BlockAddr]) {
+    let call = in_version::<R>(&FINISH, &FINISH_V4);
+    let finish = Row::new(call.what, load, input.n).held(1.0);
     let of_crate = Row::new(CRATE.what, load, input.n).held(1.0);
-    let wanted = [report.wants(&finish), report.wants(&of_crate)];
+    // the crate's call is timed in version 3 alone
+    let wanted = [
+        report.wants(&finish),
+        R::VERSION == 3 && report.wants(&of_crate),
+    ];
     if wanted == [false, false] {
         return;
     }
     let mut index = Vec::new();
-    rust_builder(&input.keys, blocks).serialize(&mut index);
+    rust_builder::<R>(&input.keys, blocks).serialize(&mut index);
     if wanted[0] {
-        measure_finish(report, &input.keys, blocks, &index, finish);
+        measure_finish::<R>(report, &input.keys, blocks, &index, finish);
     }
     if wanted[1] {
         measure_crate(report, &input.keys, blocks, &index, of_crate);
     }
 }
 
-fn measure_finish(
+fn measure_finish<R: Rust>(
     report: &mut Report,
     keys: &[Vec<u8>],
     blocks: &[BlockAddr],
@@ -77,14 +91,14 @@ fn measure_finish(
     let n = row.n as u64;
     let mut out = vec![0; index.len()];
     if report.first_pass() {
-        ffi::finish(n, &numbers, &bytes, &mut out).unwrap();
+        ffi::finish(R::VERSION, n, &numbers, &bytes, &mut out).unwrap();
         assert!(out == index);
     }
-    let builder = rust_builder(keys, blocks);
+    let builder = rust_builder::<R>(keys, blocks);
     let mut rust_out = Vec::with_capacity(index.len());
     let ours = side(|| {
-        let (numbers, bytes) = black_box((&numbers[..], &bytes[..]));
-        ffi::finish(n, numbers, bytes, black_box(&mut out)).unwrap()
+        let (version, numbers, bytes) = black_box((R::VERSION, &numbers[..], &bytes[..]));
+        ffi::finish(version, n, numbers, bytes, black_box(&mut out)).unwrap()
     });
     let rust = side(|| {
         rust_out.clear();
@@ -103,11 +117,11 @@ fn measure_crate(
     row: Row,
 ) {
     let our_builder = our_builder(keys, blocks);
-    let rust_builder = rust_builder(keys, blocks);
+    let rust_builder = rust_builder::<V3>(keys, blocks);
     if report.first_pass() {
-        assert!(our_builder.finish().unwrap() == index);
+        assert!(our_builder.finish(Version::V3).unwrap() == index);
     }
-    let ours = side(|| black_box(&our_builder).finish().unwrap());
+    let ours = side(|| black_box(&our_builder).finish(Version::V3).unwrap());
     let rust = side(|| {
         let mut bytes = Vec::new();
         black_box(&rust_builder).serialize(&mut bytes);

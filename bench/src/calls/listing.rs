@@ -2,10 +2,10 @@
 
 use std::hint::black_box;
 
-use rosmarel::{Automaton, BlockAddr};
-use tantivy_sstable::access;
+use rosmarel::{Automaton, BlockAddr, Version};
+use tantivy_sstable::{Index as _, Rust, V3, V4, access};
 
-use super::{Call, Family, Plots, Whose};
+use super::{Call, Family, IN_V4, Plots, Whose, in_version};
 use crate::ffi;
 use crate::inputs::{Input, Keys, theirs};
 use crate::measure::{Side, side};
@@ -14,8 +14,9 @@ use crate::plot::Scale;
 use crate::report::{Report, Row};
 
 pub const FAMILY: Family = Family {
-    calls: &[MARKS, ADDRESSES, READY],
-    measure,
+    calls: &[MARKS, MARKS_V4, ADDRESSES, ADDRESSES_V4, READY],
+    measure: measure::<V3>,
+    measure_v4: Some(measure_short_keys),
 };
 
 const MARKS: Call = Call {
@@ -29,6 +30,13 @@ const MARKS: Call = Call {
     plots: Plots::ByKeys,
 };
 
+const MARKS_V4: Call = Call {
+    what: "listing, marks, version 4",
+    says: IN_V4,
+    plots: Plots::None,
+    ..MARKS
+};
+
 const ADDRESSES: Call = Call {
     what: "listing, addresses",
     ours: "`Index::get_block_for_automaton` of bindings/rust: marks in a new buffer, then a lookup by id for each",
@@ -38,6 +46,13 @@ const ADDRESSES: Call = Call {
            out which states can match inside the time.",
     scale: Scale::Time,
     plots: Plots::ByKeys,
+};
+
+const ADDRESSES_V4: Call = Call {
+    what: "listing, addresses, version 4",
+    says: IN_V4,
+    plots: Plots::None,
+    ..ADDRESSES
 };
 
 const READY: Call = Call {
@@ -50,8 +65,8 @@ const READY: Call = Call {
     plots: Plots::None,
 };
 
-/// 129 and 16,384 blocks show nothing here that their neighbours don't.
-const SIZES: [usize; 6] = [2, 16, 128, 1_000, 4_096, 65_536];
+/// A block more than a group and 16,384 blocks show nothing here that their neighbours don't.
+const SIZES: [usize; 7] = [2, 16, 128, 256, 1_000, 4_096, 65_536];
 
 /// From so many bytes of a key on a pattern doesn't end early.
 const FAR: usize = 100;
@@ -73,19 +88,30 @@ pub fn of_size(report: &Report, input: &Input) -> bool {
     SIZES.contains(&input.n) && input.n <= most(input.kind, quick)
 }
 
-fn measure(report: &mut Report, input: &Input) {
+/// Short keys alone: what a listing reads of a group is the address of each marked block, whatever its keys.
+fn measure_short_keys(report: &mut Report, input: &Input) {
+    if input.kind == Keys::Short {
+        measure::<V4>(report, input);
+    }
+}
+
+fn measure<R: Rust>(report: &mut Report, input: &Input) {
     if !of_size(report, input) {
         return;
     }
+    let marks = in_version::<R>(&MARKS, &MARKS_V4);
+    let addresses = in_version::<R>(&ADDRESSES, &ADDRESSES_V4);
     for (name, table) in patterns_for(input) {
         let load = format!("{}, {name}", input.kind.name());
-        let rows = [&MARKS, &ADDRESSES, &READY].map(|call| Row::new(call.what, &load, input.n));
-        let wanted = rows.each_ref().map(|row| report.wants(row));
+        let rows = [marks, addresses, &READY].map(|call| Row::new(call.what, &load, input.n));
+        let mut wanted = rows.each_ref().map(|row| report.wants(row));
+        // the last one is timed in version 3 alone
+        wanted[2] &= R::VERSION == 3;
         if !wanted.contains(&true) {
             continue;
         }
         let [marks, addresses, ready] = with_bars(report, input, &table, rows);
-        let listing = Listing::new(report, input, &table);
+        let listing = Listing::<R>::new(report, input, &table);
         if wanted[0] {
             report.measure(marks, listing.marks(), 1);
         }
@@ -129,24 +155,25 @@ fn far_blocks(input: &Input, table: &[u8]) -> usize {
 }
 
 /// A pattern and an index, open on both sides.
-struct Listing<'a> {
+struct Listing<'a, R: Rust> {
     input: &'a Input,
     table: &'a [u8],
     ours: rosmarel::Index<'a>,
     automaton: Automaton,
-    rust: access::Index,
+    rust: R::Index,
     rust_automaton: Table<'a>,
 }
 
-impl<'a> Listing<'a> {
+impl<'a, R: Rust> Listing<'a, R> {
     /// In the first pass all forms must give the same.
-    fn new(report: &Report, input: &'a Input, table: &'a [u8]) -> Listing<'a> {
+    fn new(report: &Report, input: &'a Input, table: &'a [u8]) -> Listing<'a, R> {
+        let version = Version::from_number(input.version()).unwrap();
         let listing = Listing {
             input,
             table,
-            ours: rosmarel::Index::open(&input.index, input.terms()).unwrap(),
+            ours: rosmarel::Index::open(&input.index, version, input.terms()).unwrap(),
             automaton: Automaton::from_table(table).unwrap(),
-            rust: access::Index::open(&input.index),
+            rust: R::Index::open(&input.index),
             rust_automaton: Table::read(table).unwrap(),
         };
         if report.first_pass() {

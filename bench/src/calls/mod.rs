@@ -13,6 +13,8 @@ pub mod opening;
 pub mod shorten;
 pub mod store;
 
+use tantivy_sstable::Rust;
+
 use crate::inputs::Input;
 use crate::plot::Scale;
 use crate::report::Report;
@@ -64,9 +66,23 @@ pub struct Call {
     pub plots: Plots,
 }
 
+/// What is said of a call in version 4. It stands behind the same call in version 3.
+pub const IN_V4: &str = "As above, in version 4: groups of 256 blocks.";
+
+/// Of a call in both versions the one that is meant.
+pub fn in_version<R: Rust>(v3: &'static Call, v4: &'static Call) -> &'static Call {
+    if R::VERSION == 4 { v4 } else { v3 }
+}
+
+/// Measures a family's rows for one index.
+pub type Measure = fn(&mut Report, &Input);
+
 pub struct Family {
     pub calls: &'static [Call],
-    pub measure: fn(&mut Report, &Input),
+    /// For indexes of version 3
+    pub measure: Measure,
+    /// For indexes of version 4, where the family has rows of theirs
+    pub measure_v4: Option<Measure>,
 }
 
 /// In the document's order.

@@ -3,9 +3,9 @@
 use std::hint::black_box;
 
 use common::OwnedBytes;
-use tantivy_sstable::access;
+use tantivy_sstable::{Index as _, Rust, V3, V4, access};
 
-use super::{Call, Family, Plots, Whose};
+use super::{Call, Family, IN_V4, Plots, Whose, in_version};
 use crate::ffi;
 use crate::inputs::Input;
 use crate::measure::side;
@@ -13,8 +13,9 @@ use crate::plot::Scale;
 use crate::report::{Report, Row};
 
 pub const FAMILY: Family = Family {
-    calls: &[PASS, LOAD],
+    calls: &[PASS, PASS_V4, LOAD],
     measure,
+    measure_v4: Some(measure_pass::<V4>),
 };
 
 pub const PASS: Call = Call {
@@ -25,6 +26,13 @@ pub const PASS: Call = Call {
     says: "The pass is ours: the ratio says nothing of tantivy.",
     scale: Scale::Speed,
     plots: Plots::One,
+};
+
+const PASS_V4: Call = Call {
+    what: "opening, version 4",
+    says: IN_V4,
+    plots: Plots::None,
+    ..PASS
 };
 
 const LOAD: Call = Call {
@@ -54,21 +62,33 @@ fn scalar_sum(bytes: &[u8]) -> u64 {
 }
 
 fn open(input: &Input) -> ffi::Opened {
-    let (terms, index) = black_box((input.least_terms(), &input.index));
-    ffi::open(terms, index).unwrap()
+    let (version, terms) = (input.version(), input.least_terms());
+    let (version, terms, index) = black_box((version, terms, &input.index));
+    ffi::open(version, terms, index).unwrap()
 }
 
-fn measure(report: &mut Report, input: &Input) {
-    let row = Row::new(PASS.what, input.kind.name(), input.n).sized(input.index.len());
+fn measure_pass<R: Rust>(report: &mut Report, input: &Input) {
+    let call = in_version::<R>(&PASS, &PASS_V4);
+    let row = Row::new(call.what, input.kind.name(), input.n).sized(input.index.len());
     if report.wants(&row) {
+        let row = row.grouped(match (R::VERSION, input.kind.long()) {
+            (4, true) => "opening, long keys, version 4",
+            (4, false) => "opening, short keys, version 4",
+            (_, true) => "opening, long keys",
+            (_, false) => "opening, short keys",
+        });
         // half the speed of the pass
         let row = if input.kind.long() {
-            row.grouped("opening, long keys").held(2.0)
+            row.held(2.0)
         } else {
-            row.grouped("opening, short keys")
+            row
         };
         beside_pass(report, input, row);
     }
+}
+
+fn measure(report: &mut Report, input: &Input) {
+    measure_pass::<V3>(report, input);
     let row = Row::new(LOAD.what, input.kind.name(), input.n).unequal();
     if report.wants(&row) {
         beside_load(report, input, row);

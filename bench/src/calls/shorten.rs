@@ -4,7 +4,7 @@ use std::hint::black_box;
 use std::time::{Duration, Instant};
 
 use rosmarel::BlockAddr;
-use tantivy_sstable::access;
+use tantivy_sstable::{Builder as _, access};
 
 use super::{Call, Family, Plots, Whose};
 use crate::ffi;
@@ -16,6 +16,7 @@ use crate::report::{Report, Row};
 pub const FAMILY: Family = Family {
     calls: &[SHORTEN],
     measure,
+    measure_v4: None,
 };
 
 const SHORTEN: Call = Call {

@@ -1,6 +1,6 @@
 use std::fmt;
 
-use crate::{BlockAddr, Refusal, ffi};
+use crate::{BlockAddr, Refusal, Version, ffi};
 
 /// The most blocks of an index or a store.
 pub const MAX_BLOCKS: u64 = 65_536;
@@ -19,16 +19,16 @@ const STRIDE: usize = 5;
 /// A call that is refused has changed nothing, and the builder goes on.
 ///
 /// ```
-/// use rosmarel::{BlockAddr, Builder, Index};
+/// use rosmarel::{BlockAddr, Builder, Index, Version};
 ///
 /// let mut builder = Builder::new();
 /// builder.add_block(b"abcdef", BlockAddr::new(0..10, 0))?;
 /// builder.shorten_last_block_key_given_next_key(b"abf")?;
 /// builder.add_block(b"abzz", BlockAddr::new(10..25, 4))?;
-/// let bytes = builder.finish()?;
+/// let bytes = builder.finish(Version::V3)?;
 ///
 /// // 9 keys in all
-/// let index = Index::open(&bytes, 9)?;
+/// let index = Index::open(&bytes, Version::V3, 9)?;
 /// assert_eq!(index.separator(0), Some(&b"abce"[..]));
 /// assert_eq!(index.locate_with_key(b"abf"), Some(1));
 /// # Ok::<(), rosmarel::Refusal>(())
@@ -172,51 +172,54 @@ impl Builder {
         ffi::shorten(self.n, &mut self.blocks, &mut self.keys, next_key)
     }
 
-    /// The index's bytes.
+    /// The bytes of the index in this version. They don't say which it is, and [`Index::open`](crate::Index::open) has to be
+    /// told.
     ///
-    /// Equal blocks and separators give equal bytes, different ones different bytes. With 0 or 1 blocks there are none:
-    /// a file of one block needs no index, and [`Index::open`](crate::Index::open) refuses 0 bytes with
-    /// [`Footer`](Refusal::Footer). The builder stays as it is: blocks may be added and `finish` called again.
+    /// In one version equal blocks and separators give equal bytes, different ones different bytes. With 0 or 1 blocks
+    /// there are none: a file of one block needs no index, and opening refuses 0 bytes with [`Footer`](Refusal::Footer). The
+    /// builder stays as it is: blocks may be added and `finish` called again, in the other version too.
     ///
     /// # Errors
     ///
     /// None today: it is proved that the blocks that were taken can be written.
     ///
     /// ```
-    /// use rosmarel::{BlockAddr, Builder};
+    /// use rosmarel::{BlockAddr, Builder, Version};
     ///
     /// let mut builder = Builder::new();
     /// builder.add_block(b"b", BlockAddr::new(0..10, 0))?;
-    /// assert_eq!(builder.finish()?, b"");
+    /// assert_eq!(builder.finish(Version::V3)?, b"");
     /// builder.add_block(b"d", BlockAddr::new(10..25, 4))?;
     /// builder.add_block(b"f", BlockAddr::new(25..30, 9))?;
-    /// assert_eq!(builder.finish()?.len(), 85);
+    /// assert_eq!(builder.finish(Version::V3)?.len(), 85);
+    /// // so few blocks make one group in both versions
+    /// assert_eq!(builder.finish(Version::V4)?, builder.finish(Version::V3)?);
     /// # Ok::<(), rosmarel::Refusal>(())
     /// ```
-    pub fn finish(&self) -> Result<Vec<u8>, Refusal> {
-        let mut index = vec![0; self.finish_len()?];
-        let total = self.finish_into(&mut index)?;
+    pub fn finish(&self, version: Version) -> Result<Vec<u8>, Refusal> {
+        let mut index = vec![0; self.finish_len(version)?];
+        let total = self.finish_into(version, &mut index)?;
         index.truncate(total);
         Ok(index)
     }
 
-    /// How many bytes the index has.
+    /// How many bytes the index has in this version.
     ///
     /// # Errors
     ///
     /// None today, as in [`finish`](Builder::finish).
-    pub fn finish_len(&self) -> Result<usize, Refusal> {
-        ffi::finish_len(self.n, &self.blocks, &self.keys)
+    pub fn finish_len(&self, version: Version) -> Result<usize, Refusal> {
+        ffi::finish_len(version.number(), self.n, &self.blocks, &self.keys)
     }
 
-    /// Writes the index to the front of a buffer and gives its length. The bytes behind it stay.
+    /// Writes the index of this version to the front of a buffer and gives its length. The bytes behind it stay.
     ///
     /// # Errors
     ///
     /// [`OutputTooShort`](Refusal::OutputTooShort), and then the buffer is unchanged.
     ///
     /// ```
-    /// use rosmarel::{BlockAddr, Builder, Refusal};
+    /// use rosmarel::{BlockAddr, Builder, Refusal, Version};
     ///
     /// let mut builder = Builder::new();
     /// builder.add_block(b"b", BlockAddr::new(0..10, 0))?;
@@ -224,14 +227,15 @@ impl Builder {
     /// builder.add_block(b"f", BlockAddr::new(25..30, 9))?;
     ///
     /// let mut buffer = [0xaa; 100];
-    /// assert_eq!(builder.finish_into(&mut buffer[..84]), Err(Refusal::OutputTooShort));
+    /// let refused = builder.finish_into(Version::V3, &mut buffer[..84]);
+    /// assert_eq!(refused, Err(Refusal::OutputTooShort));
     /// assert_eq!(buffer, [0xaa; 100]);
-    /// assert_eq!(builder.finish_into(&mut buffer)?, 85);
+    /// assert_eq!(builder.finish_into(Version::V3, &mut buffer)?, 85);
     /// assert_eq!(buffer[85..], [0xaa; 15]);
     /// # Ok::<(), Refusal>(())
     /// ```
-    pub fn finish_into(&self, out: &mut [u8]) -> Result<usize, Refusal> {
-        let finished = ffi::finish(self.n, &self.blocks, &self.keys, out)?;
+    pub fn finish_into(&self, version: Version, out: &mut [u8]) -> Result<usize, Refusal> {
+        let finished = ffi::finish(version.number(), self.n, &self.blocks, &self.keys, out)?;
         Ok(finished.total)
     }
 }

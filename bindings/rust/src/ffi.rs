@@ -6,8 +6,8 @@
 use crate::{BlockAddr, Refusal};
 
 /// The opened record: n, then offset and length of the directory, the group records and the address bytes, then the number
-/// of terms.
-pub type Opened = [u64; 8];
+/// of terms and the version.
+pub type Opened = [u64; 9];
 
 /// What finish returns beside its number.
 #[derive(Clone, Copy, Debug, PartialEq, Eq)]
@@ -44,6 +44,7 @@ unsafe extern "C" {
         next_key_len: usize,
     ) -> u32;
     fn rosmarel_finish(
+        version: u64,
         n: u64,
         blocks: *const u64,
         blocks_len: usize,
@@ -55,6 +56,7 @@ unsafe extern "C" {
         directory_len: *mut u64,
     ) -> u32;
     fn rosmarel_finish_len(
+        version: u64,
         n: u64,
         blocks: *const u64,
         blocks_len: usize,
@@ -63,14 +65,21 @@ unsafe extern "C" {
         total: *mut u64,
     ) -> u32;
     fn rosmarel_store(
+        version: u64,
         blocks: *const BlockAddr,
         blocks_len: usize,
         out: *mut u8,
         out_len: usize,
         len: *mut u64,
     ) -> u32;
-    fn rosmarel_open(terms: u64, index: *const u8, index_len: usize, opened: *mut Opened) -> u32;
-    fn rosmarel_check_canonical(index: *const u8, index_len: usize) -> u32;
+    fn rosmarel_open(
+        version: u64,
+        terms: u64,
+        index: *const u8,
+        index_len: usize,
+        opened: *mut Opened,
+    ) -> u32;
+    fn rosmarel_check_canonical(version: u64, index: *const u8, index_len: usize) -> u32;
     fn rosmarel_get_block(
         index: *const u8,
         index_len: usize,
@@ -234,11 +243,18 @@ pub fn shorten(
 }
 
 /// Writes the index of n blocks to the front of `out`.
-pub fn finish(n: u64, blocks: &[u64], keys: &[u8], out: &mut [u8]) -> Result<Finished, Refusal> {
+pub fn finish(
+    version: u64,
+    n: u64,
+    blocks: &[u64],
+    keys: &[u8],
+    out: &mut [u8],
+) -> Result<Finished, Refusal> {
     let (mut total, mut directory_len) = (0, 0);
     // SAFETY: as in `add`.
     let number = unsafe {
         rosmarel_finish(
+            version,
             n,
             blocks.as_ptr(),
             blocks.len(),
@@ -260,11 +276,12 @@ pub fn finish(n: u64, blocks: &[u64], keys: &[u8], out: &mut [u8]) -> Result<Fin
 }
 
 /// The bytes that finish needs.
-pub fn finish_len(n: u64, blocks: &[u64], keys: &[u8]) -> Result<usize, Refusal> {
+pub fn finish_len(version: u64, n: u64, blocks: &[u64], keys: &[u8]) -> Result<usize, Refusal> {
     let mut total = 0;
     // SAFETY: as in `add`.
     let number = unsafe {
         rosmarel_finish_len(
+            version,
             n,
             blocks.as_ptr(),
             blocks.len(),
@@ -277,11 +294,12 @@ pub fn finish_len(n: u64, blocks: &[u64], keys: &[u8]) -> Result<usize, Refusal>
 }
 
 /// Writes the store of these blocks to the front of `out`, and gives its length.
-pub fn store(blocks: &[BlockAddr], out: &mut [u8]) -> Result<usize, Refusal> {
+pub fn store(version: u64, blocks: &[BlockAddr], out: &mut [u8]) -> Result<usize, Refusal> {
     let mut len = 0;
     // SAFETY: as in `add`; `BlockAddr` has the C layout.
     let number = unsafe {
         rosmarel_store(
+            version,
             blocks.as_ptr(),
             blocks.len(),
             out.as_mut_ptr(),
@@ -292,18 +310,18 @@ pub fn store(blocks: &[BlockAddr], out: &mut [u8]) -> Result<usize, Refusal> {
     answer(number, len as usize)
 }
 
-/// Opens an index of a file with so many terms.
-pub fn open(terms: u64, index: &[u8]) -> Result<Opened, Refusal> {
-    let mut opened = [0; 8];
+/// Opens an index of this version, of a file with so many terms.
+pub fn open(version: u64, terms: u64, index: &[u8]) -> Result<Opened, Refusal> {
+    let mut opened = [0; 9];
     // SAFETY: as in `add`.
-    let number = unsafe { rosmarel_open(terms, index.as_ptr(), index.len(), &mut opened) };
+    let number = unsafe { rosmarel_open(version, terms, index.as_ptr(), index.len(), &mut opened) };
     answer(number, opened)
 }
 
-/// Whether an index is the one that finish makes of what it holds.
-pub fn check_canonical(index: &[u8]) -> Result<(), Refusal> {
+/// Whether an index is the one that finish makes, in this version, of what it holds.
+pub fn check_canonical(version: u64, index: &[u8]) -> Result<(), Refusal> {
     // SAFETY: as in `add`.
-    let number = unsafe { rosmarel_check_canonical(index.as_ptr(), index.len()) };
+    let number = unsafe { rosmarel_check_canonical(version, index.as_ptr(), index.len()) };
     answer(number, ())
 }
 

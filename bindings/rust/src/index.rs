@@ -2,7 +2,7 @@ use std::fmt;
 use std::iter::FusedIterator;
 use std::ops::Range;
 
-use crate::{Automaton, BlockAddr, MAX_KEY_LEN, Refusal, ffi};
+use crate::{Automaton, BlockAddr, MAX_KEY_LEN, Refusal, Version, ffi};
 
 /// The most keys of one batch: what [`Index::locate_with_keys_into`] takes at once.
 pub const MAX_BATCH_KEYS: usize = 64;
@@ -10,31 +10,32 @@ pub const MAX_BATCH_KEYS: usize = 64;
 /// What stands in a batch's ids for a key that has no block.
 pub const NO_ID: u64 = u64::MAX;
 
-/// Where the number of terms stands in the opened record.
+/// Where the number of terms and the version stand in the opened record.
 const TERMS: usize = 7;
+const VERSION: usize = 8;
 
 /// An index that was opened: which block of a sorted key file to read.
 ///
 /// Opening looks at every block and every separator, so a file that breaks a rule anywhere is refused at once, and every
 /// lookup in an index that opened has an answer. The index borrows its bytes; it is small and can be copied.
 ///
-/// The number of terms, which are the sorted file's keys, isn't in an index, so opening is told: an ordinal from it on has
-/// no block.
+/// Two things aren't in an index, so opening is told them: its [`Version`], and the number of terms, which are the sorted
+/// file's keys. An ordinal from that number on has no block.
 ///
 /// Ids count the blocks from 0. Block i holds keys above separator i - 1 (block 0: from the empty key on) and not above
 /// separator i.
 ///
 /// ```
-/// use rosmarel::{BlockAddr, Builder, Index};
+/// use rosmarel::{BlockAddr, Builder, Index, Version};
 ///
 /// let mut builder = Builder::new();
 /// builder.add_block(b"b", BlockAddr::new(0..10, 0))?;
 /// builder.add_block(b"d", BlockAddr::new(10..25, 4))?;
 /// builder.add_block(b"f", BlockAddr::new(25..30, 9))?;
-/// let bytes = builder.finish()?;
+/// let bytes = builder.finish(Version::V3)?;
 ///
 /// // 12 keys in all: 4, 5 and 3
-/// let index = Index::open(&bytes, 12)?;
+/// let index = Index::open(&bytes, Version::V3, 12)?;
 /// assert_eq!(index.len(), 3);
 /// assert_eq!(index.get_block(2), Some(BlockAddr::new(25..30, 9)));
 /// assert_eq!(index.get_block(3), None);
@@ -53,34 +54,38 @@ pub struct Index<'a> {
 // An index has two blocks or more, so `is_empty` would say nothing.
 #[allow(clippy::len_without_is_empty)]
 impl<'a> Index<'a> {
-    /// Opens an index, whoever wrote its bytes, of a file that has so many terms: any number above the last block's first
-    /// ordinal. [`open_unknown_terms`](Index::open_unknown_terms) is for files of which nobody knows it.
+    /// Opens an index, whoever wrote its bytes, with the version that it was finished in and the number of terms that the
+    /// file has: any number above the last block's first ordinal. [`open_unknown_terms`](Index::open_unknown_terms) is for
+    /// files of which nobody knows it.
     ///
     /// # Errors
     ///
     /// The first rule of an index file that these bytes break, from [`Footer`](Refusal::Footer) (10) to
     /// [`Block`](Refusal::Block) (16) in the order of their numbers; but a footer of 8 bytes whose directory length is
     /// 0 is [`DirectoryMissing`](Refusal::DirectoryMissing), however short the file. Then, for a good file,
-    /// [`TooFewTerms`](Refusal::TooFewTerms) (28).
+    /// [`TooFewTerms`](Refusal::TooFewTerms) (28). A good file of over 128 blocks gets
+    /// [`GroupRecords`](Refusal::GroupRecords) (14) with the other version.
     ///
     /// ```
-    /// use rosmarel::{BlockAddr, Builder, Index, Refusal};
+    /// use rosmarel::{BlockAddr, Builder, Index, Refusal, Version};
     ///
-    /// assert_eq!(Index::open(&[], 12).unwrap_err(), Refusal::Footer);
-    /// assert_eq!(Index::open(&[0; 8], 12).unwrap_err(), Refusal::DirectoryMissing);
+    /// let refused = |bytes: &[u8]| Index::open(bytes, Version::V3, 12).unwrap_err();
+    /// assert_eq!(refused(&[]), Refusal::Footer);
+    /// assert_eq!(refused(&[0; 8]), Refusal::DirectoryMissing);
     ///
     /// let mut builder = Builder::new();
     /// builder.add_block(b"b", BlockAddr::new(0..10, 0))?;
     /// builder.add_block(b"d", BlockAddr::new(10..25, 4))?;
-    /// let bytes = builder.finish()?;
+    /// let bytes = builder.finish(Version::V3)?;
     /// // ordinal 4 is there, so there are 5 terms or more
-    /// assert_eq!(Index::open(&bytes, 4).unwrap_err(), Refusal::TooFewTerms);
-    /// assert_eq!(Index::open(&bytes, 5)?.terms(), 5);
-    /// assert_eq!(Index::open(&bytes, u64::MAX)?.terms(), u64::MAX);
+    /// let open = |terms| Index::open(&bytes, Version::V3, terms);
+    /// assert_eq!(open(4).unwrap_err(), Refusal::TooFewTerms);
+    /// assert_eq!(open(5)?.terms(), 5);
+    /// assert_eq!(open(u64::MAX)?.terms(), u64::MAX);
     /// # Ok::<(), Refusal>(())
     /// ```
-    pub fn open(bytes: &'a [u8], terms: u64) -> Result<Index<'a>, Refusal> {
-        let opened = ffi::open(terms, bytes)?;
+    pub fn open(bytes: &'a [u8], version: Version, terms: u64) -> Result<Index<'a>, Refusal> {
+        let opened = ffi::open(version.number(), terms, bytes)?;
         Ok(Index { bytes, opened })
     }
 
@@ -92,23 +97,23 @@ impl<'a> Index<'a> {
     /// Those of [`open`](Index::open) but the last: never [`TooFewTerms`](Refusal::TooFewTerms).
     ///
     /// ```
-    /// use rosmarel::{BlockAddr, Builder, Index, Refusal};
+    /// use rosmarel::{BlockAddr, Builder, Index, Refusal, Version};
     ///
     /// let mut builder = Builder::new();
     /// builder.add_block(b"b", BlockAddr::new(0..10, 0))?;
     /// builder.add_block(b"d", BlockAddr::new(10..25, 4))?;
-    /// let bytes = builder.finish()?;
+    /// let bytes = builder.finish(Version::V3)?;
     ///
-    /// let index = Index::open_unknown_terms(&bytes)?;
+    /// let index = Index::open_unknown_terms(&bytes, Version::V3)?;
     /// assert_eq!(index.terms(), 5);
     /// assert_eq!(index.locate_with_ord(4), Some((1, BlockAddr::new(10..25, 4))));
     /// assert_eq!(index.locate_with_ord(5), None);
-    /// assert_eq!(Index::open_unknown_terms(&[]).unwrap_err(), Refusal::Footer);
+    /// assert_eq!(Index::open_unknown_terms(&[], Version::V3).unwrap_err(), Refusal::Footer);
     /// # Ok::<(), Refusal>(())
     /// ```
-    pub fn open_unknown_terms(bytes: &'a [u8]) -> Result<Index<'a>, Refusal> {
+    pub fn open_unknown_terms(bytes: &'a [u8], version: Version) -> Result<Index<'a>, Refusal> {
         // first ordinals lie below 2^48: this many terms are enough for any file
-        let mut index = Index::open(bytes, u64::MAX)?;
+        let mut index = Index::open(bytes, version, u64::MAX)?;
         // the record of an opening with the least number, since records for other numbers differ in this word alone
         index.opened[TERMS] = index.block(index.len() - 1).first_ordinal + 1;
         Ok(index)
@@ -128,18 +133,35 @@ impl<'a> Index<'a> {
     /// no other ordinals than those below it. It is above the last block's first ordinal.
     ///
     /// ```
-    /// # use rosmarel::{BlockAddr, Builder, Index};
+    /// # use rosmarel::{BlockAddr, Builder, Index, Version};
     /// # let mut builder = Builder::new();
     /// # builder.add_block(b"b", BlockAddr::new(0..10, 0))?;
     /// # builder.add_block(b"d", BlockAddr::new(10..25, 4))?;
-    /// # let bytes = builder.finish()?;
+    /// # let bytes = builder.finish(Version::V3)?;
     /// // first ordinals 0 and 4
-    /// assert_eq!(Index::open(&bytes, 9)?.terms(), 9);
-    /// assert_eq!(Index::open_unknown_terms(&bytes)?.terms(), 5);
+    /// assert_eq!(Index::open(&bytes, Version::V3, 9)?.terms(), 9);
+    /// assert_eq!(Index::open_unknown_terms(&bytes, Version::V3)?.terms(), 5);
     /// # Ok::<(), rosmarel::Refusal>(())
     /// ```
     pub fn terms(&self) -> u64 {
         self.opened[TERMS]
+    }
+
+    /// The version that the index was opened with.
+    ///
+    /// ```
+    /// # use rosmarel::{BlockAddr, Builder, Index, Version};
+    /// # let mut builder = Builder::new();
+    /// # builder.add_block(b"b", BlockAddr::new(0..10, 0))?;
+    /// # builder.add_block(b"d", BlockAddr::new(10..25, 4))?;
+    /// # let bytes = builder.finish(Version::V3)?;
+    /// // so few blocks open with both
+    /// assert_eq!(Index::open(&bytes, Version::V3, 9)?.version(), Version::V3);
+    /// assert_eq!(Index::open(&bytes, Version::V4, 9)?.version(), Version::V4);
+    /// # Ok::<(), rosmarel::Refusal>(())
+    /// ```
+    pub fn version(&self) -> Version {
+        sure(Version::from_number(self.opened[VERSION]))
     }
 
     /// The block with this id; none from [`len`](Index::len) on.
@@ -154,13 +176,13 @@ impl<'a> Index<'a> {
     /// first block's has none, nor has one at or above the number of [`terms`](Index::terms).
     ///
     /// ```
-    /// # use rosmarel::{BlockAddr, Builder, Index};
+    /// # use rosmarel::{BlockAddr, Builder, Index, Version};
     /// # let mut builder = Builder::new();
     /// # builder.add_block(b"b", BlockAddr::new(0..10, 2))?;
     /// # builder.add_block(b"d", BlockAddr::new(10..25, 4))?;
-    /// # let bytes = builder.finish()?;
+    /// # let bytes = builder.finish(Version::V3)?;
     /// // first ordinals 2 and 4, and 9 is the last
-    /// let index = Index::open(&bytes, 10)?;
+    /// let index = Index::open(&bytes, Version::V3, 10)?;
     /// assert_eq!(index.locate_with_ord(1), None);
     /// assert_eq!(index.locate_with_ord(3), Some((0, BlockAddr::new(0..10, 2))));
     /// assert_eq!(index.locate_with_ord(9), Some((1, BlockAddr::new(10..25, 4))));
@@ -179,13 +201,13 @@ impl<'a> Index<'a> {
     /// separator has none. The key may have any length.
     ///
     /// ```
-    /// # use rosmarel::{BlockAddr, Builder, Index};
+    /// # use rosmarel::{BlockAddr, Builder, Index, Version};
     /// # let mut builder = Builder::new();
     /// # builder.add_block(b"b", BlockAddr::new(0..10, 0))?;
     /// # builder.add_block(b"d", BlockAddr::new(10..25, 4))?;
-    /// # let bytes = builder.finish()?;
+    /// # let bytes = builder.finish(Version::V3)?;
     /// // separators b and d
-    /// let index = Index::open(&bytes, 9)?;
+    /// let index = Index::open(&bytes, Version::V3, 9)?;
     /// assert_eq!(index.locate_with_key(b""), Some(0));
     /// assert_eq!(index.locate_with_key(b"b"), Some(0));
     /// assert_eq!(index.locate_with_key(b"bb"), Some(1));
@@ -214,13 +236,13 @@ impl<'a> Index<'a> {
     /// at most 1,025 bytes of each. [`locate_with_keys_into`](Index::locate_with_keys_into) copies nothing.
     ///
     /// ```
-    /// # use rosmarel::{BlockAddr, Builder, Index};
+    /// # use rosmarel::{BlockAddr, Builder, Index, Version};
     /// # let mut builder = Builder::new();
     /// # builder.add_block(b"b", BlockAddr::new(0..10, 0))?;
     /// # builder.add_block(b"d", BlockAddr::new(10..25, 4))?;
-    /// # let bytes = builder.finish()?;
+    /// # let bytes = builder.finish(Version::V3)?;
     /// // separators b and d
-    /// let index = Index::open(&bytes, 9)?;
+    /// let index = Index::open(&bytes, Version::V3, 9)?;
     /// let ids = index.locate_with_keys(&["dd", "c", "", "c"]);
     /// assert_eq!(ids, [None, Some(1), Some(0), Some(1)]);
     /// # Ok::<(), rosmarel::Refusal>(())
@@ -258,13 +280,13 @@ impl<'a> Index<'a> {
     /// or begins before the one before it, or where `ids` has fewer places than there are keys. `ids` is unchanged then.
     ///
     /// ```
-    /// use rosmarel::{BlockAddr, Builder, Index, NO_ID, Refusal};
+    /// use rosmarel::{BlockAddr, Builder, Index, NO_ID, Refusal, Version};
     ///
     /// let mut builder = Builder::new();
     /// builder.add_block(b"b", BlockAddr::new(0..10, 0))?;
     /// builder.add_block(b"d", BlockAddr::new(10..25, 4))?;
-    /// let bytes = builder.finish()?;
-    /// let index = Index::open(&bytes, 9)?;
+    /// let bytes = builder.finish(Version::V3)?;
+    /// let index = Index::open(&bytes, Version::V3, 9)?;
     ///
     /// // az, z and c, parts of four bytes
     /// let (keys, mut ids) = (b"az,c", [7; 4]);
@@ -289,13 +311,13 @@ impl<'a> Index<'a> {
     /// A block's separator, as the part of the index's bytes that it is.
     ///
     /// ```
-    /// # use rosmarel::{BlockAddr, Builder, Index};
+    /// # use rosmarel::{BlockAddr, Builder, Index, Version};
     /// # let mut builder = Builder::new();
     /// # builder.add_block(b"", BlockAddr::new(0..10, 0))?;
     /// # builder.add_block(b"d", BlockAddr::new(10..25, 4))?;
-    /// # let bytes = builder.finish()?;
+    /// # let bytes = builder.finish(Version::V3)?;
     /// // an empty separator, and d
-    /// let index = Index::open(&bytes, 9)?;
+    /// let index = Index::open(&bytes, Version::V3, 9)?;
     /// assert_eq!(index.separator(0), Some(&b""[..]));
     /// assert_eq!(index.separator(1), Some(&b"d"[..]));
     /// assert_eq!(index.separator(2), None);
@@ -312,13 +334,13 @@ impl<'a> Index<'a> {
     /// second. [`Automaton::can_block_match`] and [`Automaton::example`] take them.
     ///
     /// ```
-    /// # use rosmarel::{BlockAddr, Builder, Index};
+    /// # use rosmarel::{BlockAddr, Builder, Index, Version};
     /// # let mut builder = Builder::new();
     /// # builder.add_block(b"b", BlockAddr::new(0..10, 0))?;
     /// # builder.add_block(b"d", BlockAddr::new(10..25, 4))?;
-    /// # let bytes = builder.finish()?;
+    /// # let bytes = builder.finish(Version::V3)?;
     /// // separators b and d
-    /// let index = Index::open(&bytes, 9)?;
+    /// let index = Index::open(&bytes, Version::V3, 9)?;
     /// assert_eq!(index.interval(0), Some((None, &b"b"[..])));
     /// assert_eq!(index.interval(1), Some((Some(&b"b"[..]), &b"d"[..])));
     /// assert_eq!(index.interval(2), None);
@@ -333,12 +355,12 @@ impl<'a> Index<'a> {
     /// All blocks with their ids, in order.
     ///
     /// ```
-    /// # use rosmarel::{BlockAddr, Builder, Index};
+    /// # use rosmarel::{BlockAddr, Builder, Index, Version};
     /// # let mut builder = Builder::new();
     /// # builder.add_block(b"b", BlockAddr::new(0..10, 0))?;
     /// # builder.add_block(b"d", BlockAddr::new(10..25, 4))?;
-    /// # let bytes = builder.finish()?;
-    /// let index = Index::open(&bytes, 9)?;
+    /// # let bytes = builder.finish(Version::V3)?;
+    /// let index = Index::open(&bytes, Version::V3, 9)?;
     /// for (id, block) in index.blocks() {
     ///     println!("{id} {} {} {}", block.start, block.end, block.first_ordinal);
     /// }
@@ -364,14 +386,14 @@ impl<'a> Index<'a> {
     /// is given.
     ///
     /// ```
-    /// use rosmarel::{Automaton, BlockAddr, Builder, Index};
+    /// use rosmarel::{Automaton, BlockAddr, Builder, Index, Version};
     ///
     /// let mut builder = Builder::new();
     /// builder.add_block(b"b", BlockAddr::new(0..10, 0))?;
     /// builder.add_block(b"d", BlockAddr::new(10..25, 4))?;
     /// builder.add_block(b"f", BlockAddr::new(25..30, 9))?;
-    /// let bytes = builder.finish()?;
-    /// let index = Index::open(&bytes, 12)?;
+    /// let bytes = builder.finish(Version::V3)?;
+    /// let index = Index::open(&bytes, Version::V3, 12)?;
     ///
     /// // keys that begin with d: the key d itself, and those behind it
     /// let pattern = Automaton::from_fn(3, |state| state == 1, |state, byte| match state {
@@ -429,6 +451,7 @@ impl fmt::Debug for Index<'_> {
             .field("len", &self.len())
             .field("bytes", &self.bytes.len())
             .field("terms", &self.terms())
+            .field("version", &self.version())
             .finish()
     }
 }

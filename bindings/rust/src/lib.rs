@@ -9,13 +9,14 @@
 //! hands on its answers, is tested.
 //!
 //! - [`Builder`] takes blocks and keys and writes an index.
-//! - [`Index`] opens one, which anyone may have written, given the number of terms, and looks blocks up.
+//! - [`Index`] opens one, which anyone may have written, given its version and the number of terms, and looks blocks up.
+//! - [`Version`] is one of two: groups of 128 blocks, or of 256. An index doesn't say which one it has.
 //! - [`check_canonical`] says whether an index is, byte for byte, the one that [`Builder::finish`] would write.
 //! - [`Automaton`] is a pattern, for [`Index::get_block_for_automaton`].
 //! - [`Refusal`] says why a call was refused.
 //!
 //! ```
-//! use rosmarel::{Automaton, BlockAddr, Builder, Index, Refusal};
+//! use rosmarel::{Automaton, BlockAddr, Builder, Index, Refusal, Version};
 //!
 //! let mut builder = Builder::new();
 //! builder.add_block(b"beech", BlockAddr::new(0..4_096, 0))?;
@@ -23,10 +24,10 @@
 //! builder.add_block(b"elm", BlockAddr::new(4_096..8_000, 120))?;
 //! builder.shorten_last_block_key_given_next_key(b"fir")?;
 //! builder.add_block(b"yew", BlockAddr::new(8_000..11_500, 260))?;
-//! let bytes = builder.finish()?;
+//! let bytes = builder.finish(Version::V4)?;
 //!
 //! // the file has 400 keys
-//! let index = Index::open(&bytes, 400)?;
+//! let index = Index::open(&bytes, Version::V4, 400)?;
 //! assert_eq!(index.get_block_with_key(b"fir"), Some((2, BlockAddr::new(8_000..11_500, 260))));
 //! assert_eq!(index.locate_with_ord(130), Some((1, BlockAddr::new(4_096..8_000, 120))));
 //! assert_eq!(index.locate_with_ord(400), None);
@@ -58,6 +59,7 @@ mod index;
 mod interface;
 mod refusal;
 mod store;
+mod version;
 
 pub use automaton::{Automaton, MAX_STATES};
 pub use block::BlockAddr;
@@ -66,6 +68,7 @@ pub use index::{Blocks, Index, Listing, MAX_BATCH_KEYS, NO_ID, Separators};
 pub use interface::INTERFACE;
 pub use refusal::Refusal;
 pub use store::{store, store_into};
+pub use version::Version;
 
 /// The number of the linked archive's interface, which is [`INTERFACE`].
 ///
@@ -76,9 +79,9 @@ pub fn interface() -> u64 {
     ffi::interface()
 }
 
-/// Whether an index is canonical: byte for byte the one that [`Builder::finish`] makes of the blocks and separators that
-/// are read in it. Two canonical files of one list are equal, and whatever `finish` wrote of two blocks or more is
-/// canonical.
+/// Whether an index is canonical: byte for byte the one that [`Builder::finish`] makes, in this version, of the blocks and
+/// separators that are read in it. In one version two canonical files of one list are equal, and whatever `finish` wrote of
+/// two blocks or more is canonical.
 ///
 /// A file that opens needn't be: it may have bytes between its groups or behind them, wider fields than needed, other
 /// slopes, or padding that isn't 0. It is read, and nothing is allocated.
@@ -89,25 +92,26 @@ pub fn interface() -> u64 {
 /// a file that opens but isn't that one. The number of terms isn't asked for, so 28 isn't among them.
 ///
 /// ```
-/// use rosmarel::{BlockAddr, Builder, Index, Refusal};
+/// use rosmarel::{BlockAddr, Builder, Index, Refusal, Version};
 ///
 /// let mut builder = Builder::new();
 /// builder.add_block(b"b", BlockAddr::new(0..10, 0))?;
 /// builder.add_block(b"d", BlockAddr::new(10..25, 4))?;
-/// let mut bytes = builder.finish()?;
-/// assert_eq!(rosmarel::check_canonical(&bytes), Ok(()));
+/// let mut bytes = builder.finish(Version::V3)?;
+/// assert_eq!(rosmarel::check_canonical(&bytes, Version::V3), Ok(()));
 ///
 /// // a byte more in front of the footer: it opens, with the same blocks
 /// bytes.insert(bytes.len() - 8, 0);
-/// assert_eq!(Index::open(&bytes, 9)?.get_block(1), Some(BlockAddr::new(10..25, 4)));
-/// assert_eq!(rosmarel::check_canonical(&bytes), Err(Refusal::NotCanonical));
+/// let index = Index::open(&bytes, Version::V3, 9)?;
+/// assert_eq!(index.get_block(1), Some(BlockAddr::new(10..25, 4)));
+/// assert_eq!(rosmarel::check_canonical(&bytes, Version::V3), Err(Refusal::NotCanonical));
 ///
 /// // no footer: refused as opening refuses it
-/// assert_eq!(rosmarel::check_canonical(&bytes[..7]), Err(Refusal::Footer));
+/// assert_eq!(rosmarel::check_canonical(&bytes[..7], Version::V3), Err(Refusal::Footer));
 /// # Ok::<(), Refusal>(())
 /// ```
-pub fn check_canonical(index: &[u8]) -> Result<(), Refusal> {
-    ffi::check_canonical(index)
+pub fn check_canonical(index: &[u8], version: Version) -> Result<(), Refusal> {
+    ffi::check_canonical(version.number(), index)
 }
 
 /// The length of the longest common prefix of two keys.

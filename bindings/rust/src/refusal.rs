@@ -10,12 +10,13 @@ macro_rules! refusals {
         /// This crate doesn't return all of them. 1, 8, 20 and 24 are for callers of the archive that lend it areas and
         /// opened records of their own; in place of 17 to 19, 25 and 29, that nothing was found, it has `None`. 26 comes
         /// from [`Index::locate_with_keys_into`](crate::Index::locate_with_keys_into) alone, 27 from
-        /// [`check_canonical`](crate::check_canonical), 28 from [`Index::open`](crate::Index::open).
+        /// [`check_canonical`](crate::check_canonical), 28 from [`Index::open`](crate::Index::open), 30 from
+        /// [`Version::from_number`](crate::Version::from_number).
         ///
         /// ```
-        /// use rosmarel::{Index, Refusal};
+        /// use rosmarel::{Index, Refusal, Version};
         ///
-        /// let refusal = Index::open(b"short", 12).unwrap_err();
+        /// let refusal = Index::open(b"short", Version::V3, 12).unwrap_err();
         /// assert_eq!(refusal, Refusal::Footer);
         /// assert_eq!(refusal.number(), 10);
         /// assert_eq!(
@@ -73,13 +74,13 @@ refusals! {
     11 DirectoryMissing "the directory length in the file's footer is 0",
     12 Directory "the key directory has a wrong count, offset or length, or a key over 1,024 bytes",
     13 SeparatorOrder "the separators in the key directory don't rise",
-    14 GroupRecords "the group records don't fit the number of blocks, or the store",
+    14 GroupRecords "the group records don't fit the number of blocks in this version, or the store",
     15 Group "a group has a width outside 1 to 56, a wrong number of blocks, or fields beyond the address bytes",
     16 Block "a block in the file is outside 0 to 2^48 - 1, or doesn't follow from the one before it",
     17 UnknownId "no block has this id",
     18 OrdinalBelowFirst "the ordinal is below the first block's",
     19 KeyAboveLast "the key is above the last separator",
-    20 OpenedRecord "the opened record and the bytes of the index don't fit each other",
+    20 OpenedRecord "the opened record and the bytes of the index don't fit each other, or its version is neither 3 nor 4",
     21 AutomatonSize "the automaton's table has no state, more than 64 states, or a length that isn't theirs",
     22 AcceptFlag "an accept flag of the automaton is above 1",
     23 NextState "a next state of the automaton isn't one of its states",
@@ -89,6 +90,7 @@ refusals! {
     27 NotCanonical "the index opens, but isn't the one that finish makes of the blocks and separators in it",
     28 TooFewTerms "the number of terms isn't above the last block's first ordinal",
     29 OrdinalBeyondTerms "the ordinal isn't below the number of terms",
+    30 UnknownVersion "the version is neither 3 nor 4",
 }
 
 impl Refusal {

@@ -2,16 +2,16 @@
 
 mod model;
 
-use model::{Draw, Entries};
-use rosmarel::{BlockAddr, Index, MAX_BATCH_KEYS, NO_ID, Refusal};
+use model::{Draw, Entries, VERSIONS};
+use rosmarel::{BlockAddr, Index, MAX_BATCH_KEYS, NO_ID, Refusal, Version};
 
-/// Separators b, d and f.
+/// Separators b, d and f, in version 3.
 fn worked() -> Vec<u8> {
     let mut entries = Entries::default();
     for (i, key) in (0..).zip([b"b", b"d", b"f"]) {
         assert_eq!(entries.add(key, BlockAddr::new(i..i + 1, i)), 0);
     }
-    entries.index()
+    entries.index(Version::V3)
 }
 
 /// Keys one after the other in an area, with their pairs.
@@ -70,9 +70,9 @@ fn some_key(draw: &mut Draw, entries: &Entries) -> Vec<u8> {
 fn lists_of_every_length() {
     let mut draw = Draw::new(20);
     for n in [2, 3, 127, 128, 129, 1_000, 4_095, 4_096, 4_097, 9_000] {
-        let entries = draw.entries(n);
-        let bytes = entries.index();
-        let index = Index::open_unknown_terms(&bytes).unwrap();
+        let (entries, version) = (draw.entries(n), draw.of(&VERSIONS));
+        let bytes = entries.index(version);
+        let index = Index::open_unknown_terms(&bytes, version).unwrap();
         for count in (0..=66).chain([127, 128, 129, 500]) {
             let keys: Vec<_> = (0..count).map(|_| some_key(&mut draw, &entries)).collect();
             agree(&index, &keys);
@@ -87,9 +87,9 @@ fn lists_of_every_length() {
 fn orders() {
     let mut draw = Draw::new(21);
     for n in [2, 300, 2_000] {
-        let entries = draw.entries(n);
-        let bytes = entries.index();
-        let index = Index::open_unknown_terms(&bytes).unwrap();
+        let (entries, version) = (draw.entries(n), draw.of(&VERSIONS));
+        let bytes = entries.index(version);
+        let index = Index::open_unknown_terms(&bytes, version).unwrap();
         for count in [1, 63, 64, 65] {
             let mut keys: Vec<_> = (0..count).map(|_| some_key(&mut draw, &entries)).collect();
             keys.sort();
@@ -115,8 +115,9 @@ fn orders() {
 fn parts_of_one_area() {
     let mut draw = Draw::new(22);
     for n in [2, 5, 130, 4_096] {
-        let index = draw.entries(n).index();
-        let index = Index::open_unknown_terms(&index).unwrap();
+        let version = draw.of(&VERSIONS);
+        let bytes = draw.entries(n).index(version);
+        let index = Index::open_unknown_terms(&bytes, version).unwrap();
         for _ in 0..500 {
             let bytes = draw.key(40);
             let len = bytes.len() as u64;
@@ -141,8 +142,8 @@ fn long_keys() {
     for (i, key) in (0..).zip(&keys) {
         assert_eq!(entries.add(key, BlockAddr::new(i..i + 1, i)), 0);
     }
-    let bytes = entries.index();
-    let index = Index::open_unknown_terms(&bytes).unwrap();
+    let bytes = entries.index(Version::V4);
+    let index = Index::open_unknown_terms(&bytes, Version::V4).unwrap();
     let mut longer = Vec::new();
     for len in [1_022, 1_023, 1_024, 1_025, 1_026, 5_000] {
         for byte in [b'j', b'k', b'l', b'm'] {
@@ -167,8 +168,8 @@ fn the_largest_index() {
     let key = |i: u64| u32::to_be_bytes(i as u32);
     entries.keys = (0..65_536).map(|i| key(2 * i).to_vec()).collect();
     entries.blocks = (0..65_536).map(|i| BlockAddr::new(i..i + 1, i)).collect();
-    let bytes = entries.index();
-    let index = Index::open_unknown_terms(&bytes).unwrap();
+    let bytes = entries.index(Version::V4);
+    let index = Index::open_unknown_terms(&bytes, Version::V4).unwrap();
     let wanted = |i: u64| (i <= 131_070).then_some(i.div_ceil(2));
     let mut draw = Draw::new(23);
     for count in [1, 7, 8, 63, 64, 65, 1_000] {
@@ -191,7 +192,7 @@ fn the_largest_index() {
 #[test]
 fn kinds_of_keys() {
     let bytes = worked();
-    let index = Index::open_unknown_terms(&bytes).unwrap();
+    let index = Index::open_unknown_terms(&bytes, Version::V3).unwrap();
     let found = [Some(0), Some(1), None];
     assert_eq!(index.locate_with_keys(&["a", "c", "g"]), found);
     assert_eq!(index.locate_with_keys(&[b"a", b"c", b"g"]), found);
@@ -210,7 +211,7 @@ fn kinds_of_keys() {
 #[test]
 fn no_keys() {
     let bytes = worked();
-    let index = Index::open_unknown_terms(&bytes).unwrap();
+    let index = Index::open_unknown_terms(&bytes, Version::V3).unwrap();
     for keys in [&b""[..], b"bd"] {
         assert_eq!(index.locate_with_keys_into(&[], keys, &mut []), Ok(()));
         let mut ids = [77; 3];
@@ -222,7 +223,7 @@ fn no_keys() {
 /// The list is refused, and the ids stay.
 fn refused(pairs: &[u64], keys: &[u8], places: usize) {
     let bytes = worked();
-    let index = Index::open_unknown_terms(&bytes).unwrap();
+    let index = Index::open_unknown_terms(&bytes, Version::V3).unwrap();
     let mut ids = vec![77; places];
     let answer = index.locate_with_keys_into(pairs, keys, &mut ids);
     assert_eq!(answer, Err(Refusal::KeyList), "{pairs:?} in {keys:?}");
@@ -231,7 +232,7 @@ fn refused(pairs: &[u64], keys: &[u8], places: usize) {
 
 fn accepted(pairs: &[u64], keys: &[u8], ids: &[u64]) {
     let bytes = worked();
-    let index = Index::open_unknown_terms(&bytes).unwrap();
+    let index = Index::open_unknown_terms(&bytes, Version::V3).unwrap();
     let mut written = vec![77; ids.len()];
     let answer = index.locate_with_keys_into(pairs, keys, &mut written);
     assert_eq!(

@@ -2,16 +2,23 @@
 
 mod model;
 
-use model::{Draw, Entries};
-use rosmarel::{Automaton, BlockAddr, Index, Refusal};
+use model::{Draw, Entries, VERSIONS};
+use rosmarel::{Automaton, BlockAddr, Index, Refusal, Version};
 
-/// Files that opened.
-fn check(bytes: &[u8], any: &Automaton) -> bool {
-    let checked = rosmarel::check_canonical(bytes).map_or_else(|refusal| refusal.number(), |()| 0);
-    assert_eq!(checked, model::canonical_no(bytes), "{bytes:02x?}");
-    let opening = |terms: u64| Index::open(bytes, terms).map_err(Refusal::number);
-    let read = model::read(bytes);
-    let index = match (Index::open_unknown_terms(bytes), &read) {
+/// In how many versions a file opened.
+fn check(bytes: &[u8], any: &Automaton) -> u32 {
+    let opened = VERSIONS.map(|version| u32::from(check_in(bytes, version, any)));
+    opened.into_iter().sum()
+}
+
+/// Whether it opened.
+fn check_in(bytes: &[u8], version: Version, any: &Automaton) -> bool {
+    let checked = rosmarel::check_canonical(bytes, version);
+    let checked = checked.map_or_else(Refusal::number, |()| 0);
+    assert_eq!(checked, model::canonical_no(bytes, version), "{bytes:02x?}");
+    let opening = |terms: u64| Index::open(bytes, version, terms).map_err(Refusal::number);
+    let read = model::read(bytes, version);
+    let index = match (Index::open_unknown_terms(bytes, version), &read) {
         (Ok(index), Ok(entries)) => {
             let least = entries.least_terms();
             assert_eq!(index.terms(), least);
@@ -69,7 +76,7 @@ fn any() -> Automaton {
 }
 
 fn worked() -> Vec<u8> {
-    Entries::worked().index()
+    Entries::worked().index(Version::V3)
 }
 
 /// Each byte of the 85 set to each value.
@@ -81,11 +88,11 @@ fn one_byte() {
         for value in 0..=u8::MAX {
             let mut bytes = good.clone();
             bytes[at] = value;
-            opened += u32::from(check(&bytes, &any));
+            opened += check(&bytes, &any);
         }
     }
-    // the file itself once for each byte, and some that are other indexes
-    assert!(opened > 85, "{opened}");
+    // the file itself once for each byte in both versions, and some that are other indexes
+    assert!(opened > 2 * 85, "{opened}");
 }
 
 #[test]
@@ -127,8 +134,10 @@ fn other_lengths() {
 fn spare_address_bytes() {
     let good = worked();
     let more = [&good[..77], &[1, 2, 3], &good[77..]].concat();
-    let index = Index::open(&more, 12).unwrap();
-    assert_eq!(index.get_block(2), Some(BlockAddr::new(25..30, 9)));
+    for version in VERSIONS {
+        let index = Index::open(&more, version, 12).unwrap();
+        assert_eq!(index.get_block(2), Some(BlockAddr::new(25..30, 9)));
+    }
 }
 
 #[test]
@@ -145,13 +154,19 @@ fn noise() {
     }
 }
 
-/// Files of several groups.
+/// Files of one group and of several.
 #[test]
 fn larger_files() {
-    let (mut draw, any) = (Draw::new(12), any());
+    for version in VERSIONS {
+        damage(version, Draw::new(12), &[2, 127, 128, 129, 256, 257, 300]);
+    }
+}
+
+fn damage(version: Version, mut draw: Draw, sizes: &[usize]) {
+    let any = any();
     let (mut opened, mut rounds) = (0, 0);
-    for n in [2, 127, 128, 129, 300] {
-        let good = draw.entries(n).index();
+    for &n in sizes {
+        let good = draw.entries(n).index(version);
         for _ in 0..600 {
             let mut bytes = good.clone();
             for _ in 0..=draw.below(2) {
@@ -164,9 +179,11 @@ fn larger_files() {
                 let at = from as u64 + draw.below((bytes.len() - from) as u64);
                 bytes[at as usize] ^= 1 << draw.below(8);
             }
-            opened += u32::from(check(&bytes, &any));
+            let versions = check(&bytes, &any);
+            assert!(versions < 2 || n <= 128);
+            opened += versions;
             rounds += 1;
         }
     }
-    assert!(opened > 0 && opened < rounds, "{opened} of {rounds}");
+    assert!(opened > 0 && opened < 2 * rounds, "{opened} of {rounds}");
 }

@@ -42,7 +42,7 @@ fn passed(name: &str, of: &str) -> Vec<String> {
     // records of three numbers, and the opened record
     let of = of
         .replace("[u64; 3]", "BlockAddr")
-        .replace("[u64; 8]", "Opened");
+        .replace("[u64; 9]", "Opened");
     match of.strip_prefix('[').and_then(|of| of.strip_suffix(']')) {
         Some(of) => vec![
             format!("{name}: {pointer} {of}"),

@@ -2,8 +2,8 @@
 
 mod model;
 
-use model::Draw;
-use rosmarel::{Automaton, BlockAddr, Builder, Index, Refusal};
+use model::{Draw, VERSIONS};
+use rosmarel::{Automaton, BlockAddr, Builder, Index, Refusal, Version};
 
 #[test]
 fn listings() {
@@ -12,8 +12,9 @@ fn listings() {
     for round in 0..150 {
         let n = 2 + draw.below(if round % 10 == 0 { 300 } else { 20 }) as usize;
         let entries = draw.entries(n);
-        let bytes = entries.index();
-        let index = Index::open_unknown_terms(&bytes).unwrap();
+        let version = draw.of(&VERSIONS);
+        let bytes = entries.index(version);
+        let index = Index::open_unknown_terms(&bytes, version).unwrap();
         for _ in 0..4 {
             let table = draw.table();
             let automaton = Automaton::from_table(&table).unwrap();
@@ -180,8 +181,8 @@ fn empty_separator() -> Result<(), Refusal> {
     let mut builder = Builder::new();
     builder.add_block(b"", BlockAddr::new(0..1, 0))?;
     builder.add_block(b"a", BlockAddr::new(1..2, 1))?;
-    let bytes = builder.finish()?;
-    let index = Index::open_unknown_terms(&bytes)?;
+    let bytes = builder.finish(Version::V3)?;
+    let index = Index::open_unknown_terms(&bytes, Version::V3)?;
     assert_eq!(index.separator(0), Some(&b""[..]));
     let empty = Automaton::from_fn(2, |state| state == 0, |_, _| 1)?;
     let ids: Vec<u64> = index

@@ -5,7 +5,8 @@ mod model;
 use std::collections::BTreeSet;
 use std::error::Error;
 
-use rosmarel::{Automaton, BlockAddr, Builder, Index, Refusal};
+use model::VERSIONS;
+use rosmarel::{Automaton, BlockAddr, Builder, Index, Refusal, Version};
 
 const LIMIT: u64 = 1 << 48;
 
@@ -25,13 +26,20 @@ fn two() -> Builder {
     builder
 }
 
+/// The index of few blocks, which is the same in both versions.
+fn finished(builder: &Builder) -> Vec<u8> {
+    let [three, four] = VERSIONS.map(|version| builder.finish(version).unwrap());
+    assert_eq!(three, four);
+    three
+}
+
 /// The call is refused and changes nothing.
 fn add_refused(key: &[u8], block: BlockAddr, refusal: Refusal) {
     let mut builder = two();
-    let before = builder.finish().unwrap();
+    let before = finished(&builder);
     assert_eq!(builder.add_block(key, block), Err(refusal));
     assert_eq!(builder.len(), 2);
-    assert_eq!(builder.finish().unwrap(), before);
+    assert_eq!(finished(&builder), before);
     // and the builder goes on
     builder.add_block(b"e", BlockAddr::new(25..30, 10)).unwrap();
 }
@@ -40,9 +48,9 @@ fn add_refused(key: &[u8], block: BlockAddr, refusal: Refusal) {
 fn numbers_and_sentences() {
     let all: Vec<Refusal> = (0..=100).filter_map(Refusal::from_number).collect();
     let numbers: Vec<u32> = all.iter().map(|refusal| refusal.number()).collect();
-    assert_eq!(numbers, Vec::from_iter(1..=29));
+    assert_eq!(numbers, Vec::from_iter(1..=30));
     let sentences: BTreeSet<&str> = all.iter().map(|refusal| refusal.sentence()).collect();
-    assert_eq!(sentences.len(), 29);
+    assert_eq!(sentences.len(), 30);
     for refusal in all {
         let error: Box<dyn Error + Send + Sync> = Box::new(refusal);
         let number = u32::from(refusal);
@@ -117,10 +125,10 @@ fn shorten_2_and_6() {
         (b"d", Refusal::KeyOrder),
     ] {
         let mut builder = two();
-        let before = builder.finish().unwrap();
+        let before = finished(&builder);
         let answer = builder.shorten_last_block_key_given_next_key(key);
         assert_eq!(answer, Err(refusal));
-        assert_eq!(builder.finish().unwrap(), before);
+        assert_eq!(finished(&builder), before);
     }
     let mut fresh = Builder::new();
     let answer = fresh.shorten_last_block_key_given_next_key(&[0; 1_025]);
@@ -142,64 +150,79 @@ fn add_7() {
         Err(Refusal::TooManyBlocks)
     );
     assert_eq!(builder.len(), most);
-    let bytes = builder.finish().unwrap();
-    let index = Index::open(&bytes, 3 * most).unwrap();
-    assert_eq!(index.len(), most);
-    assert!(index.blocks().eq((0..most).map(|i| (i, block(i)))));
-    assert!(index.separators().eq((0..most).map(key)));
-    for i in (0..most).step_by(997) {
-        assert_eq!(index.get_block_with_key(&key(i)), Some((i, block(i))));
-        assert_eq!(index.locate_with_ord(3 * i + 2), Some((i, block(i))));
+    for version in VERSIONS {
+        let bytes = builder.finish(version).unwrap();
+        let index = Index::open(&bytes, version, 3 * most).unwrap();
+        assert_eq!(index.len(), most);
+        assert!(index.blocks().eq((0..most).map(|i| (i, block(i)))));
+        assert!(index.separators().eq((0..most).map(key)));
+        for i in (0..most).step_by(997) {
+            assert_eq!(index.get_block_with_key(&key(i)), Some((i, block(i))));
+            assert_eq!(index.locate_with_ord(3 * i + 2), Some((i, block(i))));
+        }
+        assert_eq!(index.locate_with_ord(3 * most), None);
     }
-    assert_eq!(index.locate_with_ord(3 * most), None);
 }
 
 #[test]
 fn finish_9() {
     let builder = two();
-    let total = builder.finish_len().unwrap();
-    for len in 0..total {
-        let mut out = vec![0x5a; len];
-        assert_eq!(builder.finish_into(&mut out), Err(Refusal::OutputTooShort));
-        assert!(out.iter().all(|&byte| byte == 0x5a));
+    for version in VERSIONS {
+        let total = builder.finish_len(version).unwrap();
+        for len in 0..total {
+            let mut out = vec![0x5a; len];
+            let answer = builder.finish_into(version, &mut out);
+            assert_eq!(answer, Err(Refusal::OutputTooShort));
+            assert!(out.iter().all(|&byte| byte == 0x5a));
+        }
+        let mut out = vec![0x5a; total + 3];
+        assert_eq!(builder.finish_into(version, &mut out), Ok(total));
+        assert_eq!(out[..total], finished(&builder));
+        assert_eq!(out[total..], [0x5a; 3]);
     }
-    let mut out = vec![0x5a; total + 3];
-    assert_eq!(builder.finish_into(&mut out), Ok(total));
-    assert_eq!(out[..total], builder.finish().unwrap());
-    assert_eq!(out[total..], [0x5a; 3]);
 }
 
 #[test]
 fn finish_of_none_and_one() {
-    let mut builder = Builder::new();
-    assert_eq!(builder.finish().unwrap(), b"");
-    assert_eq!(builder.finish_len(), Ok(0));
-    builder.add_block(b"b", BlockAddr::new(0..10, 0)).unwrap();
-    assert_eq!(builder.finish().unwrap(), b"");
-    let mut out = [0x5a; 4];
-    assert_eq!(builder.finish_into(&mut out), Ok(0));
-    assert_eq!(out, [0x5a; 4]);
-    assert_eq!(Index::open(b"", 1).unwrap_err(), Refusal::Footer);
+    for version in VERSIONS {
+        let mut builder = Builder::new();
+        assert_eq!(builder.finish(version).unwrap(), b"");
+        assert_eq!(builder.finish_len(version), Ok(0));
+        builder.add_block(b"b", BlockAddr::new(0..10, 0)).unwrap();
+        assert_eq!(builder.finish(version).unwrap(), b"");
+        let mut out = [0x5a; 4];
+        assert_eq!(builder.finish_into(version, &mut out), Ok(0));
+        assert_eq!(out, [0x5a; 4]);
+        let opened = Index::open(b"", version, 1);
+        assert_eq!(opened.unwrap_err(), Refusal::Footer);
+    }
 }
 
 #[test]
 fn cleared() {
     let mut builder = two();
-    let before = builder.finish().unwrap();
+    let before = finished(&builder);
     builder.clear();
     assert_eq!((builder.len(), builder.last_separator()), (0, None));
-    assert_eq!(builder.finish().unwrap(), b"");
+    assert_eq!(finished(&builder), b"");
     builder.add_block(b"b", BlockAddr::new(3..10, 5)).unwrap();
     builder.add_block(b"d", BlockAddr::new(10..25, 9)).unwrap();
-    assert_eq!(builder.finish().unwrap(), before);
+    assert_eq!(finished(&builder), before);
 }
 
 #[test]
 fn store_3_4_5_7_9() {
+    for version in VERSIONS {
+        store_in(version);
+    }
+}
+
+fn store_in(version: Version) {
     let refused = |blocks: &[BlockAddr], refusal| {
-        assert_eq!(rosmarel::store(blocks), Err(refusal));
+        assert_eq!(rosmarel::store(blocks, version), Err(refusal));
         let mut out = [0x5a; 100];
-        assert_eq!(rosmarel::store_into(blocks, &mut out), Err(refusal));
+        let answer = rosmarel::store_into(blocks, version, &mut out);
+        assert_eq!(answer, Err(refusal));
         assert_eq!(out, [0x5a; 100]);
         assert_eq!(model::store_no(blocks), refusal.number());
     };
@@ -221,42 +244,47 @@ fn store_3_4_5_7_9() {
     many[65_536].end = 0;
     refused(&many, Refusal::BlockNumbers);
 
-    let store = rosmarel::store(&many[..300]).unwrap();
-    assert_eq!(store, model::store(&many[..300]));
+    let some = &many[..300];
+    let store = rosmarel::store(some, version).unwrap();
+    assert_eq!(store, model::store(version, some));
     for len in 0..store.len() {
         let mut out = vec![0x5a; len];
-        assert_eq!(
-            rosmarel::store_into(&many[..300], &mut out),
-            Err(Refusal::OutputTooShort)
-        );
+        let answer = rosmarel::store_into(some, version, &mut out);
+        assert_eq!(answer, Err(Refusal::OutputTooShort));
         assert!(out.iter().all(|&byte| byte == 0x5a));
     }
     let mut out = vec![0x5a; store.len() + 1];
-    assert_eq!(
-        rosmarel::store_into(&many[..300], &mut out),
-        Ok(store.len())
-    );
+    let answer = rosmarel::store_into(some, version, &mut out);
+    assert_eq!(answer, Ok(store.len()));
     assert_eq!(out[..store.len()], store);
     assert_eq!(out[store.len()], 0x5a);
 }
 
-/// A file with one thing changed. Its fault comes before a number of terms that is too low.
+/// A file with one thing changed. Its fault comes before a number of terms that is too low, and is that of both versions.
 fn opened(change: impl Fn(&mut Vec<u8>)) -> Refusal {
-    let mut bytes = two().finish().unwrap();
+    let mut bytes = finished(&two());
     change(&mut bytes);
-    let refusal = Index::open_unknown_terms(&bytes).unwrap_err();
+    let [three, four] = VERSIONS.map(|version| opened_in(&bytes, version));
+    assert_eq!(three, four);
+    three
+}
+
+fn opened_in(bytes: &[u8], version: Version) -> Refusal {
+    let refusal = Index::open_unknown_terms(bytes, version).unwrap_err();
     for terms in [0, 1, 9, 10, 1 << 48, 1 << 55, u64::MAX] {
-        assert_eq!(Index::open(&bytes, terms).unwrap_err(), refusal, "{terms}");
-        assert_eq!(model::open(&bytes, terms), Err(refusal.number()));
+        let opened = Index::open(bytes, version, terms);
+        assert_eq!(opened.unwrap_err(), refusal, "{terms}");
+        let model = model::open(bytes, version, terms);
+        assert_eq!(model, Err(refusal.number()));
     }
-    assert_eq!(rosmarel::check_canonical(&bytes), Err(refusal));
+    assert_eq!(rosmarel::check_canonical(bytes, version), Err(refusal));
     refusal
 }
 
 #[test]
 fn open_10_to_16() {
     // directory: count at 0, pairs at 4 and 12, keys at 20; 22 bytes
-    let len = two().finish().unwrap().len();
+    let len = finished(&two()).len();
     let (store, footer) = (22, len - 8);
     let set = |at: usize, value: u8| opened(|bytes| bytes[at] = value);
     assert_eq!(opened(|bytes| bytes.truncate(7)), Refusal::Footer);
@@ -309,18 +337,19 @@ fn open_10_to_16() {
 /// The blocks have the first ordinals 5 and 9.
 #[test]
 fn open_28() {
-    let bytes = two().finish().unwrap();
-    for terms in 0..=9 {
-        assert_eq!(
-            Index::open(&bytes, terms).unwrap_err(),
-            Refusal::TooFewTerms
-        );
+    let bytes = finished(&two());
+    for version in VERSIONS {
+        let opening = |terms| Index::open(&bytes, version, terms);
+        for terms in 0..=9 {
+            assert_eq!(opening(terms).unwrap_err(), Refusal::TooFewTerms);
+        }
+        for terms in [10, 11, 1 << 48, 1 << 55, u64::MAX] {
+            assert_eq!(opening(terms).unwrap().terms(), terms);
+        }
+        let unknown = Index::open_unknown_terms(&bytes, version).unwrap();
+        assert_eq!(unknown.terms(), 10);
+        assert_eq!(rosmarel::check_canonical(&bytes, version), Ok(()));
     }
-    for terms in [10, 11, 1 << 48, 1 << 55, u64::MAX] {
-        assert_eq!(Index::open(&bytes, terms).unwrap().terms(), terms);
-    }
-    assert_eq!(Index::open_unknown_terms(&bytes).unwrap().terms(), 10);
-    assert_eq!(rosmarel::check_canonical(&bytes), Ok(()));
 }
 
 #[test]

@@ -2,8 +2,8 @@
 
 mod model;
 
-use model::{Draw, Entries, LIMIT};
-use rosmarel::{BlockAddr, Builder, Index, Refusal};
+use model::{Draw, Entries, LIMIT, VERSIONS};
+use rosmarel::{BlockAddr, Builder, Index, Refusal, Version};
 
 fn number(answer: Result<(), Refusal>) -> u32 {
     answer.map_or_else(Refusal::number, |()| 0)
@@ -88,19 +88,8 @@ fn lists_of_calls() {
             let last = entries.keys.last().map(|key| &key[..]);
             assert_eq!(builder.last_separator(), last);
         }
-        let bytes = builder.finish().unwrap();
-        assert_eq!(bytes, entries.index());
-        assert_eq!(builder.finish_len(), Ok(bytes.len()));
-        assert_eq!(
-            rosmarel::store(&entries.blocks).unwrap(),
-            model::store(&entries.blocks)
-        );
-        if entries.blocks.len() < 2 {
-            assert_eq!(bytes, b"");
-            assert_eq!(rosmarel::check_canonical(&bytes), Err(Refusal::Footer));
-        } else {
-            assert_eq!(rosmarel::check_canonical(&bytes), Ok(()));
-            look_up(&mut draw, &bytes, &entries);
+        for version in VERSIONS {
+            finish(&mut draw, version, &builder, &entries);
         }
     }
     // each row of add and shorten was met
@@ -110,14 +99,31 @@ fn lists_of_calls() {
     );
 }
 
+/// The index and the store are the model's.
+fn finish(draw: &mut Draw, version: Version, builder: &Builder, entries: &Entries) {
+    let bytes = builder.finish(version).unwrap();
+    assert_eq!(bytes, entries.index(version));
+    assert_eq!(builder.finish_len(version), Ok(bytes.len()));
+    let store = rosmarel::store(&entries.blocks, version).unwrap();
+    assert_eq!(store, model::store(version, &entries.blocks));
+    let checked = rosmarel::check_canonical(&bytes, version);
+    if entries.blocks.len() < 2 {
+        assert_eq!((&bytes[..], checked), (&[][..], Err(Refusal::Footer)));
+    } else {
+        assert_eq!(checked, Ok(()));
+        look_up(draw, &bytes, version, entries);
+    }
+}
+
 /// Every lookup gives what the entries give.
-fn look_up(draw: &mut Draw, bytes: &[u8], entries: &Entries) {
+fn look_up(draw: &mut Draw, bytes: &[u8], version: Version, entries: &Entries) {
     let least = entries.least_terms();
     let terms = draw.of(&[least, least + 1, least + 500, LIMIT, u64::MAX]);
-    let index = Index::open(bytes, terms).unwrap();
-    assert_eq!(model::open(bytes, terms).as_ref(), Ok(entries));
+    let index = Index::open(bytes, version, terms).unwrap();
+    assert_eq!(model::open(bytes, version, terms).as_ref(), Ok(entries));
     let n = entries.blocks.len() as u64;
     assert_eq!((index.len(), index.terms()), (n, terms));
+    assert_eq!(index.version(), version);
     assert_eq!(index.as_bytes(), bytes);
     for id in (0..n + 2).chain([1 << 32, u64::MAX]) {
         let at = usize::try_from(id).unwrap();
@@ -182,9 +188,9 @@ fn iterate(index: &Index, entries: &Entries) {
 /// Separators are parts of the bytes that were opened, and live as long as these.
 #[test]
 fn separators_are_parts() {
-    let bytes = Draw::new(2).entries(200).index();
+    let bytes = Draw::new(2).entries(200).index(Version::V4);
     let separators: Vec<&[u8]> = {
-        let index = Index::open_unknown_terms(&bytes).unwrap();
+        let index = Index::open_unknown_terms(&bytes, Version::V4).unwrap();
         (0..200).map(|id| index.separator(id).unwrap()).collect()
     };
     let mut place = 4 + 8 * 200;
@@ -194,7 +200,7 @@ fn separators_are_parts() {
     }
 }
 
-/// Lists with equal blocks and separators have equal bytes, others differ.
+/// In one version lists with equal blocks and separators have equal bytes, others differ.
 #[test]
 fn equal_lists() {
     let mut draw = Draw::new(3);
@@ -205,12 +211,15 @@ fn equal_lists() {
         for (key, &block) in entries.keys.iter().zip(&entries.blocks) {
             builder.add_block(key, block).unwrap();
         }
-        let bytes = builder.finish().unwrap();
-        assert_eq!(bytes, entries.index());
+        let finished = |builder: &Builder| VERSIONS.map(|version| builder.finish(version).unwrap());
+        let before = finished(&builder);
+        assert_eq!(before, VERSIONS.map(|version| entries.index(version)));
         let last = entries.blocks[n - 1];
         let more = BlockAddr::new(last.end..last.end, last.first_ordinal + 1);
         builder.add_block(&[0xff; 10], more).unwrap();
-        assert_ne!(builder.finish().unwrap(), bytes);
+        for (bytes, before) in finished(&builder).iter().zip(&before) {
+            assert_ne!(bytes, before);
+        }
     }
 }
 
@@ -228,8 +237,8 @@ fn common_prefixes() {
 #[test]
 fn shared_by_threads() {
     let entries = Draw::new(5).entries(1_000);
-    let bytes = entries.index();
-    let index = Index::open_unknown_terms(&bytes).unwrap();
+    let bytes = entries.index(Version::V4);
+    let index = Index::open_unknown_terms(&bytes, Version::V4).unwrap();
     std::thread::scope(|scope| {
         for _ in 0..4 {
             scope.spawn(|| {

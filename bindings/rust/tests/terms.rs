@@ -2,8 +2,8 @@
 
 mod model;
 
-use model::{Draw, Entries, LIMIT};
-use rosmarel::{Automaton, BlockAddr, Index, Refusal};
+use model::{Draw, Entries, LIMIT, VERSIONS};
+use rosmarel::{Automaton, BlockAddr, Index, Refusal, Version};
 
 /// Two blocks, the second with the highest first ordinal that there is.
 fn highest() -> Entries {
@@ -13,15 +13,16 @@ fn highest() -> Entries {
     entries
 }
 
-/// The worked one, that one, and lists of sizes around full groups.
-fn lists() -> Vec<Entries> {
+/// The worked one, that one, and lists of sizes around full groups, with the indexes in both versions.
+fn lists() -> Vec<(Entries, Version, Vec<u8>)> {
     let mut draw = Draw::new(40);
     let sizes = [2, 3, 127, 128, 129, 256, 257, 1_000];
     let drawn = sizes.map(|n| draw.entries(n));
-    [Entries::worked(), highest()]
-        .into_iter()
-        .chain(drawn)
-        .collect()
+    let lists = [Entries::worked(), highest()].into_iter().chain(drawn);
+    let finished = |entries: Entries| {
+        VERSIONS.map(|version| (entries.clone(), version, entries.index(version)))
+    };
+    lists.flat_map(finished).collect()
 }
 
 /// Numbers of terms below and above the least one.
@@ -43,12 +44,12 @@ fn ordinals(entries: &Entries, terms: u64) -> Vec<u64> {
 /// 28 exactly where the number isn't above the last first ordinal.
 #[test]
 fn every_number_above_the_last_first_ordinal() {
-    for entries in lists() {
-        let bytes = entries.index();
+    for (entries, version, bytes) in lists() {
         let last = entries.blocks[entries.blocks.len() - 1].first_ordinal;
         for terms in numbers(last + 1) {
-            let opened = Index::open(&bytes, terms);
-            let number = model::open(&bytes, terms).map_or_else(|number| number, |_| 0);
+            let opened = Index::open(&bytes, version, terms);
+            let model = model::open(&bytes, version, terms);
+            let number = model.map_or_else(|number| number, |_| 0);
             if terms <= last {
                 assert_eq!((opened.unwrap_err(), number), (Refusal::TooFewTerms, 28));
             } else {
@@ -61,10 +62,16 @@ fn every_number_above_the_last_first_ordinal() {
 /// All small numbers with all small ordinals, in the worked index.
 #[test]
 fn small_numbers() {
+    for version in VERSIONS {
+        small_numbers_in(version);
+    }
+}
+
+fn small_numbers_in(version: Version) {
     let entries = Entries::worked();
-    let bytes = entries.index();
+    let bytes = entries.index(version);
     for terms in 0..40 {
-        let Ok(index) = Index::open(&bytes, terms) else {
+        let Ok(index) = Index::open(&bytes, version, terms) else {
             assert!(terms <= 9);
             continue;
         };
@@ -85,11 +92,10 @@ fn small_numbers() {
 #[test]
 fn ordinals_below_the_number_of_terms() {
     let mut seen = [0; 3];
-    for entries in lists() {
-        let bytes = entries.index();
+    for (entries, version, bytes) in lists() {
         let least = entries.least_terms();
         for terms in numbers(least).into_iter().filter(|&terms| terms >= least) {
-            let index = Index::open(&bytes, terms).unwrap();
+            let index = Index::open(&bytes, version, terms).unwrap();
             for ord in ordinals(&entries, terms) {
                 let found = index.locate_with_ord(ord);
                 assert_eq!(found, entries.by_ord(ord, terms), "{ord} of {terms}");
@@ -110,18 +116,21 @@ fn ordinals_below_the_number_of_terms() {
 #[test]
 fn highest_first_ordinal() {
     let entries = highest();
-    let bytes = entries.index();
     let last = Some((1, entries.blocks[1]));
-    let refused = Index::open(&bytes, LIMIT - 1).unwrap_err();
-    assert_eq!(refused, Refusal::TooFewTerms);
-    let index = Index::open(&bytes, LIMIT).unwrap();
-    assert_eq!(index.locate_with_ord(LIMIT - 1), last);
-    assert_eq!(index.locate_with_ord(LIMIT), None);
-    assert_eq!(Index::open_unknown_terms(&bytes).unwrap().terms(), LIMIT);
-    let index = Index::open(&bytes, u64::MAX).unwrap();
-    assert_eq!(index.locate_with_ord(u64::MAX - 1), last);
-    assert_eq!(index.locate_with_ord(u64::MAX), None);
-    assert_eq!(index.locate_with_ord(6), None);
+    for version in VERSIONS {
+        let bytes = entries.index(version);
+        let opening = |terms| Index::open(&bytes, version, terms);
+        assert_eq!(opening(LIMIT - 1).unwrap_err(), Refusal::TooFewTerms);
+        let index = opening(LIMIT).unwrap();
+        assert_eq!(index.locate_with_ord(LIMIT - 1), last);
+        assert_eq!(index.locate_with_ord(LIMIT), None);
+        let unknown = Index::open_unknown_terms(&bytes, version).unwrap();
+        assert_eq!(unknown.terms(), LIMIT);
+        let index = opening(u64::MAX).unwrap();
+        assert_eq!(index.locate_with_ord(u64::MAX - 1), last);
+        assert_eq!(index.locate_with_ord(u64::MAX), None);
+        assert_eq!(index.locate_with_ord(6), None);
+    }
 }
 
 /// What doesn't go by ordinals is the same.
@@ -150,12 +159,11 @@ fn same_but_ordinals(one: &Index, other: &Index, entries: &Entries) {
 /// Whatever the number of terms, other lookups find the same.
 #[test]
 fn other_lookups() {
-    for entries in lists() {
-        let bytes = entries.index();
+    for (entries, version, bytes) in lists() {
         let least = entries.least_terms();
-        let index = Index::open(&bytes, least).unwrap();
+        let opening = |terms| Index::open(&bytes, version, terms).unwrap();
         for terms in numbers(least).into_iter().filter(|&terms| terms > least) {
-            same_but_ordinals(&Index::open(&bytes, terms).unwrap(), &index, &entries);
+            same_but_ordinals(&opening(terms), &opening(least), &entries);
         }
     }
 }
@@ -163,11 +171,10 @@ fn other_lookups() {
 /// A file of unknown terms has every answer that it has with the last first ordinal plus one.
 #[test]
 fn unknown_terms() {
-    for entries in lists() {
-        let bytes = entries.index();
+    for (entries, version, bytes) in lists() {
         let last = entries.blocks[entries.blocks.len() - 1];
-        let index = Index::open_unknown_terms(&bytes).unwrap();
-        let known = Index::open(&bytes, last.first_ordinal + 1).unwrap();
+        let index = Index::open_unknown_terms(&bytes, version).unwrap();
+        let known = Index::open(&bytes, version, last.first_ordinal + 1).unwrap();
         assert_eq!(index.terms(), last.first_ordinal + 1);
         assert_eq!(format!("{index:?}"), format!("{known:?}"));
         same_but_ordinals(&index, &known, &entries);

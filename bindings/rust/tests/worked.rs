@@ -2,7 +2,8 @@
 
 mod model;
 
-use rosmarel::{Automaton, BlockAddr, Builder, Index, Refusal};
+use model::VERSIONS;
+use rosmarel::{Automaton, BlockAddr, Builder, Index, Refusal, Version};
 
 fn blocks() -> [BlockAddr; 3] {
     [
@@ -12,17 +13,27 @@ fn blocks() -> [BlockAddr; 3] {
     ]
 }
 
+/// One group, so that it is the same in both versions.
 fn index() -> Vec<u8> {
     let mut builder = Builder::new();
     for (key, block) in [b"\x62", b"\x64", b"\x66"].into_iter().zip(blocks()) {
         builder.add_block(key, block).unwrap();
     }
-    builder.finish().unwrap()
+    let [three, four] = VERSIONS.map(|version| builder.finish(version).unwrap());
+    assert_eq!(three, four);
+    three
+}
+
+/// The store in both versions, for few blocks.
+fn store(blocks: &[BlockAddr]) -> Vec<u8> {
+    let [three, four] = VERSIONS.map(|version| rosmarel::store(blocks, version).unwrap());
+    assert_eq!(three, four);
+    three
 }
 
 #[test]
 fn store_of_three_blocks() {
-    let store = rosmarel::store(&blocks()).unwrap();
+    let store = store(&blocks());
     let mut wanted = Vec::new();
     wanted.extend(36u64.to_le_bytes());
     wanted.extend([0; 24]);
@@ -45,7 +56,7 @@ fn index_of_three_blocks() {
     }
     wanted.extend(b"bdf");
     let directory_len = wanted.len() as u64;
-    wanted.extend(rosmarel::store(&blocks()).unwrap());
+    wanted.extend(store(&blocks()));
     wanted.extend(directory_len.to_le_bytes());
     assert_eq!(index, wanted);
 }
@@ -54,22 +65,29 @@ fn index_of_three_blocks() {
 #[test]
 fn check_of_three_blocks() {
     let mut index = index();
-    assert_eq!(rosmarel::check_canonical(&index), Ok(()));
-    for bit in 5..8 {
-        index[76] ^= 1 << bit;
-        assert_eq!(
-            rosmarel::check_canonical(&index),
-            Err(Refusal::NotCanonical)
-        );
-        index[76] ^= 1 << bit;
+    for version in VERSIONS {
+        assert_eq!(rosmarel::check_canonical(&index, version), Ok(()));
+        for bit in 5..8 {
+            index[76] ^= 1 << bit;
+            let checked = rosmarel::check_canonical(&index, version);
+            assert_eq!(checked, Err(Refusal::NotCanonical));
+            index[76] ^= 1 << bit;
+        }
     }
 }
 
 #[test]
 fn lookups_in_three_blocks() {
+    for version in VERSIONS {
+        lookups(version);
+    }
+}
+
+fn lookups(version: Version) {
     let bytes = index();
-    let index = Index::open(&bytes, 12).unwrap();
+    let index = Index::open(&bytes, version, 12).unwrap();
     assert_eq!((index.len(), index.terms()), (3, 12));
+    assert_eq!(index.version(), version);
     assert_eq!(index.get_block(2), Some(blocks()[2]));
     assert_eq!(index.get_block(3), None);
     assert_eq!(index.get_block(u64::MAX), None);
@@ -98,11 +116,11 @@ fn lookups_in_three_blocks() {
     assert_eq!(ids, [&[None], &some[..], &[None]].concat());
 }
 
-/// The lines that the program `blocks` prints for these bytes; it knows no number of terms.
+/// The lines that the program `blocks` prints for these bytes; it reads version 3 and knows no number of terms.
 #[test]
 fn lines_of_three_blocks() {
     let bytes = index();
-    let index = Index::open_unknown_terms(&bytes).unwrap();
+    let index = Index::open_unknown_terms(&bytes, Version::V3).unwrap();
     let mut lines = String::new();
     for ((id, block), separator) in index.blocks().zip(index.separators()) {
         let hex: String = separator.iter().map(|byte| format!("{byte:02x}")).collect();
@@ -120,26 +138,26 @@ fn lines_of_three_blocks() {
 #[test]
 fn slopes() {
     // the point (1, 2^40) as a range point; no ordinal points
-    let store = rosmarel::store(&[BlockAddr::new(0..1 << 40, 0)]).unwrap();
-    assert_eq!(store[8 + 24..8 + 28], 0u32.to_le_bytes());
-    assert_eq!(store[8 + 28..8 + 32], 0u32.to_le_bytes());
-    assert_eq!(store[8 + 32..8 + 34], [1, 42]);
+    let bytes = store(&[BlockAddr::new(0..1 << 40, 0)]);
+    assert_eq!(bytes[8 + 24..8 + 28], 0u32.to_le_bytes());
+    assert_eq!(bytes[8 + 28..8 + 32], 0u32.to_le_bytes());
+    assert_eq!(bytes[8 + 32..8 + 34], [1, 42]);
     // and as an ordinal point
     let two = [BlockAddr::new(0..0, 0), BlockAddr::new(0..0, 1 << 40)];
-    let store = rosmarel::store(&two).unwrap();
-    assert_eq!(store[8 + 28..8 + 32], 0u32.to_le_bytes());
-    assert_eq!(store[8 + 32..8 + 34], [42, 1]);
+    let bytes = store(&two);
+    assert_eq!(bytes[8 + 28..8 + 32], 0u32.to_le_bytes());
+    assert_eq!(bytes[8 + 32..8 + 34], [42, 1]);
     // the widest block
-    let store = rosmarel::store(&[BlockAddr::new(0..(1 << 48) - 1, 0)]).unwrap();
-    assert_eq!(store[8 + 24..8 + 28], u32::MAX.to_le_bytes());
-    assert_eq!(store[8 + 33], 49);
+    let bytes = store(&[BlockAddr::new(0..(1 << 48) - 1, 0)]);
+    assert_eq!(bytes[8 + 24..8 + 28], u32::MAX.to_le_bytes());
+    assert_eq!(bytes[8 + 33], 49);
 }
 
 #[test]
 fn stores_of_none_and_one() {
-    assert_eq!(rosmarel::store(&[]).unwrap(), [0; 8]);
+    assert_eq!(store(&[]), [0; 8]);
     let one = [BlockAddr::new(5..9, 3)];
-    assert_eq!(rosmarel::store(&one).unwrap(), model::store(&one));
+    assert_eq!(store(&one), model::store(Version::V3, &one));
 }
 
 #[test]
@@ -225,13 +243,13 @@ fn model_agrees() {
     assert_eq!(model::best_slope(&[4, 9]), (5, 2));
     assert_eq!(model::best_slope(&[1 << 40]), (0, 42));
     assert_eq!(model::best_slope(&[]), (0, 1));
-    let opened = model::open(&index(), 12).unwrap();
-    assert_eq!(opened.blocks, blocks());
-    assert_eq!(opened.index(), index());
-    assert_eq!(
-        (opened.least_terms(), model::open(&index(), 9)),
-        (10, Err(28))
-    );
-    assert_eq!(opened.by_ord(11, 12), Some((2, blocks()[2])));
-    assert_eq!(opened.by_ord(12, 12), None);
+    for version in VERSIONS {
+        let opened = model::open(&index(), version, 12).unwrap();
+        assert_eq!(opened.blocks, blocks());
+        assert_eq!(opened.index(version), index());
+        assert_eq!(opened.least_terms(), 10);
+        assert_eq!(model::open(&index(), version, 9), Err(28));
+        assert_eq!(opened.by_ord(11, 12), Some((2, blocks()[2])));
+        assert_eq!(opened.by_ord(12, 12), None);
+    }
 }

@@ -12,9 +12,9 @@ use Rattle.layout.specs.Layout.{max_blocks}
 use Rattle.serialize.proofs.Stores.{get_or-sets}
 use Rattle.index.specs.declared.SSTableIndexV3.{SSTableIndexV3}
 use Rattle.index.specs.Parts.{separator_in}
-use Rattle.index.specs.Opening.{Opens, group_of}
+use Rattle.index.specs.Opening.{Opens}
 use Rattle.index.specs.Lookups.{ByKeyExact, LocateWithKey}
-use Rattle.index.proofs.OpenFacts.{opens-facts-by}
+use Rattle.index.proofs.OpenFacts.{opens-facts}
 use Rattle.key_list.specs.KeyList.{key_list_count, key_list_key}
 use Rattle.batch_search.specs.Entries.{no_id, EntryExact}
 use Rattle.batch_search.proofs.Entries.{entry-unique}
@@ -56,7 +56,7 @@ batch-single f opened pairs bytes ids written o b i k id h s =
     ∙ (rw (zero-add i) at (get_or-sets ids t.list 0 i (omega (arith, t.long, room)) (omega (arith, t.long)))) in
     let same = entry-single (separator_in f) opened.n (key_list_key pairs bytes i) k id (get_or t.list i 0) (s.exact o) (t.each i h) in
     let few : opened.n ≤ max_blocks =
-    (opens-facts-by (group_of opened) f opened (record { some = omega arith; few = omega arith }) o).fits.few in (
+    (opens-facts f opened o).fits.few in (
       λ e. at ∙ same.0 e,
       λ e. at ∙ same.1 e,
       λ e. none-single (separator_in f) opened.n (key_list_key pairs bytes i) few k id (get_or t.list i 0) (s.exact o) (t.each i h)

@@ -7,7 +7,6 @@ ghost use Rattle.layout.specs.Refusals.{no_of};
 ghost use Rattle.batch.specs.Batch.{LocateWithKeys};
 
 use index::SSTableIndexV3;
-use layout::STORE_BLOCK_LEN;
 use layout::refusals::Refusal;
 
 // Writes the id of the block of each key at the front of `ids`. The C interface calls it, which hands over no group length, and record
@@ -21,5 +20,5 @@ pub fn locate_with_keys(
 ) -> Result<(), Refusal>
     ensures { LocateWithKeys «data».now opened pairs.now keys.now ids.old ids.new (no_of result) }
 {
-    grouped::locate_with_keys(opened, data, STORE_BLOCK_LEN, pairs, keys, ids)
+    grouped::locate_with_keys(opened, data, opened.group_len(), pairs, keys, ids)
 }

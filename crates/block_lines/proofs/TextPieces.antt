@@ -12,7 +12,7 @@ use Rattle.layout.specs.declared.refusals.Refusal.{Refusal}
 use Rattle.index.specs.Opening.{load_least_def}
 use Rattle.line_text.specs.Lines.{decimal}
 use Rattle.line_text.specs.Lines.{too_long_line, refused_text, refused_line}
-use Rattle.block_lines.specs.Text.{max_len, line_at, lines_from, loaded_pieces, blocks_pieces}
+use Rattle.block_lines.specs.Text.{read_version, max_len, line_at, lines_from, loaded_pieces, blocks_pieces}
 use Rattle.line_text.proofs.Decimal.{length-fuel}
 
 module _ (f : List ℕ) where
@@ -20,7 +20,7 @@ module _ (f : List ℕ) where
   unfolding blocks_pieces
   long-pieces h = rw (lt-ltb max_len (length f) h)
 
-  pub short-pieces : length f ≤ max_len → (loaded : Result SSTableIndexV3 Refusal) → load_least_def f ≡ loaded
+  pub short-pieces : length f ≤ max_len → (loaded : Result SSTableIndexV3 Refusal) → load_least_def read_version f ≡ loaded
       → blocks_pieces f ≡ loaded_pieces loaded f
   unfolding blocks_pieces
   short-pieces h loaded e = rw (le-ltb max_len (length f) h, e)

@@ -9,6 +9,10 @@ use Rattle.index.specs.Opening.{load_least_def}
 use Rattle.block_lines.specs.Opened.{opened_block}
 use Rattle.line_text.specs.Lines.{line_of, too_long_line, refused_line, line_len}
 
+-- the version that the program reads
+abbrev pub read_version : ℕ
+read_version = 3
+
 -- the longest input that is taken
 abbrev pub max_len : ℕ
 max_len = 65536
@@ -22,13 +26,13 @@ unfoldable pub lines_from : SSTableIndexV3 → List ℕ → ℕ → ℕ → List
 lines_from opened f id zero = []
 lines_from opened f id (suc count) = line_at opened f id ∷ lines_from opened f (suc id) count
 
--- by what opening with the least number of terms answers: a line per block, or the one of the refusal
+-- by what opening with that version and the least number of terms answers: a line per block, or the one of the refusal
 abbrev pub loaded_pieces : Result SSTableIndexV3 Refusal → List ℕ → List (List ℕ)
 loaded_pieces (Ok opened) f = lines_from opened f 0 opened.n
 loaded_pieces (Err refusal) f = refused_line (number_of refusal) ∷ []
 
 unfoldable pub blocks_pieces : List ℕ → List (List ℕ)
-blocks_pieces f = cond (ltb max_len (length f)) (too_long_line ∷ []) (loaded_pieces (load_least_def f) f)
+blocks_pieces f = cond (ltb max_len (length f)) (too_long_line ∷ []) (loaded_pieces (load_least_def read_version f) f)
 
 -- all of them, joined: the whole text
 unfoldable pub blocks_text : List ℕ → List ℕ

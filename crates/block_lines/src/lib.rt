@@ -8,7 +8,7 @@ ghost use Rattle.group.specs.Legal.{NumbersOk};
 ghost use Rattle.line_text.specs.Lines.{line_of, line_len};
 ghost use Rattle.index.specs.Opening.{load_least_def, Opens};
 ghost use Rattle.block_lines.specs.Opened.{opened_block};
-ghost use Rattle.block_lines.specs.Text.{line_at, blocks_pieces, IsPiece};
+ghost use Rattle.block_lines.specs.Text.{read_version, line_at, blocks_pieces, IsPiece};
 ghost use Rattle.block_lines.specs.Pieces.{piece_text};
 
 use group::BlockAddr;
@@ -47,9 +47,9 @@ pub fn line(opened: SSTableIndexV3, data: &[u8], id: usize) -> Line
     }
 }
 
-// How many pieces the text has for these bytes, of which `loaded` is what opening with the least number of terms answers.
+// How many pieces the text has for these bytes, of which `loaded` is what opening with version 3 and the least number of terms answers.
 pub fn pieces(loaded: Result<SSTableIndexV3, Refusal>, data: &[u8]) -> usize
-    requires { loaded ≡ load_least_def «data».now }
+    requires { loaded ≡ load_least_def read_version «data».now }
     ensures { result ≡ length (blocks_pieces «data».now) }
 {
     if data.len() > MAX_LEN {
@@ -60,7 +60,7 @@ pub fn pieces(loaded: Result<SSTableIndexV3, Refusal>, data: &[u8]) -> usize
 
 // Piece i of the text.
 pub fn piece(loaded: Result<SSTableIndexV3, Refusal>, data: &[u8], i: usize) -> Piece
-    requires { (loaded ≡ load_least_def «data».now) × (i < length (blocks_pieces «data».now)) }
+    requires { (loaded ≡ load_least_def read_version «data».now) × (i < length (blocks_pieces «data».now)) }
     ensures { IsPiece «data».now i (piece_text result) }
 {
     if data.len() > MAX_LEN {

@@ -6,6 +6,7 @@ ghost use Rattle.std.specs.Io.KnownBytes.{Appends};
 ghost use Rattle.block_lines.specs.Text.{blocks_text};
 
 use block_lines::{LINE_LEN, MAX_LEN};
+use layout::versions::SSTABLE_INDEX_V3;
 use std::io;
 use std::io::{Read, Write};
 
@@ -13,7 +14,7 @@ use std::io::{Read, Write};
 fn print<W: Write>(out: &mut W, data: &[u8]) -> io::Result<()>
     ensures { OnOk result (Appends (W.contents out.old) (W.contents out.new) (blocks_text «data».now)) }
 {
-    let loaded = index_load::load_least(data);
+    let loaded = index_load::load_least(SSTABLE_INDEX_V3, data);
     // A fixed area, so that a text can't end in its middle for want of memory.
     let mut text = [0u8; LINE_LEN];
     for i in 0..block_lines::pieces(loaded, data) {

@@ -1,13 +1,15 @@
--- What a finish leaves, refused and accepted, with any settings.
+-- What a finish leaves, refused and accepted, with any settings, and of a version.
 use Prim.Native.Nat.{ℕ, zero, suc, ◌≤◌, ◌<◌}
-use mathlib.Core.Path.{◌≡◌, refl}
+use mathlib.Core.Path.{◌≡◌, refl, sym}
 use mathlib.Core.List.{List}
 use native.Mathlib.Omega.{arith}
 use lib.ListN.{length}
 use lib.Seq.{sets}
 use borrow.Author.Tests.{lt-ltb, le-ltb}
+use Rattle.layout.specs.Versions.{version_no}
+use Rattle.layout.proofs.GroupLengths.{version-hit, version-kept}
 use Rattle.group.specs.Rows.{or_row}
-use Rattle.builder.specs.Index.{Settings}
+use Rattle.builder.specs.Index.{Settings, settings}
 use Rattle.builder.specs.Finish.{
   list_no,
   area_directory,
@@ -17,7 +19,9 @@ use Rattle.builder.specs.Finish.{
   unwritten,
   step_of_finish,
   finish_def,
+  finish_in,
   finish_len_def,
+  finish_len_in,
   FinishLen,
   len_step,
 }
@@ -70,3 +74,23 @@ module _ (S : Settings) (s : SSTableIndexBuilder) (B K : List ℕ) where
       → ◌≡◌ {A = FinishLen} (record { no = 0; total = total }) (finish_len_def S s B K)
   unfolding finish_len_def
   len-taken total e f = rw (e, f)
+
+-- the test of the version comes first
+module _ (version : ℕ) (s : SSTableIndexBuilder) (B K : List ℕ) where
+  module _ (number : ℕ) (e : number ≡ version_no version) (hit : 0 < number) where
+    pub version-refused : (out : List ℕ) → unwritten number s out ≡ finish_in version s B K out
+    unfolding finish_in
+    version-refused out = let bad = version-hit version number e hit in rw (bad.0, bad.1) refl
+
+    pub len-version-refused : ◌≡◌ {A = FinishLen} (record { no = number; total = 0 }) (finish_len_in version s B K)
+    unfolding finish_len_in
+    len-version-refused = let bad = version-hit version number e hit in rw (bad.0, bad.1) refl
+
+  module _ (e : 0 ≡ version_no version) where
+    pub version-taken : (out : List ℕ) → finish_def (settings version) s B K out ≡ finish_in version s B K out
+    unfolding finish_in
+    version-taken out = rw (version-kept version (sym e)) refl
+
+    pub len-version-taken : finish_len_def (settings version) s B K ≡ finish_len_in version s B K
+    unfolding finish_len_in
+    len-version-taken = rw (version-kept version (sym e)) refl

@@ -8,6 +8,8 @@ use lib.ListN.{length, take, drop}
 use lib.Seq.{sets}
 use borrow.Author.Tests.{lt-ltb, le-ltb}
 use borrow.Rule.Slice.PartMut.{put_mid}
+use Rattle.layout.specs.Versions.{group_len_of}
+use Rattle.layout.proofs.GroupLengths.{group-len-some, group-len-most}
 use Rattle.serialize.specs.Digits.{le_bytes}
 use Rattle.serialize.proofs.Stores.{sets-append, sets-in-part}
 use Rattle.slope.proofs.Widths.{best_slope-lt}
@@ -22,15 +24,21 @@ use Rattle.store.proofs.Groups.{group-count-le}
 use Rattle.store.proofs.Stored.{length-store-area, store-addrs-le}
 use Rattle.builder.specs.View.{stride}
 use Rattle.builder.specs.Area.{key_field, area_view}
-use Rattle.builder.specs.Index.{Settings, SettingsOk, settings_of, index_bytes}
+use Rattle.builder.specs.Index.{Settings, SettingsOk, settings_of, settings, index_bytes}
 use Rattle.builder.specs.Finish.{area_keys, area_directory, area_index}
 use Rattle.builder.specs.declared.SSTableIndexBuilder.{SSTableIndexBuilder}
 use Rattle.builder.proofs.Row8.{ListOk, keys-area, store-area}
 use Rattle.builder.proofs.IndexBytes.{length-index_bytes}
 
 -- the settings in use
-pub settings-ok : (L : ℕ) → GroupLenOk L → SettingsOk (settings_of L)
-settings-ok L group = record { slopes = best_slope-lt; group = group }
+pub settings-of-ok : (L : ℕ) → GroupLenOk L → SettingsOk (settings_of L)
+settings-of-ok L group = record { slopes = best_slope-lt; group = group }
+
+pub group-len-ok : (version : ℕ) → GroupLenOk (group_len_of version)
+group-len-ok version = record { some = group-len-some version; few = group-len-most version }
+
+pub settings-ok : (version : ℕ) → SettingsOk (settings version)
+settings-ok version = settings-of-ok (group_len_of version) (group-len-ok version)
 
 module _ (b : SSTableIndexBuilder) (B K : List ℕ) where
   abbrev pub directory_of : List ℕ

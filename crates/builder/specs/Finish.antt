@@ -1,8 +1,9 @@
--- Finish (document 01, rows 1, 8 and 9): what it leaves, for all inputs and settings.
+-- Finish (document 01, rows 1, 8 and 9; document 02, row 30): what it leaves, for all inputs and settings.
 use Rattle.std.specs.Prelude.{ℕ, zero, suc, ◌<◌, List, [], Bool, false, not, ◌||◌, cond, eqb, ltb, length, Result, Ok, Err}
 use Rattle.std.proofs.lemmas.List.Edits.{sets}
 use Rattle.layout.specs.declared.refusals.Refusal.{Refusal}
 use Rattle.layout.specs.Refusals.{number_of}
+use Rattle.layout.specs.Versions.{version_bad}
 use Rattle.group.specs.Blocks.{blocks_at}
 use Rattle.group.specs.Rows.{or_row}
 use Rattle.directory.specs.Directory.{directory_bytes}
@@ -12,7 +13,7 @@ use Rattle.store.specs.Plans.{plans}
 use Rattle.builder.specs.View.{stride}
 use Rattle.builder.specs.Rows.{record_bad, area_bad, block_no}
 use Rattle.builder.specs.Area.{key_field, area_block, area_place, area_key, area_view, view_of}
-use Rattle.builder.specs.Index.{Settings, index_bytes}
+use Rattle.builder.specs.Index.{Settings, settings, index_bytes}
 use Rattle.builder.specs.declared.SSTableIndexBuilder.{SSTableIndexBuilder}
 use Rattle.builder.specs.declared.Refused.{Refused}
 use Rattle.builder.specs.declared.Written.{Written}
@@ -92,7 +93,11 @@ step_of_finish S (suc k) b B K out = unwritten (suc k) b out
 unfoldable pub finish_def : Settings → SSTableIndexBuilder → List ℕ → List ℕ → List ℕ → Finish
 finish_def S b B K out = step_of_finish S (finish_no S b B K out) b B K out
 
--- what `finish_len` answers: rows 1 and 8, or the total that finish would need
+-- a finish of a version: 30 before all others for one that no index has
+unfoldable pub finish_in : ℕ → SSTableIndexBuilder → List ℕ → List ℕ → List ℕ → Finish
+finish_in version b B K out = cond (version_bad version) (unwritten 30 b out) (finish_def (settings version) b B K out)
+
+-- what `finish_len` answers: rows 30, 1 and 8, or the total that finish would need
 pub record FinishLen : Type 0 where
   pub no : ℕ
   pub total : ℕ
@@ -107,3 +112,6 @@ len_step (suc k) total = record { no = suc k; total = 0 }
 
 unfoldable pub finish_len_def : Settings → SSTableIndexBuilder → List ℕ → List ℕ → FinishLen
 finish_len_def S b B K = len_step (list_no b B K) (length (area_index S b B K))
+
+unfoldable pub finish_len_in : ℕ → SSTableIndexBuilder → List ℕ → List ℕ → FinishLen
+finish_len_in version b B K = cond (version_bad version) (record { no = 30; total = 0 }) (finish_len_def (settings version) b B K)

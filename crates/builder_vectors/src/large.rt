@@ -57,14 +57,14 @@ pub fn adds(alloc: Global, given: &[u64], key: &[u8]) -> Result<bool, AllocError
     Ok(is_told(due, lent.add(key, block).map(|()| [])))
 }
 
-// COUNT ROOM NO TOTAL DIRECTORY REMAINDER: the blocks of the rule are taken, and a finish into ROOM bytes answers this
+// VERSION COUNT ROOM NO TOTAL DIRECTORY REMAINDER: the blocks of the rule are taken, and a finish into ROOM bytes answers this
 pub fn finishes(alloc: Global, given: &[u64]) -> Result<bool, AllocError> {
-    let [count, due @ .., expected] = given else {
+    let [version, count, due @ .., expected] = given else {
         return Ok(false);
     };
     let Some(lent) = filled(alloc, *count)? else {
         return Ok(false);
     };
-    let index = lent.finished(alloc, due, LONGEST_INDEX)?;
+    let index = lent.finished(alloc, *version, due, LONGEST_INDEX)?;
     Ok(index.is_some_and(|index| remainder(&index, 256, MODULUS) == *expected))
 }

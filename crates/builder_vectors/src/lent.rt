@@ -11,7 +11,7 @@ use vectors::area::front;
 use vectors::told::is_told;
 
 // No area of a line is longer.
-const MOST_NUMBERS: u64 = 1024;
+const MOST_NUMBERS: u64 = 1300;
 
 const MOST_BYTES: u64 = 4096;
 
@@ -131,16 +131,20 @@ impl Lent {
             && self.areas.keys.starts_with(content)
     }
 
-    // ROOM NO TOTAL DIRECTORY, and the index: a finish into ROOM bytes
+    // VERSION ROOM NO TOTAL DIRECTORY, and the index: a finish into ROOM bytes
     pub fn finishes(&self, alloc: Global, given: &[u64], index: &[u8]) -> Result<bool, AllocError> {
-        let written = self.finished(alloc, given, MOST_BYTES)?;
+        let [version, due @ ..] = given else {
+            return Ok(false);
+        };
+        let written = self.finished(alloc, *version, due, MOST_BYTES)?;
         Ok(written.is_some_and(|written| written.as_slice() == index))
     }
 
-    // The index that a finish into ROOM bytes writes, if it answers NO TOTAL DIRECTORY and leaves the other bytes.
+    // The index of this version that a finish into ROOM bytes writes, if it answers NO TOTAL DIRECTORY and leaves the other bytes.
     pub fn finished(
         &self,
         alloc: Global,
+        version: u64,
         given: &[u64],
         most: u64,
     ) -> Result<Option<Vec<u8>>, AllocError> {
@@ -154,12 +158,12 @@ impl Lent {
             return Ok(None);
         }
         let areas = &self.areas;
-        let is_length = match finish_len(self.builder, &areas.blocks, &areas.keys) {
+        let is_length = match finish_len(version, self.builder, &areas.blocks, &areas.keys) {
             Ok(len) if no == u64::from(u32::from(Refusal::OutShort)) => len as u64 > *room,
             answer => is_told(&[no, total], answer.map(|len| [len as u64])),
         };
         let mut out = vec![in alloc; MARK; *room as usize]?;
-        let answer = finish(self.builder, &areas.blocks, &areas.keys, &mut out);
+        let answer = finish(version, self.builder, &areas.blocks, &areas.keys, &mut out);
         let handed_back = answer.map_or_else(|refused| refused.builder, |written| written.builder);
         let lens = answer
             .map(|written| [written.total as u64, written.directory_len as u64])

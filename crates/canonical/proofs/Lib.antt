@@ -1,3 +1,4 @@
 pub mod Parts
 pub mod Theorems
 pub mod Opened
+pub mod Versions

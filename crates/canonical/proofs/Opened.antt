@@ -1,7 +1,7 @@
 -- The parts that an opened record names are those of the store, with all that the store's check asks; and the number of a file that is
 -- refused.
-use Prim.Native.Nat.{ℕ, ◌+◌, ◌-◌, ◌*◌, ◌≤◌}
-use mathlib.Core.Path.{◌≡◌, sym, ap, ◌∙◌}
+use Prim.Native.Nat.{ℕ, zero, suc, ◌+◌, ◌-◌, ◌*◌, ◌≤◌, ◌<◌}
+use mathlib.Core.Path.{◌≡◌, refl, sym, ap, ◌∙◌}
 use mathlib.Core.Bool.{Bool, cond}
 use mathlib.Core.List.{List}
 use native.Mathlib.Nat.{add-sub_cancel_left, le_refl}
@@ -19,7 +19,9 @@ use Rattle.index.specs.declared.SSTableIndexV3.{SSTableIndexV3}
 use Rattle.std.specs.Prelude.{Err}
 use Rattle.layout.specs.declared.refusals.Refusal.{Refusal}
 use Rattle.layout.specs.Refusals.{number_of}
+use Rattle.layout.specs.Versions.{version_no}
 use Rattle.layout.proofs.Numbers.{number_positive}
+use Rattle.group.specs.Rows.{or_row}
 use Rattle.group.proofs.RowOrder.{or_row-first}
 use Rattle.index.specs.Parts.{group_records_part, addrs_part, count_in}
 use Rattle.index.specs.Opening.{file_no, opened_of, open_def, OpensBy, least_terms}
@@ -30,12 +32,19 @@ use Rattle.canonical.specs.Canonical.{canonical_no}
 use Rattle.index.proofs.OpeningJoined.{length-records_part}
 use Rattle.canonical.proofs.Parts.{canonical-parts}
 
-pub refused-number : (S : Settings) (f : List ℕ) (r : Refusal)
-    → open_def S.len_of_group (least_terms S.len_of_group f) f ≡ Err r → number_of r ≡ canonical_no S f
+-- a row before the file's is one before row 27, too
+then-canonical : (k : ℕ) (S : Settings) (f : List ℕ) → 0 < or_row k (file_no S.len_of_group f)
+    → or_row k (file_no S.len_of_group f) ≡ or_row k (canonical_no S f)
 unfolding canonical_no
-refused-number S f r e =
-    let no = least-number S.len_of_group f r e in
-    no ∙ sym (or_row-first (file_no S.len_of_group f) _ (λ z. omega (arith, number_positive r, no)))
+then-canonical zero S f some = sym (or_row-first (file_no S.len_of_group f) _ (λ z. omega arith))
+then-canonical (suc k) S f some = refl
+
+pub refused-number : (S : Settings) (version : ℕ) (f : List ℕ) (r : Refusal)
+    → open_def S.len_of_group version (least_terms S.len_of_group f) f ≡ Err r
+    → number_of r ≡ or_row (version_no version) (canonical_no S f)
+refused-number S version f r e =
+    let no = least-number S.len_of_group version f r e in
+    no ∙ then-canonical (version_no version) S f (omega (arith, number_positive r, no))
 
 module _ (L : ℕ) (f : List ℕ) (opened : SSTableIndexV3) (len : GroupLenOk L) (opens : OpensBy L f opened) where
   facts : OpenFacts L f opened

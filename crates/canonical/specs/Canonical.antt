@@ -1,11 +1,12 @@
 -- Whether an index is, byte for byte, the one that finish makes from the blocks and separators read in it.
 use Rattle.std.specs.Prelude.{ℕ, ◌≡◌, cond, List}
+use Rattle.layout.specs.Versions.{version_no}
 use Rattle.group.specs.declared.BlockAddr.{BlockAddr}
 use Rattle.group.specs.Blocks.{blocks_at}
 use Rattle.group.specs.Rows.{or_row}
 use Rattle.directory.specs.Read.{keys_in}
 use Rattle.builder.specs.View.{stride}
-use Rattle.builder.specs.Index.{Settings, index_bytes}
+use Rattle.builder.specs.Index.{Settings, settings, index_bytes}
 use Rattle.builder.specs.Finish.{list_no, area_keys}
 use Rattle.builder.specs.declared.SSTableIndexBuilder.{SSTableIndexBuilder}
 use Rattle.index.specs.Parts.{directory_part, count_in, block_in}
@@ -27,6 +28,10 @@ rewritten S f = index_bytes S (blocks_in S.len_of_group f) (separators_in f)
 -- rows 10 to 16, then 27: a file that opens but isn't that index; 0 where it is
 unfoldable pub canonical_no : Settings → List ℕ → ℕ
 canonical_no S f = or_row (file_no S.len_of_group f) (cond (same_bytes f (rewritten S f)) 0 27)
+
+-- the check of an index of a version: 30 before all others for one that no index has
+unfoldable pub check_no : ℕ → List ℕ → ℕ
+check_no version f = or_row (version_no version) (canonical_no (settings version) f)
 
 -- a builder with its areas holds these blocks and separators, and neither row 1 nor row 8 is hit
 pub record AreasHold (b : SSTableIndexBuilder) (B K : List ℕ) (blocks : List BlockAddr) (separators : List (List ℕ)) : Type 0 where

@@ -5,3 +5,5 @@ pub mod Demand3
 pub mod Automata
 pub mod ThreeAdds
 pub mod Worked
+pub mod OtherVersion
+pub mod SameOpening

@@ -10,9 +10,8 @@ use Rattle.group.specs.Blocks.{no_block}
 use Rattle.layout.specs.Layout.{store_block_len}
 use Rattle.store.specs.Store.{addrs, store_bytes}
 use Rattle.builder.specs.Calls.{State}
-use Rattle.builder.specs.Index.{standard}
 use Rattle.machine.specs.Plain.{Call, add, blocks_of, separators_of}
-use Rattle.machine.specs.Runs.{FreshState, run_numbers, finished_after}
+use Rattle.machine.specs.Runs.{FreshState, run_numbers, finished_in}
 use Rattle.automaton.specs.Bits.{Exactly}
 use Rattle.automaton.specs.Table.{table_no}
 use Rattle.automaton.specs.Words.{Hits}
@@ -20,7 +19,7 @@ use Rattle.pruning.specs.Interval.{Marked}
 use Rattle.index.specs.declared.SSTableIndexV3.{SSTableIndexV3}
 use Rattle.index.specs.Opening.{load_def, opened_of}
 use Rattle.index.specs.Lookups.{GetBlock, LocateWithOrd}
-use Rattle.canonical.specs.Canonical.{canonical_no}
+use Rattle.canonical.specs.Canonical.{check_no}
 use Rattle.demands.specs.Demand3.{entries_of_calls, index_of_calls}
 
 -- ---- the list
@@ -80,12 +79,12 @@ only_empty = 2 ∷ 1 ∷ 0 ∷ replicate 512 1
 
 -- ---- the cases
 
--- the index that finish makes of the list, and its record, opened with 12 terms
+-- the index of version 3 that finish makes of the list, and its record, opened with 12 terms
 abbrev pub worked_index : State → List ℕ → List ℕ
-worked_index fresh out = index_of_calls standard worked_calls fresh out
+worked_index fresh out = index_of_calls 3 worked_calls fresh out
 
 abbrev pub worked_opened : State → List ℕ → SSTableIndexV3
-worked_opened fresh out = opened_of 12 (worked_index fresh out)
+worked_opened fresh out = opened_of 3 12 (worked_index fresh out)
 
 pub record Worked (fresh : State) (out : List ℕ) : Type 0 where
   -- the three adds are taken, and are the blocks and separators
@@ -104,11 +103,11 @@ pub record Worked (fresh : State) (out : List ℕ) : Type 0 where
   pub address-bytes : addrs best_slope store_block_len 1 (blocks_of (entries_of_calls worked_calls fresh)) ≡ 235 ∷ 5 ∷ []
   pub store : length (store_bytes best_slope store_block_len (blocks_of (entries_of_calls worked_calls fresh))) ≡ 46
   -- 15.1: the index's length; finish returns it, and the index opens and is what finish makes of what is read in it
-  pub accepted : (finished_after standard worked_calls fresh out).no ≡ 0
-  pub total : (finished_after standard worked_calls fresh out).total ≡ 85
+  pub accepted : (finished_in 3 worked_calls fresh out).no ≡ 0
+  pub total : (finished_in 3 worked_calls fresh out).total ≡ 85
   pub index-bytes : length (worked_index fresh out) ≡ 85
-  pub opens : load_def 12 (worked_index fresh out) ≡ Ok (worked_opened fresh out)
-  pub canonical : canonical_no standard (worked_index fresh out) ≡ 0
+  pub opens : load_def 3 12 (worked_index fresh out) ≡ Ok (worked_opened fresh out)
+  pub canonical : check_no 3 (worked_index fresh out) ≡ 0
   -- 15.2
   pub id-2 : (k : ℕ) (addr : BlockAddr) → GetBlock (worked_index fresh out) (worked_opened fresh out) 2 k addr
       → (k ≡ 0) × (addr ≡ block2)

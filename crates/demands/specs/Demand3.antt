@@ -1,16 +1,15 @@
--- Demand 3 (SPECIFICATION 18.3 to 18.10, 18.14, 18.15, 18.17): one claim about any list of calls that begins with a fresh builder, then
--- finish, opening and what is found there. The calls are those of the contracts; the plain machine sees their arguments and the
--- areas' lengths.
+-- Demand 3 (SPECIFICATION 18.3 to 18.10, 18.14, 18.15, 18.17, 18.18): one claim about any list of calls that begins with a fresh builder,
+-- then finish of a version, opening with that version and what is found there. The calls are those of the contracts; the plain machine
+-- sees their arguments and the areas' lengths.
 use Rattle.std.specs.Prelude.{ℕ, ◌+◌, ◌*◌, ◌≤◌, ◌<◌, ◌≡◌, cond, List, [], ltb, length, get_or, take, Option, Some, None, Ok, Err}
 use Rattle.layout.specs.Layout.{max_blocks, pair_len}
 use Rattle.group.specs.declared.BlockAddr.{BlockAddr}
 use Rattle.group.specs.Rows.{or_row}
 use Rattle.group.specs.Blocks.{block_of}
 use Rattle.builder.specs.Calls.{State}
-use Rattle.builder.specs.Index.{Settings}
 use Rattle.machine.specs.Plain.{Call, Entry, SameLists, plain_numbers, plain_end, blocks_of, separators_of}
-use Rattle.machine.specs.Finished.{plain_finish}
-use Rattle.machine.specs.Runs.{FreshState, rooms_of, run_numbers, finished_after}
+use Rattle.machine.specs.Finished.{plain_finish_in}
+use Rattle.machine.specs.Runs.{FreshState, rooms_of, run_numbers, finished_in}
 use Rattle.automaton.specs.Table.{table_no}
 use Rattle.index.specs.declared.SSTableIndexV3.{SSTableIndexV3}
 use Rattle.layout.specs.declared.refusals.Refusal.TheVariants.{TermsBad}
@@ -30,7 +29,7 @@ use Rattle.index.specs.Lookups.{
 use Rattle.batch.specs.Batch.{batch_no, BatchExact, LocateWithKeys}
 use Rattle.listing.specs.Listing.{ListingLeaves, GetBlockForAutomaton}
 use Rattle.written_index.specs.Written.{lengths_before, last_first}
-use Rattle.canonical.specs.Canonical.{canonical_no}
+use Rattle.canonical.specs.Canonical.{check_no}
 
 -- the block and the separator of an entry, the oldest being 0 (SPECIFICATION 4.6)
 abbrev pub entry_block : List Entry → ℕ → BlockAddr
@@ -76,43 +75,45 @@ pub record Finds (es : List Entry) (f : List ℕ) (terms : ℕ) (opened : SSTabl
 abbrev pub entries_of_calls : List Call → State → List Entry
 entries_of_calls cs fresh = plain_end (rooms_of fresh) cs []
 
--- two entries or more are left, and the finish isn't refused
-pub record Finishes (S : Settings) (cs : List Call) (fresh : State) (out : List ℕ) : Type 0 where
+-- two entries or more are left, and the finish of a version isn't refused
+pub record Finishes (version : ℕ) (cs : List Call) (fresh : State) (out : List ℕ) : Type 0 where
   pub two : 2 ≤ length (entries_of_calls cs fresh)
-  pub accepted : (finished_after S cs fresh out).no ≡ 0
+  pub accepted : (finished_in version cs fresh out).no ≡ 0
 
 -- what finish wrote, cut to its total (SPECIFICATION 4.11)
-abbrev pub index_of_calls : Settings → List Call → State → List ℕ → List ℕ
-index_of_calls S cs fresh out = take (finished_after S cs fresh out).total (finished_after S cs fresh out).out
+abbrev pub index_of_calls : ℕ → List Call → State → List ℕ → List ℕ
+index_of_calls version cs fresh out = take (finished_in version cs fresh out).total (finished_in version cs fresh out).out
 
-pub record Demand3 (S : Settings) (cs : List Call) (fresh : State) (out : List ℕ) : Type 0 where
+pub record Demand3 (version : ℕ) (cs : List Call) (fresh : State) (out : List ℕ) : Type 0 where
   -- each call is taken or refused, with its number, as the plain machine says; none of them is 1 or 8
   pub answers : run_numbers cs fresh ≡ plain_numbers (rooms_of fresh) cs []
   pub never-1 : (i : ℕ) → get_or (run_numbers cs fresh) i 0 ≡ 1 → ⊥
   pub never-8 : (i : ℕ) → get_or (run_numbers cs fresh) i 0 ≡ 8 → ⊥
   -- the machine never has more than 65,536 entries
   pub few : length (entries_of_calls cs fresh) ≤ max_blocks
-  -- finish answers and leaves what those entries say: 9, or the index laid out from their blocks and separators; neither 1 nor 8
-  pub finishes : finished_after S cs fresh out ≡ plain_finish S (entries_of_calls cs fresh) out
-  pub finish-never-1 : (finished_after S cs fresh out).no ≡ 1 → ⊥
-  pub finish-never-8 : (finished_after S cs fresh out).no ≡ 8 → ⊥
-  -- 18.17: opened alone it is refused for no number of terms above the first ordinal of its last block, and with 28 for all others;
-  -- wherever it opens the blocks are found
-  pub opens : Finishes S cs fresh out → (terms : ℕ) → last_first_of (entries_of_calls cs fresh) < terms
-      → load_def terms (index_of_calls S cs fresh out) ≡ Ok (opened_of terms (index_of_calls S cs fresh out))
-  pub refuses : Finishes S cs fresh out → (terms : ℕ) → terms ≤ last_first_of (entries_of_calls cs fresh)
-      → load_def terms (index_of_calls S cs fresh out) ≡ Err TermsBad
-  pub finds : Finishes S cs fresh out → (terms : ℕ) → last_first_of (entries_of_calls cs fresh) < terms
-      → Finds (entries_of_calls cs fresh) (index_of_calls S cs fresh out) terms (opened_of terms (index_of_calls S cs fresh out))
+  -- 18.18: finish answers and leaves what those entries say: 30 for a version that no index has, else 9, or the index laid out from
+  -- their blocks and separators; neither 1 nor 8
+  pub finishes : finished_in version cs fresh out ≡ plain_finish_in version (entries_of_calls cs fresh) out
+  pub finish-never-1 : (finished_in version cs fresh out).no ≡ 1 → ⊥
+  pub finish-never-8 : (finished_in version cs fresh out).no ≡ 8 → ⊥
+  -- 18.17: opened alone with its version it is refused for no number of terms above the first ordinal of its last block, and with 28 for
+  -- all others; wherever it opens the blocks are found
+  pub opens : Finishes version cs fresh out → (terms : ℕ) → last_first_of (entries_of_calls cs fresh) < terms
+      → load_def version terms (index_of_calls version cs fresh out) ≡ Ok (opened_of version terms (index_of_calls version cs fresh out))
+  pub refuses : Finishes version cs fresh out → (terms : ℕ) → terms ≤ last_first_of (entries_of_calls cs fresh)
+      → load_def version terms (index_of_calls version cs fresh out) ≡ Err TermsBad
+  pub finds : Finishes version cs fresh out → (terms : ℕ) → last_first_of (entries_of_calls cs fresh) < terms
+      → Finds (entries_of_calls cs fresh) (index_of_calls version cs fresh out) terms
+      (opened_of version terms (index_of_calls version cs fresh out))
   -- 18.15: every finished index of two blocks or more is the one that finish makes of what is read in it: the check of document 02's
   -- wish 3 says yes
-  pub canonical : Finishes S cs fresh out → canonical_no S (index_of_calls S cs fresh out) ≡ 0
-  -- 18.10
+  pub canonical : Finishes version cs fresh out → check_no version (index_of_calls version cs fresh out) ≡ 0
+  -- 18.10, within one version
   pub equal : (cs' : List Call) (fresh' : State) (out' : List ℕ) → FreshState fresh'
-      → Finishes S cs fresh out → Finishes S cs' fresh' out'
-      → index_of_calls S cs fresh out ≡ index_of_calls S cs' fresh' out'
+      → Finishes version cs fresh out → Finishes version cs' fresh' out'
+      → index_of_calls version cs fresh out ≡ index_of_calls version cs' fresh' out'
       → SameLists (entries_of_calls cs fresh) (entries_of_calls cs' fresh')
   pub equal-bytes : (cs' : List Call) (fresh' : State) (out' : List ℕ) → FreshState fresh'
-      → Finishes S cs fresh out → Finishes S cs' fresh' out'
+      → Finishes version cs fresh out → Finishes version cs' fresh' out'
       → SameLists (entries_of_calls cs fresh) (entries_of_calls cs' fresh')
-      → index_of_calls S cs fresh out ≡ index_of_calls S cs' fresh' out'
+      → index_of_calls version cs fresh out ≡ index_of_calls version cs' fresh' out'

@@ -3,6 +3,7 @@ ghost use Rattle.index.specs.Opening.{Opens};
 
 use crate::files;
 use index::SSTableIndexV3;
+use layout::refusals::Refusal;
 use line_text::Refused;
 use std::alloc::{AllocError, Global};
 use std::rt::Files;
@@ -21,13 +22,21 @@ fn lines(alloc: Global, opened: SSTableIndexV3, data: &[u8]) -> Result<String, A
 }
 
 // Whether the text is the lines of the blocks, or that of the refusal, which the check of the file gives too.
-fn is_text(alloc: Global, data: &[u8], expected: &[u8]) -> Result<bool, AllocError> {
-    Ok(match index_load::load_least(data) {
+fn is_text(alloc: Global, version: u64, data: &[u8], expected: &[u8]) -> Result<bool, AllocError> {
+    Ok(match index_load::load_least(version, data) {
         Ok(opened) => lines(alloc, opened, data)?.as_bytes() == expected,
         Err(refusal) => {
-            canonical::check_canonical(data) == Err(refusal)
+            canonical::check_canonical(version, data) == Err(refusal)
                 && Refused { refusal }.to_string(alloc)?.as_bytes() == expected
         }
+    })
+}
+
+// Whether opening and the check refuse the bytes with row 30 where no index has the version, whatever else is wrong with them.
+fn want_a_version(data: &[u8]) -> bool {
+    [0, 2, 5, u64::MAX].iter().all(|version| {
+        index_load::load_least(*version, data) == Err(Refusal::VersionBad)
+            && canonical::check_canonical(*version, data) == Err(Refusal::VersionBad)
     })
 }
 
@@ -38,5 +47,5 @@ pub fn is_same(rt: &(impl Files + AllocGlobal), stem: &str) -> Result<bool, Allo
     let (Some(file), Some(expected)) = (file, expected) else {
         return Ok(false);
     };
-    is_text(rt.alloc(), &file, &expected)
+    Ok(want_a_version(&file) && is_text(rt.alloc(), files::version(stem), &file, &expected)?)
 }

@@ -1,5 +1,6 @@
 // Automata: the marks of the blocks of worked.index.
 use crate::files;
+use layout::versions::SSTABLE_INDEX_V3;
 use line_text::Refused;
 use std::alloc::{AllocError, Global};
 use std::rt::Files;
@@ -16,7 +17,7 @@ fn line(alloc: Global, marks: &[u8], count: usize) -> Result<String, AllocError>
 
 // Whether the text is the marks that the automaton gives the blocks of the file, or its refusal.
 fn is_text(alloc: Global, data: &[u8], table: &[u8], expected: &[u8]) -> Result<bool, AllocError> {
-    let Ok(opened) = index_load::load_least(data) else {
+    let Ok(opened) = index_load::load_least(SSTABLE_INDEX_V3, data) else {
         return Ok(false);
     };
     let mut marks = vec![in alloc; 2u8; opened.n]?;

@@ -15,13 +15,14 @@ const ROW: Option<usize> = Some(ROW_OF_QUESTIONS);
 enum Kind {
     ById,
     ByTerms,
+    ByVersion,
     ByOrdinal,
     ByKey,
     IsCanonical,
 }
 
 // The letter of each kind, with the row of its tally and how many byte strings its lines have.
-const LETTERS: [Letter<Kind>; 5] = [
+const LETTERS: [Letter<Kind>; 6] = [
     Letter {
         letter: b'i',
         kind: Kind::ById,
@@ -31,6 +32,12 @@ const LETTERS: [Letter<Kind>; 5] = [
     Letter {
         letter: b't',
         kind: Kind::ByTerms,
+        row: ROW,
+        strings: 0,
+    },
+    Letter {
+        letter: b'v',
+        kind: Kind::ByVersion,
         row: ROW,
         strings: 0,
     },
@@ -56,9 +63,19 @@ const LETTERS: [Letter<Kind>; 5] = [
 
 // Whether the file opens with so many terms as the line says, and to the same record but for their number.
 fn opens_again(opened: SSTableIndexV3, data: &[u8], terms: u64, due: &[u64]) -> bool {
-    let answer = index_load::load(terms, data);
+    let answer = index_load::load(opened.version, terms, data);
     let same = SSTableIndexV3 { terms, ..opened };
     is_told(due, answer.map(|_| [])) && answer.ok().is_none_or(|again| again == same)
+}
+
+// The same with a version, and the least number of terms. Where it doesn't open, the check says so too.
+fn opens_as(opened: SSTableIndexV3, data: &[u8], version: u64, due: &[u64]) -> bool {
+    let answer = index_load::load_least(version, data);
+    let same = match answer {
+        Ok(again) => again == SSTableIndexV3 { version, ..opened },
+        Err(refusal) => canonical::check_canonical(version, data) == Err(refusal),
+    };
+    same && is_told(due, answer.map(|_| []))
 }
 
 // Whether the answer to a line's question is the line's own.
@@ -71,9 +88,11 @@ fn is_answered(kind: Kind, case: Case<'_>, opened: SSTableIndexV3, data: &[u8]) 
         }
         // TERMS NO
         (Kind::ByTerms, [terms, due @ ..]) => opens_again(opened, data, *terms, due),
+        // VERSION NO
+        (Kind::ByVersion, [version, due @ ..]) => opens_as(opened, data, *version, due),
         // TERMS ORDINAL NO ID
         (Kind::ByOrdinal, [terms, ord, due @ ..]) => {
-            let answer = index_load::load(*terms, data).and_then(
+            let answer = index_load::load(opened.version, *terms, data).and_then(
                 |again| index_lookup::locate_with_ord(again, data, *ord),
             );
             is_told(due, answer.map(|found| [found.block_id as u64]))
@@ -84,7 +103,12 @@ fn is_answered(kind: Kind, case: Case<'_>, opened: SSTableIndexV3, data: &[u8]) 
             is_told(due, answer.map(|id| [id as u64]))
         }
         // NO
-        (Kind::IsCanonical, due) => { is_told(due, canonical::check_canonical(data).map(|()| [])) }
+        (Kind::IsCanonical, due) => {
+            is_told(
+                due,
+                canonical::check_canonical(opened.version, data).map(|()| []),
+            )
+        }
         _ => false,
     }
 }
@@ -97,7 +121,7 @@ pub fn count(rt: &(impl Files + AllocGlobal), stem: &str, tallies: &mut Tallies)
         tallies.count(ROW, false);
         return Ok(());
     };
-    match index_load::load_least(&file) {
+    match index_load::load_least(files::version(stem), &file) {
         Ok(opened) if !text.is_empty() => {
             driver::compare(rt.alloc(), &text, &LETTERS, tallies, |kind, case| {
                 Ok(is_answered(kind, case, opened, &file))

@@ -5,7 +5,7 @@ use mathlib.Core.Bool.{false}
 use Prim.Native.Nat.{ℕ, ◌+◌, ◌-◌, ◌*◌, ◌^◌, ◌≤◌, ◌<◌}
 use native.Mathlib.Nat.{mul-le-mul}
 use native.Mathlib.Omega.{arith}
-use Rattle.layout.specs.Layout.{max_group_len, store_block_len}
+use Rattle.layout.specs.Layout.{max_group_len, store_block_len, store_block_len_v4}
 use Rattle.bitpacker.specs.Fields.{group_bits}
 use Rattle.group.specs.Read.{group_bad}
 use Rattle.group.specs.declared.BlockAddrBlockMetadata.{BlockAddrBlockMetadata}
@@ -24,10 +24,14 @@ group-end m count len L kept few =
     let k = group-ok m count len kept in
     bits-end m.range_start_nbits m.first_ordinal_nbits m.block_len L k.range-high k.ordinal-high (let e = k.blocks in omega arith)
 
--- its use: groups of an index
+-- its uses: groups of an index of version 3, and of version 4
 pub group-end-128 : (m : BlockAddrBlockMetadata) (count len : ℕ) → group_bad m count len ≡ false → count ≤ store_block_len
     → group_bits m.range_start_nbits m.first_ordinal_nbits m.block_len ≤ 14280
 group-end-128 m count len kept few = group-end m count len store_block_len kept few
+
+pub group-end-256 : (m : BlockAddrBlockMetadata) (count len : ℕ) → group_bad m count len ≡ false → count ≤ store_block_len_v4
+    → group_bits m.range_start_nbits m.first_ordinal_nbits m.block_len ≤ 28616
+group-end-256 m count len kept few = group-end m count len store_block_len_v4 kept few
 
 -- no group of up to 256 blocks ends at a bit that 16 bits can't count
 pub end-in-16-bits : (L : ℕ) → L ≤ max_group_len → 112 * (L - 1) + 56 < 2 ^ 16

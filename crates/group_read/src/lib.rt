@@ -139,21 +139,57 @@ impl<'a> Group<'a> {
         }
     }
 
+    // Block i of the group, which isn't its first, where its start, ordinal and end have at most 56 bits together: the fields touch, so
+    // that one read gives all three.
+    #[tactic(auto, unfolding(group::specs::Read::block_read))]
+    #[inline(always)]
+    fn block_at_once(&self, i: usize) -> BlockAddr
+        requires { (0 < i) × (i ≤ self.now.meta.block_len)
+            × (2 * self.now.meta.range_start_nbits + self.now.meta.first_ordinal_nbits ≤ 56) }
+        ensures { result ≡ block_read self.now.meta (le_val self.now.«data».now) i }
+    {
+        let widths = self.meta.widths();
+        let bit = widths.range_bit(i - 1);
+        let all = bitpacker::extract_bits(self.data, bit, 2 * widths.range + widths.ordinal);
+        let range = all & ((1u64 << widths.range) - 1);
+        let ordinal = (all >> widths.range) & ((1u64 << widths.ordinal) - 1);
+        let next = all >> (widths.range + widths.ordinal);
+        BlockAddr {
+            start: value(self.meta.ranges(), range, i),
+            end: value(self.meta.ranges(), next, i + 1),
+            first_ordinal: value(self.meta.ordinals(), ordinal, i),
+        }
+    }
+
     // Block i of the group.
     #[tactic(auto, unfolding(group::specs::Read::block_read))]
+    #[inline(always)]
+    pub fn block(&self, i: usize) -> BlockAddr
+        requires { i ≤ self.now.meta.block_len }
+        ensures { result ≡ block_read self.now.meta (le_val self.now.«data».now) i }
+    {
+        if i > 0 && 2 * self.meta.range_start_nbits + self.meta.first_ordinal_nbits <= 56 {
+            return self.block_at_once(i);
+        }
+        BlockAddr {
+            start: self.range_start(i),
+            end: self.range_start(i + 1),
+            first_ordinal: self.first_ordinal(i),
+        }
+    }
+
+    // The same, not inlined: a search for the block, which comes before, has the registers.
+    #[inline(never)]
     pub fn deserialize_block_addr(&self, inner_offset: usize) -> BlockAddr
         requires { inner_offset ≤ self.now.meta.block_len }
         ensures { result ≡ block_read self.now.meta (le_val self.now.«data».now) inner_offset }
     {
-        BlockAddr {
-            start: self.range_start(inner_offset),
-            end: self.range_start(inner_offset + 1),
-            first_ordinal: self.first_ordinal(inner_offset),
-        }
+        self.block(inner_offset)
     }
 
     // The last block of the group whose first ordinal is at or below `target`, if ordinals rise.
     #[tactic(auto, unfolding(group::specs::Read::ordinal_read))]
+    #[inline(always)]
     pub fn bisect_for_ord(&self, target: u64) -> usize
         requires { self.now.meta.first_ordinal ≤ target }
         ensures { (result ≤ self.now.meta.block_len)

@@ -5,6 +5,7 @@ use mathlib.Core.List.{List}
 use Prim.Native.Nat.{ℕ, zero, suc, ◌+◌, ◌-◌, ◌*◌, ◌^◌, ◌≤◌, ◌<◌}
 use native.Mathlib.Omega.{arith}
 use lib.ListN.{length}
+use Rattle.layout.proofs.GroupLengths.{group-len-some, group-len-most}
 use Rattle.group.specs.Legal.{limit}
 use Rattle.store.specs.Store.{group_count}
 use Rattle.store.specs.Read.{StoreOk}
@@ -24,7 +25,7 @@ pub record OpenFacts (L : ℕ) (f : List ℕ) (opened : SSTableIndexV3) : Type 0
   pub group : GroupLenOk L
   pub accepted : file_no L f ≡ 0
   pub above : last_first_ordinal L f < opened.terms
-  pub is : opened ≡ opened_of opened.terms f
+  pub is : opened ≡ opened_of opened.version opened.terms f
   pub fits : OpenedFits L opened (length f)
   pub count : opened.n ≡ count_in f
   pub some : 2 ≤ count_in f
@@ -42,16 +43,16 @@ pub record OpenFacts (L : ℕ) (f : List ℕ) (opened : SSTableIndexV3) : Type 0
 
 -- ---- the facts
 
-pub opens-no : (terms : ℕ) (f : List ℕ) (k : ℕ) (opened : SSTableIndexV3) → step_of_open k terms f ≡ Ok opened
-    → (k ≡ 0) × (opened ≡ opened_of terms f)
-opens-no terms f zero opened e = (refl, cc)
-opens-no terms f (suc k) opened e = absurd (cc)
+pub opens-no : (version terms : ℕ) (f : List ℕ) (k : ℕ) (opened : SSTableIndexV3) → step_of_open k version terms f ≡ Ok opened
+    → (k ≡ 0) × (opened ≡ opened_of version terms f)
+opens-no version terms f zero opened e = (refl, cc)
+opens-no version terms f (suc k) opened e = absurd (cc)
 
-module _ (L terms : ℕ) (f : List ℕ) (len : GroupLenOk L) where
-  accepted-facts : open_no L terms f ≡ 0 → OpenFacts L f (opened_of terms f)
+module _ (L version terms : ℕ) (f : List ℕ) (len : GroupLenOk L) where
+  accepted-facts : open_no L version terms f ≡ 0 → OpenFacts L f (opened_of version terms f)
   unfolding opened_of
   accepted-facts e =
-      let passed = open-ok L terms f e in
+      let passed = open-ok L version terms f e in
       let none = file-ok L f passed.file in
       let foot = footer-ok f none.footer in
       let recs = records-ok L f none.records in
@@ -62,6 +63,7 @@ module _ (L terms : ℕ) (f : List ℕ) (len : GroupLenOk L) where
         above = passed.above;
         is = refl;
         fits = record {
+          version = passed.known;
           some = omega (arith, rule.some);
           few = rule.few;
           directory = omega (arith, foot.inside);
@@ -96,17 +98,18 @@ least-fits L f len e =
 pub opens-facts-by : (L : ℕ) (f : List ℕ) (opened : SSTableIndexV3) → GroupLenOk L → OpensBy L f opened → OpenFacts L f opened
 unfolding open_def
 opens-facts-by L f opened len e =
-    let a = opens-no opened.terms f (open_no L opened.terms f) opened e in
-    subst (OpenFacts L f) (sym a.1) (accepted-facts L opened.terms f len a.0)
+    let a = opens-no opened.version opened.terms f (open_no L opened.version opened.terms f) opened e in
+    subst (OpenFacts L f) (sym a.1) (accepted-facts L opened.version opened.terms f len a.0)
 
--- bytes open to one record for each number of terms
-pub opens-unique : (L : ℕ) (f : List ℕ) (a b : SSTableIndexV3) → a.terms ≡ b.terms → OpensBy L f a → OpensBy L f b → a ≡ b
-opens-unique L f a b same p q = let r : open_def L a.terms f ≡ Ok b = rw same q in cc
+-- bytes open to one record for each version and number of terms
+pub opens-unique : (L : ℕ) (f : List ℕ) (a b : SSTableIndexV3) → a.version ≡ b.version → a.terms ≡ b.terms → OpensBy L f a
+    → OpensBy L f b → a ≡ b
+opens-unique L f a b v t p q = let r : open_def L a.version a.terms f ≡ Ok b = rw (v, t) q in cc
 
 -- ---- the groups that a record has
 
 pub group-len : (opened : SSTableIndexV3) → GroupLenOk (group_of opened)
-group-len opened = record { some = omega arith; few = omega arith }
+group-len opened = record { some = group-len-some opened.version; few = group-len-most opened.version }
 
 pub opens-facts : (f : List ℕ) (opened : SSTableIndexV3) → Opens f opened → OpenFacts (group_of opened) f opened
 opens-facts f opened e = opens-facts-by (group_of opened) f opened (group-len opened) e

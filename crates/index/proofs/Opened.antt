@@ -1,4 +1,4 @@
--- An opened record as its eight numbers, read back.
+-- An opened record as its nine numbers, read back.
 use mathlib.Core.Path.{◌≡◌, refl}
 use Rattle.index.specs.declared.SSTableIndexV3.{SSTableIndexV3}
 use Rattle.index.specs.Words.{opened_words, opened_at}

@@ -1,4 +1,5 @@
--- Rows 10 to 16 and 28 as facts over numbers: what each refusal and each pass says of the file, and the number and the answer that follow.
+-- Rows 30, 10 to 16 and 28 as facts over numbers: what each refusal and each pass says of the file, and the number and the answer that
+-- follow.
 use Prim.Native.Nat.{ℕ, ◌+◌, ◌-◌, ◌*◌, ◌≤◌, ◌<◌}
 use mathlib.Core.Path.{◌≡◌, sym, ap, ◌∙◌}
 use mathlib.Core.Bool.{true, false, not}
@@ -21,12 +22,14 @@ use Rattle.directory.proofs.Rules.{DirectoryOk, directory-kept}
 use Rattle.directory.proofs.Opened.{opened-good}
 use Rattle.index.specs.Parts.{len_of_directory, directory_part, store_len, group_records_len, group_records_part, addrs_part, count_in}
 use Rattle.index.specs.Parts.{last_first_ordinal}
-use Rattle.index.specs.Opening.{footer_no, group_records_bad, file_no, open_no, opened_of, open_def}
+use Rattle.index.specs.Opening.{footer_no, group_records_bad, file_no, terms_no, open_no, opened_of, open_def}
 use Rattle.index.specs.declared.SSTableIndexV3.{SSTableIndexV3}
 use Rattle.index.specs.Answers.{load_no}
 use Rattle.index.proofs.Refusals.{step-refused, step-number, open_no-most}
 use Rattle.layout.specs.declared.refusals.Refusal.{Refusal}
 use Rattle.layout.specs.Refusals.{number_of}
+use Rattle.layout.specs.Versions.{version_bad, version_no}
+use Rattle.layout.proofs.GroupLengths.{version-kept}
 use Rattle.layout.proofs.Rows.{cond-zero}
 
 -- ---- rows 10 and 11
@@ -160,7 +163,7 @@ module _ (L : ℕ) (f : List ℕ) (d m : ℕ) (footer : FooterOk f) (ed : d ≡ 
           rw (l, metas-read, en, records.exact) (le_refl _);
     }
 
-    pub opened-is : (terms : ℕ) → ◌≡◌ {A = SSTableIndexV3} (record {
+    pub opened-is : (version terms : ℕ) → ◌≡◌ {A = SSTableIndexV3} (record {
       n = n;
       directory = 0;
       directory_len = d;
@@ -169,9 +172,10 @@ module _ (L : ℕ) (f : List ℕ) (d m : ℕ) (footer : FooterOk f) (ed : d ≡ 
       addrs = d + 8 + m;
       addrs_len = length f - 8 - (d + 8 + m);
       terms = terms;
-    }) (opened_of terms f)
+      version = version;
+    }) (opened_of version terms f)
     unfolding opened_of
-    opened-is terms = rw (addrs-long, en, metas-read, ed)
+    opened-is version terms = rw (addrs-long, en, metas-read, ed)
 
 -- ---- the file's number
 
@@ -212,44 +216,59 @@ module _ (L : ℕ) (f : List ℕ) where
       let records = cond-zero (group_records_bad L f) 13 _ directory.1 in
       record { footer = footer.0; directory = directory.0; records = records.0; store = records.1 }
 
--- ---- the opening's number, and the answer
+-- ---- the number of the rows behind row 30
 
 module _ (L terms : ℕ) (f : List ℕ) where
   -- rows 10 to 16 come first
-  pub open-file : (file_no L f ≡ 0 → ⊥) → open_no L terms f ≡ file_no L f
-  unfolding open_no
-  open-file h = or_row-first (file_no L f) _ h
+  pub terms-file : (file_no L f ≡ 0 → ⊥) → terms_no L terms f ≡ file_no L f
+  unfolding terms_no
+  terms-file h = or_row-first (file_no L f) _ h
 
   module _ (file : file_no L f ≡ 0) where
     -- then 28 for a number of terms that isn't above the last first ordinal
-    pub open-few : terms ≤ last_first_ordinal L f → open_no L terms f ≡ 28
-    unfolding open_no
-    open-few h = rw (file, le-leb terms (last_first_ordinal L f) h)
+    pub terms-few : terms ≤ last_first_ordinal L f → terms_no L terms f ≡ 28
+    unfolding terms_no
+    terms-few h = rw (file, le-leb terms (last_first_ordinal L f) h)
 
-    pub open-enough : last_first_ordinal L f < terms → open_no L terms f ≡ 0
-    unfolding open_no
-    open-enough h = rw (file, lt-leb terms (last_first_ordinal L f) h)
+    pub terms-enough : last_first_ordinal L f < terms → terms_no L terms f ≡ 0
+    unfolding terms_no
+    terms-enough h = rw (file, lt-leb terms (last_first_ordinal L f) h)
+
+-- ---- the opening's number, and the answer
+
+module _ (L version terms : ℕ) (f : List ℕ) where
+  -- row 30 comes before all others
+  pub open-unknown : (version_no version ≡ 0 → ⊥) → open_no L version terms f ≡ version_no version
+  unfolding open_no
+  open-unknown bad = or_row-first (version_no version) _ bad
+
+  -- of a version that there is the rows behind it decide
+  pub open-known : version_no version ≡ 0 → open_no L version terms f ≡ terms_no L terms f
+  unfolding open_no
+  open-known good = rw good
 
   pub record OpenOk : Type 0 where
+    pub known : version_bad version ≡ false
     pub file : file_no L f ≡ 0
     pub above : last_first_ordinal L f < terms
 
-  pub open-ok : open_no L terms f ≡ 0 → OpenOk
-  unfolding open_no
+  pub open-ok : open_no L version terms f ≡ 0 → OpenOk
+  unfolding open_no terms_no
   open-ok e =
-      let rows = or_row-zero (file_no L f) _ e in
+      let first = or_row-zero (version_no version) _ e in
+      let rows = or_row-zero (file_no L f) _ first.1 in
       let enough = (cond-zero (leb terms (last_first_ordinal L f)) 27 0 rows.1).0 in
-      record { file = rows.0; above = leb-false terms (last_first_ordinal L f) enough }
+      record { known = version-kept version first.0; file = rows.0; above = leb-false terms (last_first_ordinal L f) enough }
 
-  pub open-refused : (r : Refusal) → number_of r ≡ open_no L terms f → Err r ≡ open_def L terms f
+  pub open-refused : (r : Refusal) → number_of r ≡ open_no L version terms f → Err r ≡ open_def L version terms f
   unfolding open_def
-  open-refused r e = rw (← e) (sym (step-refused terms f r))
+  open-refused r e = rw (← e) (sym (step-refused version terms f r))
 
-  pub open-taken : open_no L terms f ≡ 0 → Ok (opened_of terms f) ≡ open_def L terms f
+  pub open-taken : open_no L version terms f ≡ 0 → Ok (opened_of version terms f) ≡ open_def L version terms f
   unfolding open_def
   open-taken e = simp e
 
   -- what opening answers has the number
-  pub load-number : load_no (open_def L terms f) ≡ open_no L terms f
+  pub load-number : load_no (open_def L version terms f) ≡ open_no L version terms f
   unfolding open_def
-  load-number = step-number terms f (open_no L terms f) (omega (arith, open_no-most L terms f))
+  load-number = step-number version terms f (open_no L version terms f) (omega (arith, open_no-most L version terms f))

@@ -12,50 +12,52 @@ use Rattle.layout.specs.declared.refusals.Refusal.TheVariants.{AreaBad, KeyLong,
 use Rattle.layout.specs.declared.refusals.Refusal.TheVariants.{OutShort, FileShort, NoDirectory, DirectoryBad, KeysUnsorted, RecordsBad}
 use Rattle.layout.specs.declared.refusals.Refusal.TheVariants.{GroupBad, BlockBad, UnknownId, OrdinalBelow, KeyAbove, Unfit, TableBad}
 use Rattle.layout.specs.declared.refusals.Refusal.TheVariants.{FlagBad, StateBad, RoomShort, NoExample, KeyListBad, NotCanonical, TermsBad}
-use Rattle.layout.specs.declared.refusals.Refusal.TheVariants.{OrdinalAbove}
+use Rattle.layout.specs.declared.refusals.Refusal.TheVariants.{OrdinalAbove, VersionBad}
 use Rattle.layout.specs.Refusals.{number_of}
+use Rattle.layout.specs.Versions.{version_no}
 use Rattle.layout.proofs.Numbers.{number_positive}
 use Rattle.group.specs.declared.BlockAddr.{BlockAddr}
 use Rattle.group.specs.Rows.{or_row}
 use Rattle.store.specs.declared.Located.{Located}
 use Rattle.store.specs.Check.{store_no}
 use Rattle.directory.specs.Read.{directory_no}
-use Rattle.index.specs.Opening.{footer_no, file_no, open_no, rows, refusal_of, step_of_open}
+use Rattle.index.specs.Opening.{footer_no, file_no, terms_no, open_no, rows, refusal_of, step_of_open}
 use Rattle.index.specs.Answers.{load_no, BlockByIdCased, LocatedCased, LocatedIdCased}
 
 -- ---- a refusal and its number
 
-pub step-refused : (terms : ℕ) (f : List ℕ) (r : Refusal) → step_of_open (number_of r) terms f ≡ Err r
+pub step-refused : (version terms : ℕ) (f : List ℕ) (r : Refusal) → step_of_open (number_of r) version terms f ≡ Err r
 unfolding refusal_of
-step-refused terms f AreaBad = refl
-step-refused terms f KeyLong = refl
-step-refused terms f NumbersBad = refl
-step-refused terms f JoinBad = refl
-step-refused terms f OrdinalBad = refl
-step-refused terms f KeyBad = refl
-step-refused terms f RoomBad = refl
-step-refused terms f ListBad = refl
-step-refused terms f OutShort = refl
-step-refused terms f FileShort = refl
-step-refused terms f NoDirectory = refl
-step-refused terms f DirectoryBad = refl
-step-refused terms f KeysUnsorted = refl
-step-refused terms f RecordsBad = refl
-step-refused terms f GroupBad = refl
-step-refused terms f BlockBad = refl
-step-refused terms f UnknownId = refl
-step-refused terms f OrdinalBelow = refl
-step-refused terms f KeyAbove = refl
-step-refused terms f Unfit = refl
-step-refused terms f TableBad = refl
-step-refused terms f FlagBad = refl
-step-refused terms f StateBad = refl
-step-refused terms f RoomShort = refl
-step-refused terms f NoExample = refl
-step-refused terms f KeyListBad = refl
-step-refused terms f NotCanonical = refl
-step-refused terms f TermsBad = refl
-step-refused terms f OrdinalAbove = refl
+step-refused version terms f AreaBad = refl
+step-refused version terms f KeyLong = refl
+step-refused version terms f NumbersBad = refl
+step-refused version terms f JoinBad = refl
+step-refused version terms f OrdinalBad = refl
+step-refused version terms f KeyBad = refl
+step-refused version terms f RoomBad = refl
+step-refused version terms f ListBad = refl
+step-refused version terms f OutShort = refl
+step-refused version terms f FileShort = refl
+step-refused version terms f NoDirectory = refl
+step-refused version terms f DirectoryBad = refl
+step-refused version terms f KeysUnsorted = refl
+step-refused version terms f RecordsBad = refl
+step-refused version terms f GroupBad = refl
+step-refused version terms f BlockBad = refl
+step-refused version terms f UnknownId = refl
+step-refused version terms f OrdinalBelow = refl
+step-refused version terms f KeyAbove = refl
+step-refused version terms f Unfit = refl
+step-refused version terms f TableBad = refl
+step-refused version terms f FlagBad = refl
+step-refused version terms f StateBad = refl
+step-refused version terms f RoomShort = refl
+step-refused version terms f NoExample = refl
+step-refused version terms f KeyListBad = refl
+step-refused version terms f NotCanonical = refl
+step-refused version terms f TermsBad = refl
+step-refused version terms f OrdinalAbove = refl
+step-refused version terms f VersionBad = refl
 
 -- refusals whose numbers rise by one from k on
 abbrev Numbered : ℕ → List Refusal → Type 0
@@ -70,7 +72,7 @@ numbered-at (r ∷ rs) k (suc i) h l = omega (arith, numbered-at rs (suc k) i h.
 rows-numbered : Numbered 1 rows
 rows-numbered = search rules depth 60
 
-pub refusal-number : (k : ℕ) → 1 ≤ k → k ≤ 29 → number_of (refusal_of k) ≡ k
+pub refusal-number : (k : ℕ) → 1 ≤ k → k ≤ 30 → number_of (refusal_of k) ≡ k
 unfolding refusal_of
 refusal-number k some few = omega (arith, numbered-at rows 1 (k - 1) rows-numbered (omega arith))
 
@@ -88,13 +90,13 @@ pub file_no-most : (L : ℕ) (f : List ℕ) → file_no L f ≤ 16
 unfolding file_no footer_no directory_no store_no
 file_no-most L f = search (rules, or_row-most, cond-most) depth 12
 
-pub open_no-most : (L terms : ℕ) (f : List ℕ) → open_no L terms f ≤ 28
-unfolding open_no file_no footer_no directory_no store_no
-open_no-most L terms f = search (rules, or_row-most, cond-most) depth 12
+pub open_no-most : (L version terms : ℕ) (f : List ℕ) → open_no L version terms f ≤ 30
+unfolding open_no version_no terms_no file_no footer_no directory_no store_no
+open_no-most L version terms f = search (rules, or_row-most, cond-most) depth 12
 
-pub step-number : (terms : ℕ) (f : List ℕ) (k : ℕ) → k ≤ 29 → load_no (step_of_open k terms f) ≡ k
-step-number terms f zero h = refl
-step-number terms f (suc k) h = refusal-number (suc k) (omega arith) h
+pub step-number : (version terms : ℕ) (f : List ℕ) (k : ℕ) → k ≤ 30 → load_no (step_of_open k version terms f) ≡ k
+step-number version terms f zero h = refl
+step-number version terms f (suc k) h = refusal-number (suc k) (omega arith) h
 
 -- ---- no refusal has the number 0
 

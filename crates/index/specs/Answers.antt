@@ -9,7 +9,7 @@ use Rattle.index.specs.declared.SSTableIndexV3.{SSTableIndexV3}
 
 -- the record of an opening that is refused
 abbrev pub no_index : SSTableIndexV3
-no_index = record { n = 0; directory = 0; directory_len = 0; metas = 0; metas_len = 0; addrs = 0; addrs_len = 0; terms = 0 }
+no_index = record { n = 0; directory = 0; directory_len = 0; metas = 0; metas_len = 0; addrs = 0; addrs_len = 0; terms = 0; version = 0 }
 
 -- opening: its number and the opened record
 abbrev pub load_no : Result SSTableIndexV3 Refusal → ℕ

@@ -1,9 +1,10 @@
 -- The lookups (rows 17 to 20 and 29). What an answer may be in every case is held to `..Allowed`, what it is for bytes and record of one
 -- opening to `..Exact`.
 -- A name that ends in By takes the group's length L; the same name without is for the groups that a record has.
-use Rattle.std.specs.Prelude.{ℕ, ◌+◌, ◌*◌, ◌≤◌, ◌<◌, ◌≡◌, List, ◌⊎◌, Bool, true, ◌||◌, cond, ltb, leb, length, take, drop}
+use Rattle.std.specs.Prelude.{ℕ, ◌+◌, ◌*◌, ◌≤◌, ◌<◌, ◌≡◌, List, ◌⊎◌, Bool, true, false, ◌||◌, cond, ltb, leb, length, take, drop}
 use Rattle.std.specs.Prelude.{Option, Some, None}
 use Rattle.layout.specs.Layout.{max_blocks, meta_len}
+use Rattle.layout.specs.Versions.{version_bad}
 use Rattle.keys.specs.Order.{◌≺◌}
 use Rattle.group.specs.declared.BlockAddr.{BlockAddr}
 use Rattle.group.specs.Legal.{NumbersOk}
@@ -17,19 +18,20 @@ use Rattle.index.specs.Opening.{OpensBy, group_of}
 
 -- ---- row 20 for the record
 
--- n that no index has, a place that doesn't fit `len` bytes, or fewer group records than n blocks have
+-- a version or an n that no index has, a place that doesn't fit `len` bytes, or fewer group records than n blocks have
 unfoldable pub opened_bad_by : ℕ → SSTableIndexV3 → ℕ → Bool
 opened_bad_by L opened len =
-    ltb opened.n 1 || (ltb max_blocks opened.n
+    version_bad opened.version || (ltb opened.n 1 || (ltb max_blocks opened.n
     || (ltb len (opened.directory + opened.directory_len)
     || (ltb len (opened.metas + opened.metas_len)
-    || (ltb len (opened.addrs + opened.addrs_len) || ltb opened.metas_len (meta_len * group_count L opened.n)))))
+    || (ltb len (opened.addrs + opened.addrs_len) || ltb opened.metas_len (meta_len * group_count L opened.n))))))
 
 abbrev pub opened_bad : SSTableIndexV3 → ℕ → Bool
 opened_bad opened len = opened_bad_by (group_of opened) opened len
 
 -- a record that doesn't hit it, in numbers
 pub record OpenedFits (L : ℕ) (opened : SSTableIndexV3) (len : ℕ) : Type 0 where
+  pub version : version_bad opened.version ≡ false
   pub some : 1 ≤ opened.n
   pub few : opened.n ≤ max_blocks
   pub directory : opened.directory + opened.directory_len ≤ len

@@ -14,7 +14,7 @@ use directory_read::Directory;
 use group::BlockAddr;
 use index::SSTableIndexV3;
 use layout::refusals::Refusal;
-use layout::{MAX_BLOCKS, META_LEN};
+use layout::{MAX_BLOCKS, META_LEN, versions};
 use store::Located;
 use store::grouping::Grouping;
 use store_read::BlockAddrStore;
@@ -29,10 +29,14 @@ fn part(data: &[u8], offset: usize, len: usize) -> &[u8]
 }
 
 // Row 20 for the record: whether it can't be one of `len` bytes.
+#[inline(always)]
 pub fn opened_bad(opened: SSTableIndexV3, len: usize, group_len: usize) -> bool
     requires { GroupLenOk group_len }
     ensures { result ≡ opened_bad_by group_len opened len }
 {
+    if versions::version_bad(opened.version) {
+        return true;
+    }
     if !(1..=MAX_BLOCKS).contains(&opened.n) {
         return true;
     }
@@ -62,6 +66,7 @@ pub struct OpenedIndex<'a> {
 
 impl<'a> OpenedIndex<'a> {
     // The record with the bytes; refused with row 20 where it can't be one of them.
+    #[inline(always)]
     pub fn check(
         opened: SSTableIndexV3,
         data: &'a [u8],
@@ -127,6 +132,7 @@ impl<'a> OpenedIndex<'a> {
     }
 
     // The address of block `block_id`.
+    #[inline(always)]
     pub fn get_block(&self, block_id: u64) -> Result<BlockAddr, Refusal>
         ensures { GetBlockBy self.now.group_len self.now.«data».now self.now.opened block_id (by_id_no result) (by_id_addr result) }
     {
@@ -148,6 +154,7 @@ impl<'a> OpenedIndex<'a> {
     }
 
     // The last block whose first ordinal is at or below `ord`, if that is below the number of terms.
+    #[inline(always)]
     pub fn locate_with_ord(&self, ord: u64) -> Result<Located, Refusal>
         ensures { LocateWithOrdBy self.now.group_len self.now.«data».now self.now.opened ord
             (located_no result) (located_id result) (located_addr result) }
@@ -159,6 +166,7 @@ impl<'a> OpenedIndex<'a> {
     }
 
     // The first block whose separator isn't below `key`.
+    #[inline(always)]
     pub fn locate_with_key(&self, key: &[u8]) -> Result<usize, Refusal>
         ensures { LocateWithKeyBy self.now.group_len self.now.«data».now self.now.opened key.now (id_no result) (id_of result) }
     {
@@ -166,6 +174,7 @@ impl<'a> OpenedIndex<'a> {
     }
 
     // The first block whose separator isn't below `key`, with its address.
+    #[inline(always)]
     pub fn get_block_with_key(&self, key: &[u8]) -> Result<Located, Refusal>
         ensures { GetBlockWithKeyBy self.now.group_len self.now.«data».now self.now.opened key.now
             (located_no result) (located_id result) (located_addr result) }
@@ -200,6 +209,7 @@ impl<'a> OpenedIndex<'a> {
 // which can't be one of the bytes stands in `check`'s clause and the type, and here in one.
 
 // The address of block `block_id`.
+#[inline(always)]
 pub fn get_block(
     opened: SSTableIndexV3,
     data: &[u8],
@@ -213,6 +223,7 @@ pub fn get_block(
 }
 
 // The last block whose first ordinal is at or below `ord`, if that is below the number of terms.
+#[inline(always)]
 pub fn locate_with_ord(
     opened: SSTableIndexV3,
     data: &[u8],
@@ -226,6 +237,7 @@ pub fn locate_with_ord(
 }
 
 // The first block whose separator isn't below `key`.
+#[inline(always)]
 pub fn locate_with_key(
     opened: SSTableIndexV3,
     data: &[u8],
@@ -239,6 +251,7 @@ pub fn locate_with_key(
 }
 
 // The first block whose separator isn't below `key`, with its address.
+#[inline(always)]
 pub fn get_block_with_key(
     opened: SSTableIndexV3,
     data: &[u8],

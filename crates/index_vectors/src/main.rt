@@ -177,7 +177,7 @@ fn is_same(
         Kind::OpenFile => opened.opens_file(alloc, given, text),
         Kind::OpenChanged => opened.opens_changed(given, text),
         Kind::OpenByRule => opened.opens_by_rule(alloc, given),
-        Kind::OpenAgain => Ok(opened.opens(given)),
+        Kind::OpenAgain => Ok(opened.opens_again(given)),
         Kind::SetRecord => Ok(opened.sets_record(given)),
         Kind::Find(question) => {
             let lookup = Lookup {

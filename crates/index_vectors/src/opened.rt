@@ -24,17 +24,26 @@ impl Opened {
         }
     }
 
-    // TERMS NO N DIRECTORY LEN RECORDS LEN ADDRESSES LEN TERMS: the file is opened with so many terms, and answers what follows them.
-    pub fn opens(&mut self, given: &[u64]) -> bool {
+    // TERMS NO N DIRECTORY LEN RECORDS LEN ADDRESSES LEN TERMS VERSION: the file is opened with this version and so many terms, and
+    // answers what follows them.
+    fn opens(&mut self, version: u64, given: &[u64]) -> bool {
         let [terms, due @ ..] = given else {
             return false;
         };
-        let answer = index_load::load(*terms, &self.file);
+        let answer = index_load::load(version, *terms, &self.file);
         self.record = answer.ok();
-        is_told(due, answer.map(|opened| <[u64; 8]>::from(opened)))
+        is_told(due, answer.map(|opened| <[u64; 9]>::from(opened)))
     }
 
-    // TERMS NO N .., and the file
+    // VERSION TERMS NO N ..: the file as it is
+    pub fn opens_again(&mut self, given: &[u64]) -> bool {
+        let [version, opening @ ..] = given else {
+            return false;
+        };
+        self.opens(*version, opening)
+    }
+
+    // VERSION TERMS NO N .., and the file
     pub fn opens_file(
         &mut self,
         alloc: Global,
@@ -42,21 +51,21 @@ impl Opened {
         content: &[u8],
     ) -> Result<bool, AllocError> {
         self.file = content.to_vec(alloc)?;
-        Ok(self.opens(given))
+        Ok(self.opens_again(given))
     }
 
-    // COUNT TERMS NO N ..: the file by the rule
+    // VERSION COUNT TERMS NO N ..: the file by the rule
     pub fn opens_by_rule(&mut self, alloc: Global, given: &[u64]) -> Result<bool, AllocError> {
-        let [count, opening @ ..] = given else {
+        let [version, count, opening @ ..] = given else {
             return Ok(false);
         };
-        self.file = rule::file(alloc, *count)?;
-        Ok(self.opens(opening))
+        self.file = rule::file(alloc, *version, *count)?;
+        Ok(self.opens(*version, opening))
     }
 
-    // AT TERMS NO N .., and the bytes in place of the file's own from AT on
+    // VERSION AT TERMS NO N .., and the bytes in place of the file's own from AT on
     pub fn opens_changed(&self, given: &[u64], part: &[u8]) -> Result<bool, AllocError> {
-        let [at, terms, due @ ..] = given else {
+        let [version, at, terms, due @ ..] = given else {
             return Ok(false);
         };
         let mut file = self.file.clone()?;
@@ -69,14 +78,14 @@ impl Opened {
         own.copy_from_slice(part);
         Ok(is_told(
             due,
-            index_load::load(*terms, &file).map(|opened| <[u64; 8]>::from(opened)),
+            index_load::load(*version, *terms, &file).map(|opened| <[u64; 9]>::from(opened)),
         ))
     }
 
-    // N DIRECTORY LEN RECORDS LEN ADDRESSES LEN TERMS: this record from here on. This and `block_count` are as in pattern_vectors: vectors,
-    // which both use, doesn't know index.
+    // N DIRECTORY LEN RECORDS LEN ADDRESSES LEN TERMS VERSION: this record from here on. This and `block_count` are as in
+    // pattern_vectors: vectors, which both use, doesn't know index.
     pub fn sets_record(&mut self, given: &[u64]) -> bool {
-        let Ok(numbers) = <[u64; 8]>::try_from(given) else {
+        let Ok(numbers) = <[u64; 9]>::try_from(given) else {
             return false;
         };
         self.record = Some(SSTableIndexV3::from(numbers));

@@ -1,10 +1,11 @@
-// The file by the rule: n keys, key i the 3 bytes of i, highest first; groups that share their fields, with slopes and widths of 1; 32
-// address bytes FF. So block i is i..i + 1 from ordinal i on.
+// The file by the rule, of a version: n keys, key i the 3 bytes of i, highest first; groups that share their fields, with slopes and
+// widths of 1; address bytes FF, as many as a full group needs. So block i is i..i + 1 from ordinal i on.
+ghost use Rattle.std.specs.Prelude.{◌≤◌};
+
+use layout::versions;
 use std::alloc::{AllocError, Global};
 
 const MOST: u64 = 65537;
-
-const GROUP: u32 = 128;
 
 const RECORD: u32 = 36;
 
@@ -19,8 +20,23 @@ fn put_record(out: &mut Vec<u8>, first: u32, more: u16) -> Result<(), AllocError
     out.extend_from_slice(&more.to_le_bytes())
 }
 
+// Appends the store of n blocks in groups of `group`.
+fn put_store(out: &mut Vec<u8>, n: u32, group: u32) -> Result<(), AllocError>
+    requires { (n ≤ 65537) × (128 ≤ group) × (group ≤ 256) }
+{
+    let groups = n.div_ceil(group);
+    out.extend_from_slice(&u64::from(RECORD * groups).to_le_bytes())?;
+    for g in 0..groups {
+        let first = group * g;
+        let more = (n - first).min(group) - 1;
+        put_record(out, first, more as u16)?;
+    }
+    // Two bits a block.
+    out.resize(out.len() + group as usize / 4, 0xff)
+}
+
 // The file of n blocks; an empty one where they are too many, which opening refuses by row 10.
-pub fn file(alloc: Global, n: u64) -> Result<Vec<u8>, AllocError> {
+pub fn file(alloc: Global, version: u64, n: u64) -> Result<Vec<u8>, AllocError> {
     let mut out = Vec::new(alloc);
     if n > MOST {
         return Ok(out);
@@ -36,14 +52,7 @@ pub fn file(alloc: Global, n: u64) -> Result<Vec<u8>, AllocError> {
         out.extend_from_slice(&i.to_be_bytes()[1..])?;
     }
     let directory_len = out.len() as u64;
-    let groups = n.div_ceil(GROUP);
-    out.extend_from_slice(&u64::from(RECORD * groups).to_le_bytes())?;
-    for g in 0..groups {
-        let first = GROUP * g;
-        let more = (n - first).min(GROUP) - 1;
-        put_record(&mut out, first, more as u16)?;
-    }
-    out.extend_from_slice(&[0xff; 32])?;
+    put_store(&mut out, n, versions::group_len(version) as u32)?;
     out.extend_from_slice(&directory_len.to_le_bytes())?;
     Ok(out)
 }

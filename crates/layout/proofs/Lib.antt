@@ -1,4 +1,5 @@
 pub mod Fronts
+pub mod GroupLengths
 pub mod Numbers
 pub mod Places
 pub mod Rows

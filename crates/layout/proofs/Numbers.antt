@@ -6,7 +6,7 @@ use Rattle.layout.specs.declared.refusals.Refusal.TheVariants.{AreaBad, KeyLong,
 use Rattle.layout.specs.declared.refusals.Refusal.TheVariants.{RoomBad, ListBad, OutShort, FileShort, NoDirectory, DirectoryBad}
 use Rattle.layout.specs.declared.refusals.Refusal.TheVariants.{KeysUnsorted, RecordsBad, GroupBad, BlockBad, UnknownId, OrdinalBelow}
 use Rattle.layout.specs.declared.refusals.Refusal.TheVariants.{KeyAbove, Unfit, TableBad, FlagBad, StateBad, RoomShort}
-use Rattle.layout.specs.declared.refusals.Refusal.TheVariants.{NoExample, KeyListBad, NotCanonical, TermsBad, OrdinalAbove}
+use Rattle.layout.specs.declared.refusals.Refusal.TheVariants.{NoExample, KeyListBad, NotCanonical, TermsBad, OrdinalAbove, VersionBad}
 use Rattle.layout.specs.Refusals.{number_of}
 
 pub number_positive : (r : Refusal) → 0 < number_of r
@@ -39,3 +39,4 @@ number_positive KeyListBad = omega arith
 number_positive NotCanonical = omega arith
 number_positive TermsBad = omega arith
 number_positive OrdinalAbove = omega arith
+number_positive VersionBad = omega arith

@@ -1,4 +1,5 @@
--- Lengths and limits of the layouts (document 01, "Records" and the table's rows 1, 2, 7 and 12; document 02, wish 1), each in one place.
+-- Lengths and limits of the layouts (document 01, "Records" and the table's rows 1, 2, 7 and 12; document 02, wishes 1 and 5), each in one
+-- place.
 use Rattle.std.specs.Prelude.{ℕ}
 
 -- the most blocks that an index has
@@ -9,9 +10,12 @@ max_blocks = 65536
 abbrev pub max_group_len : ℕ
 max_group_len = 256
 
--- the blocks of a group; the last group may have fewer
+-- the blocks of a group in an index of version 3 and of version 4; the last group may have fewer
 abbrev pub store_block_len : ℕ
 store_block_len = 128
+
+abbrev pub store_block_len_v4 : ℕ
+store_block_len_v4 = 256
 
 -- the bytes of a group record
 abbrev pub meta_len : ℕ

@@ -5,7 +5,7 @@ use Rattle.layout.specs.declared.refusals.Refusal.TheVariants.{AreaBad, KeyLong,
 use Rattle.layout.specs.declared.refusals.Refusal.TheVariants.{RoomBad, ListBad, OutShort, FileShort, NoDirectory, DirectoryBad}
 use Rattle.layout.specs.declared.refusals.Refusal.TheVariants.{KeysUnsorted, RecordsBad, GroupBad, BlockBad, UnknownId, OrdinalBelow}
 use Rattle.layout.specs.declared.refusals.Refusal.TheVariants.{KeyAbove, Unfit, TableBad, FlagBad, StateBad, RoomShort}
-use Rattle.layout.specs.declared.refusals.Refusal.TheVariants.{NoExample, KeyListBad, NotCanonical, TermsBad, OrdinalAbove}
+use Rattle.layout.specs.declared.refusals.Refusal.TheVariants.{NoExample, KeyListBad, NotCanonical, TermsBad, OrdinalAbove, VersionBad}
 
 -- the row that a refusal is
 abbrev pub number_of : Refusal → ℕ
@@ -38,6 +38,7 @@ number_of KeyListBad = 26
 number_of NotCanonical = 27
 number_of TermsBad = 28
 number_of OrdinalAbove = 29
+number_of VersionBad = 30
 
 -- an answer's number: 0 where the call isn't refused
 abbrev pub no_of : {A : Type 0} → Result A Refusal → ℕ

@@ -4,12 +4,15 @@
 ghost use Rattle.std.specs.Prelude.{◌≡◌, ◌+◌, ltb};
 
 pub mod refusals;
+pub mod versions;
 
 // The most blocks that an index has.
 pub const MAX_BLOCKS: usize = 65536;
 
-// The blocks of a group; the last group may have fewer.
+// The blocks of a group in an index of version 3 and of version 4; the last group may have fewer.
 pub const STORE_BLOCK_LEN: usize = 128;
+
+pub const STORE_BLOCK_LEN_V4: usize = 256;
 
 // The bytes of a group record.
 pub const META_LEN: usize = 36;

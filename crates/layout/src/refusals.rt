@@ -63,6 +63,8 @@ pub enum Refusal {
     TermsBad = 28,
     // The ordinal is at or above the number of terms.
     OrdinalAbove = 29,
+    // No index has the version.
+    VersionBad = 30,
 }
 
 // The table's number.

@@ -67,10 +67,10 @@ pub fn same_number(numbers: &[u64], bytes: &[u8], area: &mut Area) -> bool {
 
 // Puts the values, plus BASE, a STRIDE apart from FIRST on. False where one is 2^61 or more, or they don't fit.
 fn spread(area: &mut [u64], values: &[u64]) -> bool
-    requires { 512 ≤ length area.old }
+    requires { 1024 ≤ length area.old }
     ensures { result ≡ true → ColumnOk area.new 2 3 1000003 (length values.now) }
 {
-    if values.len() > 170 {
+    if values.len() > 256 {
         return false;
     }
     // By place, since std says nothing of what an area holds that was written by chunks.
@@ -88,7 +88,7 @@ pub fn same_slope(numbers: &[u64]) -> bool {
         return false;
     };
     // An array: a Vec would need an allocator here, and could run out of memory.
-    let mut area = [u64::MAX; 512];
+    let mut area = [u64::MAX; 1024];
     if *count != values.len() as u64 || !spread(&mut area, values) {
         return false;
     }

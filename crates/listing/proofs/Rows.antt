@@ -10,6 +10,7 @@ use Rattle.group.specs.Rows.{or_row}
 use Rattle.group.proofs.RowOrder.{or_row-first}
 use Rattle.automaton.specs.Table.{table_no}
 use Rattle.index.specs.declared.SSTableIndexV3.{SSTableIndexV3}
+use Rattle.index.specs.Opening.{group_of}
 use Rattle.index.specs.Lookups.{opened_bad, OpenedFits, directory_at}
 use Rattle.index.proofs.Fits.{fits-passes}
 use Rattle.listing.specs.Listing.{keys_outside, listing_no}
@@ -39,7 +40,8 @@ module _ (opened : SSTableIndexV3) (f t : List ℕ) (room : ℕ) where
       none-refused e h = rw (past-20, e, le-ltb room opened.n h)
 
 -- ---- the record and the directory, as the code has them
-module _ {L : ℕ} {o : SSTableIndexV3} {d : List ℕ} (opened : SSTableIndexV3) (f : List ℕ) (is : (o ≡ opened) × (d ≡ f) × (L ≡ 128)) where
+module _ {L K : ℕ} {o : SSTableIndexV3} {d : List ℕ} (opened : SSTableIndexV3) (f : List ℕ) (len : K ≡ group_of opened)
+    (is : (o ≡ opened) × (d ≡ f) × (L ≡ K)) where
   pub same-directory : {n : ℕ} {b : List ℕ} → (n ≡ o.n) × (b ≡ directory_at o d) → (b ≡ directory_at opened f) × (n ≡ opened.n)
   same-directory e = (rw (is.0, is.1) at e.1, rw is.0 at e.0)
 
@@ -48,6 +50,6 @@ module _ {L : ℕ} {o : SSTableIndexV3} {d : List ℕ} (opened : SSTableIndexV3)
       → {t : Bool} → t ≡ keys_outside b n n
       → (opened_bad opened (length f) ≡ false) × (keys_outside (directory_at opened f) opened.n opened.n ≡ t)
   keys-tried h e told = (
-    fits-passes 128 opened (length f) (rw (is.0, is.1, is.2) at h),
+    fits-passes (group_of opened) opened (length f) (rw (is.0, is.1, is.2, len) at h),
     rw (← (same-directory e).0, ← (same-directory e).1) (sym told),
   )

@@ -14,7 +14,6 @@ use automaton_live::Prepared;
 use directory_read::Directory;
 use index::SSTableIndexV3;
 use index_lookup::OpenedIndex;
-use layout::STORE_BLOCK_LEN;
 use layout::refusals::Refusal;
 use listing_follow::Trail;
 use pruning_match::{can_block_match, can_block_match_from};
@@ -93,7 +92,7 @@ pub fn get_block_for_automaton(
 ) -> Result<usize, Refusal>
     ensures { GetBlockForAutomaton «data».now opened table.now marks.old marks.new (listed_no result) (listed_count result) }
 {
-    let directory = OpenedIndex::check(opened, data, STORE_BLOCK_LEN)?.directory();
+    let directory = OpenedIndex::check(opened, data, opened.group_len())?.directory();
     if keys_outside(directory) {
         return Err(Refusal::Unfit);
     }

@@ -1,4 +1,5 @@
 pub mod Entries
+pub mod FinishIn
 pub mod Machine
 pub mod NeverHit
 pub mod Rules

@@ -2,7 +2,7 @@
 use Rattle.std.specs.Prelude.{ℕ, ◌≡◌, List, [], ◌∷◌, length}
 use Rattle.builder.specs.Calls.{State, Called, add_def, shorten_def}
 use Rattle.builder.specs.Index.{Settings}
-use Rattle.builder.specs.Finish.{Finish, finish_def}
+use Rattle.builder.specs.Finish.{Finish, finish_def, finish_in}
 use Rattle.machine.specs.Plain.{Call, add, shorten_last, Rooms}
 
 -- no block yet; areas of any length and content
@@ -24,6 +24,9 @@ unfoldable pub run_end : List Call → State → State
 run_end [] s = s
 run_end (c ∷ cs) s = run_end cs (call_def c s).state
 
--- the finish after a list of calls
+-- the finish after a list of calls, with any settings, and the call of a version
 abbrev pub finished_after : Settings → List Call → State → List ℕ → Finish
 finished_after S cs s out = finish_def S (run_end cs s).builder (run_end cs s).blocks (run_end cs s).keys out
+
+abbrev pub finished_in : ℕ → List Call → State → List ℕ → Finish
+finished_in version cs s out = finish_in version (run_end cs s).builder (run_end cs s).blocks (run_end cs s).keys out

@@ -39,22 +39,25 @@ impl Subject {
         Ok(true)
     }
 
-    // N, and the file: its count of blocks, 0 where it is refused. No listing depends on the number of terms.
+    // VERSION N, and the file: its count of blocks, 0 where it is refused. No listing depends on the number of terms.
     pub fn opens(
         &mut self,
         alloc: Global,
         given: &[u64],
         content: &[u8],
     ) -> Result<bool, AllocError> {
+        let [version, n] = *given else {
+            return Ok(false);
+        };
         self.file = content.to_vec(alloc)?;
-        self.record = index_load::load_least(&self.file).ok();
-        Ok(given == [self.block_count() as u64].as_slice())
+        self.record = index_load::load_least(version, &self.file).ok();
+        Ok(n == self.block_count() as u64)
     }
 
-    // N DIRECTORY LEN RECORDS LEN ADDRESSES LEN TERMS: this record from here on. This and `block_count` are as in index_vectors: vectors,
-    // which both use, doesn't know index.
+    // N DIRECTORY LEN RECORDS LEN ADDRESSES LEN TERMS VERSION: this record from here on. This and `block_count` are as in
+    // index_vectors: vectors, which both use, doesn't know index.
     pub fn sets_record(&mut self, given: &[u64]) -> bool {
-        let Ok(numbers) = <[u64; 8]>::try_from(given) else {
+        let Ok(numbers) = <[u64; 9]>::try_from(given) else {
             return false;
         };
         self.record = Some(SSTableIndexV3::from(numbers));

@@ -8,11 +8,11 @@ use lib.ListN.{length, take}
 use lib.Seq.{sets}
 use Rattle.serialize.proofs.Stores.{sets-append}
 use Rattle.builder.specs.Calls.{State}
-use Rattle.builder.specs.Finish.{Finish, finish_def}
+use Rattle.builder.specs.Finish.{Finish, finish_in}
 use Rattle.machine.specs.Plain.{Call}
 use Rattle.machine.specs.Runs.{run_numbers, run_end}
 use Rattle.replay.specs.Format.{call_len, call_at, question_len, question_at, behind, items, calls, questions}
-use Rattle.replay.specs.Format.{call_count, question_count, calls_from, questions_from, list_terms, head_bad, list_bad}
+use Rattle.replay.specs.Format.{call_count, question_count, calls_from, questions_from, list_terms, list_version, head_bad, list_bad}
 use Rattle.replay.specs.Made.{call_cells, finish_cells, opening_cells, finish_settings, fresh_of, entries_of, finish_of_list}
 use Rattle.replay.specs.Made.{open_number, check_number}
 use Rattle.replay.specs.Steps.{state_of}
@@ -75,17 +75,18 @@ questions_there s from e head whole z =
 module _ (s B K out B' K' : List ℕ) (b : SSTableIndexBuilder) (m : state_of b B' K' ≡ run_end (calls s) (fresh_of B K)) where
   -- the finish on what the calls left
   abbrev left : Finish
-  left = finish_def (finish_settings s) b B' K' out
+  left = finish_in (list_version s) b B' K' out
 
   made-finish : left ≡ finish_of_list s B K out
-  made-finish = ap (λ (a : State). finish_def (finish_settings s) a.builder a.blocks a.keys out) m ∙ list-finish s B K out
+  made-finish = ap (λ (a : State). finish_in (list_version s) a.builder a.blocks a.keys out) m ∙ list-finish s B K out
 
   module _ (total : ℕ) (out' : List ℕ) (t : total ≡ left.total) (o : out' ≡ left.out) where
     pub total-fits : length out' ≡ length out → total ≤ length out'
     total-fits e = rw (e, t, made-finish) (list-fits s B K out)
 
-    pub opened-list : CheckedAs (open_number (list_terms s) (entries_of s B K) (finish_of_list s B K out))
-        (check_number (finish_of_list s B K out)) (finish_settings s) (list_terms s) (entries_of s B K) (take total out')
+    pub opened-list : CheckedAs (open_number (list_version s) (list_terms s) (entries_of s B K) (finish_of_list s B K out))
+        (check_number (list_version s) (finish_of_list s B K out)) (finish_settings s) (list_version s) (list_terms s) (entries_of s B K)
+        (take total out')
     opened-list = rw (t, o, made-finish) (list-opened s B K out)
 
   pub replayed : (answers : List ℕ) (count : ℕ) → count ≡ call_count s → (answers₁ answers₂ answers₃ out' : List ℕ)
@@ -93,13 +94,13 @@ module _ (s B K out B' K' : List ℕ) (b : SSTableIndexBuilder) (m : state_of b 
       → out' ≡ left.out
       → answers₂ ≡ sets answers₁ (5 * count) (finish_cells left)
       → (from : ℕ) → from ≡ questions_from s
-      → OpeningAnswered (open_number (list_terms s) (entries_of s B K) (finish_of_list s B K out))
-      (check_number (finish_of_list s B K out)) (finish_settings s) (list_terms s) (entries_of s B K)
+      → OpeningAnswered (open_number (list_version s) (list_terms s) (entries_of s B K) (finish_of_list s B K out))
+      (check_number (list_version s) (finish_of_list s B K out)) (finish_settings s) (list_terms s) (entries_of s B K)
       (items (question_len s) (question_at s) from (question_count s)) (count + 1) answers₂ answers₃
       → Replayed s B K out answers B' K' out' answers₃
   replayed answers count c answers₁ answers₂ answers₃ out' called written finished from next opened =
       let f = finish_of_list s B K out in
-      let rest : List ℕ = opening_cells (list_terms s) (entries_of s B K) f ++ opened.asked in
+      let rest : List ℕ = opening_cells (list_version s) (list_terms s) (entries_of s B K) f ++ opened.asked in
       let after : List ℕ = finish_cells f ++ rest in
       let all : List ℕ = call_cells (run_numbers (calls s) (fresh_of B K)) in
       let place : 5 * count ≡ 0 + length all = omega (arith, call-answers s (fresh_of B K)) in

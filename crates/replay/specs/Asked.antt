@@ -4,11 +4,11 @@ use Rattle.std.proofs.lemmas.List.Edits.{sets}
 use Rattle.layout.specs.Layout.{max_blocks}
 use Rattle.layout.specs.declared.refusals.Refusal.{Refusal}
 use Rattle.layout.specs.Refusals.{number_of}
-use Rattle.builder.specs.Index.{Settings, standard}
+use Rattle.builder.specs.Index.{Settings}
 use Rattle.machine.specs.Plain.{Entry, plain_index}
 use Rattle.index.specs.declared.SSTableIndexV3.{SSTableIndexV3}
 use Rattle.index.specs.Opening.{load_def}
-use Rattle.canonical.specs.Canonical.{canonical_no}
+use Rattle.canonical.specs.Canonical.{check_no}
 use Rattle.demands.specs.Demand3.{Finds}
 use Rattle.replay.specs.Format.{Question}
 use Rattle.replay.specs.Made.{cells}
@@ -25,10 +25,10 @@ abbrev pub OpenedAs : ℕ → Settings → ℕ → List Entry → List ℕ → R
 OpenedAs k S terms es f (Ok opened) = (k ≡ 0) × Indexed S terms es f opened
 OpenedAs k S terms es f (Err refusal) = (k ≡ number_of refusal) × (0 < k)
 
--- f, opened with a number of terms and checked: c is the number of the check of document 02's wish 3
-pub record CheckedAs (k c : ℕ) (S : Settings) (terms : ℕ) (es : List Entry) (f : List ℕ) : Type 0 where
-  pub opening : OpenedAs k S terms es f (load_def terms f)
-  pub checked : canonical_no standard f ≡ c
+-- f, opened with a version and a number of terms and checked: c is the number of the check of document 02's wish 3
+pub record CheckedAs (k c : ℕ) (S : Settings) (version terms : ℕ) (es : List Entry) (f : List ℕ) : Type 0 where
+  pub opening : OpenedAs k S terms es f (load_def version terms f)
+  pub checked : check_no version f ≡ c
 
 -- questions answered from answer i on
 pub record QuestionsAnswered (k : ℕ) (S : Settings) (terms : ℕ) (es : List Entry) (qs : List Question) (i : ℕ)

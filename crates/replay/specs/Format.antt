@@ -1,5 +1,5 @@
--- A list of calls and questions in bytes: the settings' length (4) and the settings, which are the number of terms (8) that the index is
--- opened with; how many calls and how many questions (4 and 4), the calls, the questions.
+-- A list of calls and questions in bytes: the settings' length (4) and the settings, which are the number of terms (8) and the version (8)
+-- that the index is finished and opened with; how many calls and how many questions (4 and 4), the calls, the questions.
 -- Each begins with its tag. Numbers are little-endian; a byte string is its length (4) and its bytes.
 --     0 add        start 8, end 8, first ordinal 8, key
 --     1 shorten    next key
@@ -83,12 +83,15 @@ settings_len s = number_at s 0 4
 abbrev pub counts_at : List ℕ → ℕ
 counts_at s = 4 + settings_len s
 
--- the settings of every list: the number of terms
+-- the settings of every list: the number of terms, then the version
 abbrev pub known_len : ℕ
-known_len = 8
+known_len = 16
 
 abbrev pub list_terms : List ℕ → ℕ
 list_terms s = number_at s 4 8
+
+abbrev pub list_version : List ℕ → ℕ
+list_version s = number_at s 12 8
 
 -- how many calls and questions, and where each begin
 abbrev pub call_count : List ℕ → ℕ

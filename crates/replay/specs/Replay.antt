@@ -23,6 +23,7 @@ use Rattle.replay.specs.Format.{
   call_count,
   question_count,
   list_terms,
+  list_version,
   list_bad,
 }
 use Rattle.replay.specs.Made.{cells, call_cells, finish_cells, opening_cells, finish_settings, fresh_of, entries_of}
@@ -102,9 +103,10 @@ pub record Replayed (s B K out answers B' K' out' answers' : List ℕ) : Type 0 
   pub keys : K' ≡ (run_end (calls s) (fresh_of B K)).keys
   pub output : out' ≡ (finish_of_list s B K out).out
   pub asked : List ℕ
-  pub answered : Answered (open_number (list_terms s) (entries_of s B K) (finish_of_list s B K out)) (finish_settings s) (list_terms s)
-      (entries_of s B K) (questions s) asked
+  pub answered : Answered (open_number (list_version s) (list_terms s) (entries_of s B K) (finish_of_list s B K out)) (finish_settings s)
+      (list_terms s) (entries_of s B K) (questions s) asked
   pub written : answers'
       ≡ sets answers 0
       (call_cells (plain_numbers (rooms_of (fresh_of B K)) (calls s) [])
-      ++ (finish_cells (finish_of_list s B K out) ++ (opening_cells (list_terms s) (entries_of s B K) (finish_of_list s B K out) ++ asked)))
+      ++ (finish_cells (finish_of_list s B K out)
+      ++ (opening_cells (list_version s) (list_terms s) (entries_of s B K) (finish_of_list s B K out) ++ asked)))

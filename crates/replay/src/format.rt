@@ -3,7 +3,8 @@
 ghost use Rattle.std.specs.Prelude.{Option, ◌≡◌, true, false, ℕ, ◌||◌, ◌+◌, ◌^◌, ◌≤◌, ◌<◌, eqb, length};
 ghost use Rattle.std.specs.Prelude.{MatchOption};
 ghost use Rattle.replay.specs.Format.{string_len, string_at, within, call_len, question_len, behind};
-ghost use Rattle.replay.specs.Format.{counts_at, list_terms, calls_from, questions_from, call_count, question_count, head_bad, list_bad};
+ghost use Rattle.replay.specs.Format.{counts_at, list_terms, list_version, calls_from, questions_from};
+ghost use Rattle.replay.specs.Format.{call_count, question_count, head_bad, list_bad};
 ghost use Rattle.replay.specs.Format.{added_block, call_at, question_at};
 ghost use Rattle.replay.specs.Read.{call_of, question_of};
 ghost use Rattle.replay.specs.Tags.{Decodes, TagAt, IsLen, IsItem};
@@ -77,7 +78,7 @@ pub enum Question<'a> {
 // How many bytes the settings' length takes, the settings themselves, and both counts.
 const SETTINGS_LEN_LEN: usize = 4;
 
-const SETTINGS_LEN: usize = 8;
+const SETTINGS_LEN: usize = 16;
 
 const COUNTS_LEN: usize = 8;
 
@@ -226,6 +227,14 @@ impl<'a> Head<'a> {
         ensures { result ≡ list_terms self.now.list.now }
     {
         serialize::deserialize_u64(self.list, SETTINGS_LEN_LEN)
+    }
+
+    // The version that the list's index is finished and opened with.
+    #[tactic(auto, unfolding(crate::specs::Format::head_bad))]
+    pub fn version(&self) -> u64
+        ensures { result ≡ list_version self.now.list.now }
+    {
+        serialize::deserialize_u64(self.list, SETTINGS_LEN_LEN + 8)
     }
 
     // Where the counts stand: after the settings.

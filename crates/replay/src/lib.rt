@@ -59,7 +59,15 @@ fn replay_list(
 {
     let builder = calls::make_calls(list, blocks, keys, answers);
     let count = list.head.call_count();
-    let total = finish::finish_list(builder, blocks, keys, out, answers, WIDTH * count);
+    let total = finish::finish_list(
+        list.head.version(),
+        builder,
+        blocks,
+        keys,
+        out,
+        answers,
+        WIDTH * count,
+    );
     questions::open_list(
         &list.head,
         list.questions_at,

@@ -4,7 +4,7 @@ ghost use Rattle.layout.specs.declared.refusals.Refusal.{Refusal};
 ghost use Rattle.builder.specs.Index.{Settings};
 ghost use Rattle.machine.specs.Plain.{Entry};
 ghost use Rattle.index.specs.declared.SSTableIndexV3.{SSTableIndexV3};
-ghost use Rattle.replay.specs.Format.{question_len, question_at, items, behind, question_count, list_terms};
+ghost use Rattle.replay.specs.Format.{question_len, question_at, items, behind, question_count, list_terms, list_version};
 ghost use Rattle.replay.specs.Read.{question_of};
 ghost use Rattle.replay.specs.Steps.{cells_of};
 ghost use Rattle.replay.specs.Replay.{MarkAnswer, AnswerTo, AnswerIn};
@@ -105,19 +105,20 @@ fn ask_questions(
     }
 }
 
-// Opens the bytes with the list's number of terms and asks its questions of them. The opening, with the number of the check beside its
-// own, is answer `first`.
+// Opens the bytes with the list's version and number of terms and asks its questions of them. The opening, with the number of the check
+// beside its own, is answer `first`.
 pub fn open_list(head: &Head, from: usize, data: &[u8], answers: &mut [u64], first: usize)
     requires there { behind (question_len head.now.list.now) from (question_count head.now.list.now) ≡ 0 → ⊥ }
     requires room { 5 * (first + 1 + question_count head.now.list.now) ≤ length answers.old }
-    ensures { (k c : ℕ) (S : Settings) (es : List Entry) → CheckedAs k c S (list_terms head.now.list.now) es «data».now
+    ensures { (k c : ℕ) (S : Settings) (es : List Entry)
+        → CheckedAs k c S (list_version head.now.list.now) (list_terms head.now.list.now) es «data».now
         → OpeningAnswered k c S (list_terms head.now.list.now) es
         (items (question_len head.now.list.now) (question_at head.now.list.now) from (question_count head.now.list.now))
         first answers.old answers.new }
 {
-    let loaded = index_load::load(head.terms(), data);
+    let loaded = index_load::load(head.version(), head.terms(), data);
     let opening = u64::from(refusals::number(loaded));
-    let check = u64::from(refusals::number(canonical::check_canonical(data)));
+    let check = u64::from(refusals::number(canonical::check_canonical(head.version(), data)));
     Cells([opening, check, 0, 0, 0]).write(answers, WIDTH * first);
     ask_questions(head, from, loaded, data, answers, first + 1);
 }

@@ -2,10 +2,12 @@
 use Prim.Native.Nat.{ℕ, zero, suc}
 use mathlib.Core.Path.{◌≡◌, refl, sym, ap, ◌∙◌}
 use mathlib.Core.List.{List}
+use borrow.Table.Steps.{cases}
 use Rattle.builder.specs.declared.SSTableIndexBuilder.{SSTableIndexBuilder}
 use Rattle.builder.specs.Calls.{Called, builder_of, called_with, step_of_shorten, shorten_def}
-use Rattle.builder.specs.Index.{Settings}
-use Rattle.builder.specs.Finish.{Finish, step_of_finish, finish_def}
+use Rattle.layout.specs.Versions.{version_bad}
+use Rattle.builder.specs.Index.{Settings, settings}
+use Rattle.builder.specs.Finish.{Finish, step_of_finish, finish_def, finish_in}
 use Rattle.rosmarel.specs.Answers.{finish_by}
 
 step_kept : (k : ℕ) (b : SSTableIndexBuilder) (B K next : List ℕ) → (step_of_shorten k b B K next).state.builder ≡ b
@@ -35,9 +37,14 @@ finish-kept : (S : Settings) (b : SSTableIndexBuilder) (B K out : List ℕ) → 
 unfolding finish_def
 finish-kept S b B K out = finish-step-kept S _ b B K out
 
-pub finish_with : (S : Settings) (k n total directory : ℕ) (b : SSTableIndexBuilder) (B K out out' : List ℕ)
-    → record { no = k; builder = b; out = out'; total = total; directory = directory } ≡ finish_def S (builder_of n) B K out
-    → finish_by k n out' total directory ≡ finish_def S (builder_of n) B K out
-finish_with S k n total directory b B K out out' e =
-    let same : b ≡ builder_of n = ap (λ (f : Finish). f.builder) e ∙ finish-kept S (builder_of n) B K out in
+finish-in-kept : (version : ℕ) (b : SSTableIndexBuilder) (B K out : List ℕ) → (finish_in version b B K out).builder ≡ b
+unfolding finish_in
+finish-in-kept version b B K out =
+    cases (version_bad version) (λ t. rw t) (λ t. rw t (finish-kept (settings version) b B K out))
+
+pub finish_with : (version k n total directory : ℕ) (b : SSTableIndexBuilder) (B K out out' : List ℕ)
+    → record { no = k; builder = b; out = out'; total = total; directory = directory } ≡ finish_in version (builder_of n) B K out
+    → finish_by k n out' total directory ≡ finish_in version (builder_of n) B K out
+finish_with version k n total directory b B K out out' e =
+    let same : b ≡ builder_of n = ap (λ (f : Finish). f.builder) e ∙ finish-in-kept version (builder_of n) B K out in
     ap (λ (x : SSTableIndexBuilder). record { no = k; builder = x; out = out'; total = total; directory = directory }) (sym same) ∙ e

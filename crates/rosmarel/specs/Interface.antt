@@ -2,4 +2,4 @@
 use Rattle.std.specs.Prelude.{ℕ}
 
 abbrev pub interface : ℕ
-interface = 4
+interface = 5

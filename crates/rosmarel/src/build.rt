@@ -2,8 +2,7 @@
 ghost use Rattle.std.specs.Prelude.{◌≡◌};
 ghost use Rattle.keys.specs.Order.{common_prefix_len};
 ghost use Rattle.builder.specs.Calls.{builder_of, called_with, add_def, shorten_def};
-ghost use Rattle.builder.specs.Index.{standard};
-ghost use Rattle.builder.specs.Finish.{finish_def, finish_len_def};
+ghost use Rattle.builder.specs.Finish.{finish_in, finish_len_in};
 ghost use Rattle.rosmarel.specs.Answers.{block_with, finish_by, len_no, len_total};
 
 use crate::answers::put_count;
@@ -56,9 +55,10 @@ pub extern "C" fn rosmarel_shorten(
     builder::number_and_builder(shortened).0
 }
 
-// Writes the index from the front of `out` on.
+// Writes the index, of this version, from the front of `out` on.
 #[unsafe(no_mangle)]
 pub extern "C" fn rosmarel_finish(
+    version: u64,
     n: u64,
     blocks: &[u64],
     keys: &[u8],
@@ -67,10 +67,10 @@ pub extern "C" fn rosmarel_finish(
     directory_len: &mut u64,
 ) -> u32
     ensures { finish_by result n out.new total.new directory_len.new
-        ≡ finish_def standard (builder_of n) blocks.now keys.now out.old }
+        ≡ finish_in version (builder_of n) blocks.now keys.now out.old }
 {
     let builder = SSTableIndexBuilder::new(n as usize);
-    let written = builder_finish::finish(builder, blocks, keys, out).map_err(
+    let written = builder_finish::finish(version, builder, blocks, keys, out).map_err(
         |refused| refused.refusal,
     );
     let (len, directory) = written.map_or((0, 0), |written| (written.total, written.directory_len));
@@ -81,12 +81,21 @@ pub extern "C" fn rosmarel_finish(
 
 // The total that a finish would need.
 #[unsafe(no_mangle)]
-pub extern "C" fn rosmarel_finish_len(n: u64, blocks: &[u64], keys: &[u8], total: &mut u64) -> u32
-    ensures value { result ≡ len_no (finish_len_def standard (builder_of n) blocks.now keys.now) }
-    ensures total_after { total.new ≡ len_total (finish_len_def standard (builder_of n) blocks.now keys.now) }
+pub extern "C" fn rosmarel_finish_len(
+    version: u64,
+    n: u64,
+    blocks: &[u64],
+    keys: &[u8],
+    total: &mut u64,
+) -> u32
+    ensures value { result ≡ len_no (finish_len_in version (builder_of n) blocks.now keys.now) }
+    ensures total_after { total.new ≡ len_total (finish_len_in version (builder_of n) blocks.now keys.now) }
 {
     let builder = SSTableIndexBuilder::new(n as usize);
-    put_count(builder_finish::finish_len(builder, blocks, keys), total)
+    put_count(
+        builder_finish::finish_len(version, builder, blocks, keys),
+        total,
+    )
 }
 
 // How many bytes two keys share at their front.

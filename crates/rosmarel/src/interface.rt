@@ -2,7 +2,7 @@
 ghost use Rattle.std.specs.Prelude.{◌≡◌};
 ghost use Rattle.rosmarel.specs.Interface.{interface};
 
-const INTERFACE: u64 = 4;
+const INTERFACE: u64 = 5;
 
 // The interface that this archive has.
 #[unsafe(no_mangle)]

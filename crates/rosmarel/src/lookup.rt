@@ -1,10 +1,9 @@
 // Opening an index, and its lookups.
 ghost use Rattle.std.specs.Prelude.{◌≡◌};
-ghost use Rattle.builder.specs.Index.{standard};
 ghost use Rattle.index.specs.Opening.{load_def};
 ghost use Rattle.index.specs.Answers.{load_no, load_opened, place_offset, place_len};
 ghost use Rattle.index.specs.Lookups.{GetBlock, LocateWithOrd, LocateWithKey, GetBlockWithKey, place_def};
-ghost use Rattle.canonical.specs.Canonical.{canonical_no};
+ghost use Rattle.canonical.specs.Canonical.{check_no};
 ghost use Rattle.batch.specs.Batch.{LocateWithKeys};
 ghost use Rattle.index.specs.Words.{opened_words, opened_at};
 ghost use Rattle.rosmarel.specs.Answers.{block_with};
@@ -13,31 +12,36 @@ use crate::answers::{put_address, put_count, put_located};
 use index::SSTableIndexV3;
 use layout::refusals;
 
-// Opens the bytes of an index that anyone may have written, and that has so many terms.
+// Opens the bytes of an index of this version that anyone may have written, and that has so many terms.
 #[unsafe(no_mangle)]
-pub extern "C" fn rosmarel_open(terms: u64, index: &[u8], opened: &mut [u64; 8]) -> u32
-    ensures value { result ≡ load_no (load_def terms index.now) }
-    ensures opened_after { opened.new ≡ opened_words (load_opened (load_def terms index.now)) }
+pub extern "C" fn rosmarel_open(
+    version: u64,
+    terms: u64,
+    index: &[u8],
+    opened: &mut [u64; 9],
+) -> u32
+    ensures value { result ≡ load_no (load_def version terms index.now) }
+    ensures opened_after { opened.new ≡ opened_words (load_opened (load_def version terms index.now)) }
 {
-    let loaded = index_load::load(terms, index);
-    *opened = <[u64; 8]>::from(loaded.unwrap_or_default());
+    let loaded = index_load::load(version, terms, index);
+    *opened = <[u64; 9]>::from(loaded.unwrap_or_default());
     refusals::number(loaded)
 }
 
-// Whether the bytes are the index that finish makes from the blocks and separators read in them: 0, or 27; for bytes that hit one of
-// rows 10 to 16 the first of these.
+// Whether the bytes are the index of this version that finish makes from the blocks and separators read in them: 0, or 27; for bytes that
+// hit one of rows 10 to 16 the first of these.
 #[unsafe(no_mangle)]
-pub extern "C" fn rosmarel_check_canonical(index: &[u8]) -> u32
-    ensures { result ≡ canonical_no standard index.now }
+pub extern "C" fn rosmarel_check_canonical(version: u64, index: &[u8]) -> u32
+    ensures { result ≡ check_no version index.now }
 {
-    refusals::number(canonical::check_canonical(index))
+    refusals::number(canonical::check_canonical(version, index))
 }
 
 // The address of block `id`.
 #[unsafe(no_mangle)]
 pub extern "C" fn rosmarel_get_block(
     index: &[u8],
-    opened: &[u64; 8],
+    opened: &[u64; 9],
     id: u64,
     start: &mut u64,
     end: &mut u64,
@@ -55,7 +59,7 @@ pub extern "C" fn rosmarel_get_block(
 #[unsafe(no_mangle)]
 pub extern "C" fn rosmarel_locate_with_ord(
     index: &[u8],
-    opened: &[u64; 8],
+    opened: &[u64; 9],
     ord: u64,
     id: &mut u64,
     start: &mut u64,
@@ -73,7 +77,7 @@ pub extern "C" fn rosmarel_locate_with_ord(
 #[unsafe(no_mangle)]
 pub extern "C" fn rosmarel_locate_with_key(
     index: &[u8],
-    opened: &[u64; 8],
+    opened: &[u64; 9],
     key: &[u8],
     id: &mut u64,
 ) -> u32
@@ -88,7 +92,7 @@ pub extern "C" fn rosmarel_locate_with_key(
 #[unsafe(no_mangle)]
 pub extern "C" fn rosmarel_locate_with_keys(
     index: &[u8],
-    opened: &[u64; 8],
+    opened: &[u64; 9],
     pairs: &[u64],
     keys: &[u8],
     ids: &mut [u64],
@@ -104,7 +108,7 @@ pub extern "C" fn rosmarel_locate_with_keys(
 #[unsafe(no_mangle)]
 pub extern "C" fn rosmarel_get_block_with_key(
     index: &[u8],
-    opened: &[u64; 8],
+    opened: &[u64; 9],
     key: &[u8],
     id: &mut u64,
     start: &mut u64,
@@ -122,7 +126,7 @@ pub extern "C" fn rosmarel_get_block_with_key(
 #[unsafe(no_mangle)]
 pub extern "C" fn rosmarel_separator(
     index: &[u8],
-    opened: &[u64; 8],
+    opened: &[u64; 9],
     id: u64,
     offset: &mut u64,
     len: &mut u64,

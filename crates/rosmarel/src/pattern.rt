@@ -15,7 +15,7 @@ use layout::refusals;
 #[unsafe(no_mangle)]
 pub extern "C" fn rosmarel_list(
     index: &[u8],
-    opened: &[u64; 8],
+    opened: &[u64; 9],
     automaton: &[u8],
     marks: &mut [u8],
     count: &mut u64,

@@ -4,17 +4,19 @@ ghost use Rattle.store_slice.specs.Slice.{slice_stored, slice_out};
 ghost use Rattle.store_slice.specs.Numbers.{blocks_of_numbers};
 
 use crate::answers::put_count;
-use layout::STORE_BLOCK_LEN;
 
-// Writes the store of the blocks from the front of `out` on. A block is three numbers: start, end, first ordinal.
+// Writes the store of the blocks, in groups as an index of this version has them, from the front of `out` on. A block is three numbers:
+// start, end, first ordinal.
 #[unsafe(no_mangle)]
-pub extern "C" fn rosmarel_store(blocks: &[[u64; 3]], out: &mut [u8], len: &mut u64) -> u32
-    ensures { (result ≡ (slice_stored (blocks_of_numbers blocks.now) out.old).no)
-        × (out.new ≡ slice_out (blocks_of_numbers blocks.now) out.old)
-        × (len.new ≡ (slice_stored (blocks_of_numbers blocks.now) out.old).len) }
+pub extern "C" fn rosmarel_store(
+    version: u64,
+    blocks: &[[u64; 3]],
+    out: &mut [u8],
+    len: &mut u64,
+) -> u32
+    ensures { (result ≡ (slice_stored version (blocks_of_numbers blocks.now) out.old).no)
+        × (out.new ≡ slice_out version (blocks_of_numbers blocks.now) out.old)
+        × (len.new ≡ (slice_stored version (blocks_of_numbers blocks.now) out.old).len) }
 {
-    put_count(
-        store_slice_numbers::serialize(blocks, STORE_BLOCK_LEN, out),
-        len,
-    )
+    put_count(store_slice_numbers::serialize(version, blocks, out), len)
 }

@@ -5,6 +5,8 @@ ghost use Rattle.store.specs.Store.{group_count};
 ghost use Rattle.store.specs.Read.{len_of_group};
 ghost use Rattle.store.specs.Facts.{GroupLenOk};
 
+use layout::{STORE_BLOCK_LEN, STORE_BLOCK_LEN_V4};
+
 // n blocks in groups of `group_len`; the last may have fewer. No ghost field bounds the two numbers, since blocks_from and
 // blocks_in ask nothing of them. Readers and writers hold the two numbers themselves, since clauses and theorems name them there;
 // each store makes one in a function of its own, others where they need it. `GroupLenOk` of a bare length stays a clause, since public
@@ -17,12 +19,16 @@ pub struct Grouping {
 }
 
 impl Grouping {
-    // How many groups the blocks make.
+    // How many groups the blocks make. The two lengths that a version has are divided by as constants.
     pub fn group_count(self) -> usize
         requires { (self.n ≤ max_blocks) × GroupLenOk self.group_len }
         ensures { result ≡ group_count self.group_len self.n }
     {
-        self.n.div_ceil(self.group_len)
+        match self.group_len {
+            STORE_BLOCK_LEN => self.n.div_ceil(STORE_BLOCK_LEN),
+            STORE_BLOCK_LEN_V4 => self.n.div_ceil(STORE_BLOCK_LEN_V4),
+            len => self.n.div_ceil(len),
+        }
     }
 
     // How many blocks the group from block `first` on has.

@@ -110,7 +110,7 @@ impl<'a> BlockAddrStore<'a> {
         ensures { result ≡ block_or self.now.group_len self.now.metas.now self.now.addrs.now self.now.n block_id }
     {
         match self.group(block_id / self.group_len) {
-            Some(group) => group.deserialize_block_addr(block_id % self.group_len),
+            Some(group) => group.block(block_id % self.group_len),
             None => BlockAddr {
                 start: 1,
                 end: 0,
@@ -132,6 +132,7 @@ impl<'a> BlockAddrStore<'a> {
 
     // The last group whose first ordinal is at or below `ord`, if ordinals rise and the first group's is.
     #[tactic(auto, unfolding(group::specs::Meta::metadata_at))]
+    #[inline(always)]
     fn bisect_groups(&self, ord: u64) -> usize
         ensures there { result < group_count self.now.group_len self.now.n }
         ensures low { 0 < result → (group_meta self.now.metas.now result).first_ordinal ≤ ord }
@@ -154,12 +155,15 @@ impl<'a> BlockAddrStore<'a> {
 
     // The last block whose first ordinal is at or below `ord`.
     #[tactic(auto, unfolding(store::specs::Read::OrdFoundIn, store::specs::Read::OrdFoundAs))]
+    #[inline(always)]
     pub fn binary_search_ord(&self, ord: u64) -> Result<Located, Refusal>
         ensures ord_found_in { OrdFoundIn self.now.n (group_meta self.now.metas.now 0).first_ordinal ord result }
         ensures ord_found_as { StoreOk self.now.group_len self.now.metas.now self.now.addrs.now self.now.n
             → OrdFoundAs (store_block self.now.group_len self.now.metas.now self.now.addrs.now) self.now.n ord result }
     {
         let g = self.bisect_groups(ord);
+        // One number of both, since the search below has few registers to spare.
+        let first = self.group_len * g;
         let group = self.group(g).ok_or(Refusal::Unfit)?;
         if group.meta.first_ordinal > ord {
             return Err(Refusal::OrdinalBelow);
@@ -170,7 +174,7 @@ impl<'a> BlockAddrStore<'a> {
             return Err(Refusal::Unfit);
         }
         Ok(Located {
-            block_id: self.group_len * g + inner,
+            block_id: first + inner,
             addr,
         })
     }

@@ -1,5 +1,5 @@
--- What a list's store answers and leaves: for records that hit a row, and for others by the room (row 9).
-use mathlib.Core.Path.{◌≡◌, refl, ◌∙◌}
+-- What a list's store answers and leaves: for a version that no index has, for records that hit a row, and for others by the room (row 9).
+use mathlib.Core.Path.{◌≡◌, refl, sym, ◌∙◌}
 use mathlib.Core.Bool.{cond}
 use mathlib.Core.List.{List}
 use Prim.Native.Nat.{ℕ, zero, suc, ◌≤◌, ◌<◌}
@@ -8,10 +8,13 @@ use lib.Dec.{ltb}
 use lib.ListN.{length}
 use lib.Seq.{sets}
 use borrow.Author.Tests.{lt-ltb, le-ltb}
+use Rattle.layout.specs.Versions.{version_no, group_len_of}
+use Rattle.layout.proofs.GroupLengths.{version-hit, version-kept}
 use Rattle.slope.specs.Slope.{best_slope}
 use Rattle.group.specs.declared.BlockAddr.{BlockAddr}
 use Rattle.store.specs.Store.{store_bytes}
 use Rattle.store_slice.specs.Slice.{block_list_no, slice_no_by, stored_step, out_step, slice_stored_by, slice_out_by}
+use Rattle.store_slice.specs.Slice.{slice_stored, slice_out}
 
 module _ (L : ℕ) (bs : List BlockAddr) (out : List ℕ) where
   module _ (none : block_list_no bs ≡ 0) where
@@ -45,3 +48,15 @@ module _ (L : ℕ) (bs : List BlockAddr) (out : List ℕ) where
   unfolding stored_step out_step
   stored_refused zero e hit = absurd (let z : ⊥ = omega arith in z)
   stored_refused (suc k) e hit = (rw (hit-no (length out) k e) refl, rw (hit-no (length out) k e) refl)
+
+-- the test of the version comes first
+module _ (version : ℕ) (bs : List BlockAddr) (out : List ℕ) where
+  pub version_refused : (number : ℕ) → number ≡ version_no version → 0 < number
+      → (record { no = number; len = 0 } ≡ slice_stored version bs out) × (out ≡ slice_out version bs out)
+  unfolding slice_stored slice_out
+  version_refused number e hit = let bad = version-hit version number e hit in (rw (bad.0, bad.1) refl, rw bad.1 refl)
+
+  pub version_taken : 0 ≡ version_no version → (slice_stored_by (group_len_of version) bs out ≡ slice_stored version bs out)
+      × (slice_out_by (group_len_of version) bs out ≡ slice_out version bs out)
+  unfolding slice_stored slice_out
+  version_taken e = let good = version-kept version (sym e) in (rw good refl, rw good refl)

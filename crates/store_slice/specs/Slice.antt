@@ -1,9 +1,10 @@
--- The store from a slice of block records (SPECIFICATION 7; rows 3, 4, 5, 7 and 9).
+-- The store from a slice of block records (SPECIFICATION 7; rows 30, 3, 4, 5, 7 and 9).
 use Rattle.std.specs.Prelude.{ℕ, zero, suc, List, [], ◌∷◌, Bool, false, ◌||◌, cond, ltb, length, Result, Ok, Err}
 use Rattle.std.proofs.lemmas.List.Edits.{sets}
-use Rattle.layout.specs.Layout.{max_blocks, store_block_len}
+use Rattle.layout.specs.Layout.{max_blocks}
 use Rattle.layout.specs.declared.refusals.Refusal.{Refusal}
 use Rattle.layout.specs.Refusals.{number_of}
+use Rattle.layout.specs.Versions.{version_bad, group_len_of}
 use Rattle.slope.specs.Slope.{best_slope}
 use Rattle.group.specs.declared.BlockAddr.{BlockAddr}
 use Rattle.group.specs.Rows.{are_numbers_bad, is_join_bad, is_ordinal_bad, or_row}
@@ -54,9 +55,9 @@ slice_stored_by L bs out = stored_step L (slice_no_by L bs (length out)) bs
 abbrev pub slice_out_by : ℕ → List BlockAddr → List ℕ → List ℕ
 slice_out_by L bs out = out_step L (slice_no_by L bs (length out)) bs out
 
--- what the public calls use
-abbrev pub slice_stored : List BlockAddr → List ℕ → Stored
-slice_stored bs out = slice_stored_by store_block_len bs out
+-- what the public calls answer and leave: 30 before all others for a version that no index has
+unfoldable pub slice_stored : ℕ → List BlockAddr → List ℕ → Stored
+slice_stored version bs out = cond (version_bad version) (record { no = 30; len = 0 }) (slice_stored_by (group_len_of version) bs out)
 
-abbrev pub slice_out : List BlockAddr → List ℕ → List ℕ
-slice_out bs out = slice_out_by store_block_len bs out
+unfoldable pub slice_out : ℕ → List BlockAddr → List ℕ → List ℕ
+slice_out version bs out = cond (version_bad version) out (slice_out_by (group_len_of version) bs out)

@@ -9,19 +9,21 @@ pub mod rows;
 pub mod writer;
 
 use group::BlockAddr;
-use layout::STORE_BLOCK_LEN;
 use layout::refusals::Refusal;
+use layout::versions;
 use records::Structs;
 use writer::BlockAddrStoreWriter;
 
-// Writes the store of the blocks from the front of `out` on. Returns its length.
-pub fn serialize(blocks: &[BlockAddr], out: &mut [u8]) -> Result<usize, Refusal>
-    ensures { (stored_answer result ≡ slice_stored blocks.now out.old)
-        × (out.new ≡ slice_out blocks.now out.old) }
+// Writes the store of the blocks, in groups as an index of this version has them, from the front of `out` on. Returns its length.
+#[tactic(auto, using(crate::proofs::Answer::version_taken))]
+pub fn serialize(version: u64, blocks: &[BlockAddr], out: &mut [u8]) -> Result<usize, Refusal>
+    ensures { (stored_answer result ≡ slice_stored version blocks.now out.old)
+        × (out.new ≡ slice_out version blocks.now out.old) }
 {
+    versions::check_version(version)?;
     let writer = BlockAddrStoreWriter {
         records: &Structs { blocks },
-        group_len: STORE_BLOCK_LEN,
+        group_len: versions::group_len(version),
     };
     writer.serialize_in::<768, 1_024>(out)
 }

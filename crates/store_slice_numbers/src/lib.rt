@@ -5,11 +5,12 @@ ghost use Rattle.std.specs.Prelude.{◌≡◌, ◌*◌, ◌≤◌, min, length};
 ghost use Rattle.layout.specs.Layout.{max_blocks};
 ghost use Rattle.store.specs.Facts.{GroupLenOk};
 ghost use Rattle.store.specs.Store.{group_count};
-ghost use Rattle.store_slice.specs.Slice.{stored_answer, slice_stored_by, slice_out_by};
+ghost use Rattle.store_slice.specs.Slice.{stored_answer, slice_stored_by, slice_out_by, slice_stored, slice_out};
 ghost use Rattle.store_slice.specs.Numbers.{blocks_of_numbers};
 
 use group::BlockAddr;
 use layout::refusals::Refusal;
+use layout::versions;
 use store_slice::records::Records;
 use store_slice::writer::BlockAddrStoreWriter;
 
@@ -39,7 +40,11 @@ impl<'a> Records for Numbers<'a> {
 }
 
 // Writes the store of the records from the front of `out` on, in groups of 128 to 256 blocks. Returns its length.
-pub fn serialize(blocks: &[[u64; 3]], group_len: usize, out: &mut [u8]) -> Result<usize, Refusal>
+fn serialize_grouped(
+    blocks: &[[u64; 3]],
+    group_len: usize,
+    out: &mut [u8],
+) -> Result<usize, Refusal>
     requires { (128 ≤ group_len) × (group_len ≤ 256) }
     ensures { (stored_answer result ≡ slice_stored_by group_len (blocks_of_numbers blocks.now) out.old)
         × (out.new ≡ slice_out_by group_len (blocks_of_numbers blocks.now) out.old) }
@@ -53,4 +58,14 @@ pub fn serialize(blocks: &[[u64; 3]], group_len: usize, out: &mut [u8]) -> Resul
         0..=SOME => writer.serialize_in::<768, 16>(out),
         _ => writer.serialize_in::<768, 1_024>(out),
     }
+}
+
+// Writes the store of the records, in groups as an index of this version has them, from the front of `out` on. Returns its length.
+#[tactic(auto, using(store_slice::proofs::Answer::version_taken))]
+pub fn serialize(version: u64, blocks: &[[u64; 3]], out: &mut [u8]) -> Result<usize, Refusal>
+    ensures { (stored_answer result ≡ slice_stored version (blocks_of_numbers blocks.now) out.old)
+        × (out.new ≡ slice_out version (blocks_of_numbers blocks.now) out.old) }
+{
+    versions::check_version(version)?;
+    serialize_grouped(blocks, versions::group_len(version), out)
 }

@@ -4,7 +4,7 @@ ghost use Rattle.group.specs.Blocks.{block_at};
 ghost use Rattle.group.specs.Legal.{NumbersOk, Follows};
 
 use group::area::block_at;
-use layout::{MAX_BLOCKS, STORE_BLOCK_LEN};
+use layout::{MAX_BLOCKS, versions};
 use std::alloc::{AllocError, Global};
 use store_write::AreaStore;
 use vectors::draws::Draws;
@@ -46,8 +46,8 @@ fn follow(area: &[u64], n: usize) -> bool
     (0..n.saturating_sub(1)).all(|i| is_followed(area, i))
 }
 
-// The blocks in an area of just their numbers, if they are legal.
-pub fn legal(area: &[u64]) -> Option<AreaStore<'_>> {
+// The blocks in an area of just their numbers, in groups as an index of this version has them, if they are legal.
+pub fn legal(version: u64, area: &[u64]) -> Option<AreaStore<'_>> {
     let n = area.len() / STRIDE;
     if n > MAX_BLOCKS || area.len() % STRIDE != 0 {
         return None;
@@ -59,7 +59,7 @@ pub fn legal(area: &[u64]) -> Option<AreaStore<'_>> {
         area,
         stride: STRIDE,
         n,
-        group_len: STORE_BLOCK_LEN,
+        group_len: versions::group_len(version),
     })
 }
 

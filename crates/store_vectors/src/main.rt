@@ -16,13 +16,14 @@ use vectors::{Case, driver};
 enum Kind {
     Store,
     Large,
+    Refused,
     Block,
     Unknown,
     Located,
 }
 
 // The letter of each kind, with the row of its tally and how many byte strings its lines have.
-const LETTERS: [Letter<Kind>; 5] = [
+const LETTERS: [Letter<Kind>; 6] = [
     Letter {
         letter: b's',
         kind: Kind::Store,
@@ -33,6 +34,12 @@ const LETTERS: [Letter<Kind>; 5] = [
         letter: b'h',
         kind: Kind::Large,
         row: Some(1),
+        strings: 0,
+    },
+    Letter {
+        letter: b'r',
+        kind: Kind::Refused,
+        row: Some(5),
         strings: 0,
     },
     Letter {
@@ -55,7 +62,14 @@ const LETTERS: [Letter<Kind>; 5] = [
     },
 ];
 
-const ROWS: [&str; 5] = ["stores", "large stores", "ids", "unknown ids", "ordinals"];
+const ROWS: [&str; 6] = [
+    "stores",
+    "large stores",
+    "ids",
+    "unknown ids",
+    "ordinals",
+    "refused stores",
+];
 
 // Whether a case's answers are those of the proved functions. `alloc` goes along to where a Vec is made, which asks for it.
 fn is_same(alloc: Global, kind: Kind, case: Case<'_>) -> Result<bool, AllocError> {
@@ -64,6 +78,7 @@ fn is_same(alloc: Global, kind: Kind, case: Case<'_>) -> Result<bool, AllocError
     match kind {
         Kind::Store => cases::is_store(alloc, given, store),
         Kind::Large => cases::is_large(alloc, given),
+        Kind::Refused => cases::is_refused(alloc, given),
         Kind::Block => Ok(cases::is_block(given, store)),
         Kind::Unknown => Ok(cases::is_unknown(given)),
         Kind::Located => Ok(cases::is_located(given, store)),

@@ -5,13 +5,14 @@ ghost use Rattle.store.specs.Store.{group_count};
 use crate::blocks::STRIDE;
 use group::BlockAddr;
 use group::area::block_at;
-use layout::{MAX_BLOCKS, META_LEN, STORE_BLOCK_LEN};
+use layout::{MAX_BLOCKS, META_LEN, versions};
 use std::alloc::{AllocError, Global};
 use store::Located;
 use store::grouping::Grouping;
 use store_read::BlockAddrStore;
 use store_write::AreaStore;
-use vectors::area::framed;
+use vectors::area::{framed, front};
+use vectors::told::is_told;
 
 // What fills an area before a store is written into it.
 const MARK: u8 = 0xa5;
@@ -54,9 +55,10 @@ pub fn written(alloc: Global, blocks: &AreaStore) -> Result<Option<Vec<u8>>, All
     Ok(Some(store.to_vec(alloc)?))
 }
 
-// Whether the blocks' store, written from a slice of structs, is this one.
+// Whether the blocks' store of this version, written from a slice of structs, is this one.
 pub fn is_written_from_slice(
     alloc: Global,
+    version: u64,
     blocks: &AreaStore,
     store: &[u8],
 ) -> Result<bool, AllocError> {
@@ -64,25 +66,45 @@ pub fn is_written_from_slice(
         .map(|id| block_at(blocks.area, STRIDE * id))
         .collect(alloc)?;
     let mut out = vec![in alloc; MARK; AREA_LEN]?;
-    let written = store_slice::serialize(&records, &mut out[PLACE..]);
+    let written = store_slice::serialize(version, &records, &mut out[PLACE..]);
     Ok(written.is_ok_and(|len| framed(&out, PLACE, len, MARK) == Some(store)))
 }
 
-// Whether each block is found in the store.
-pub fn are_found(blocks: &AreaStore, store: &[u8]) -> bool {
-    (0..blocks.n).all(|id| get(store, blocks.n, id) == Some(block_at(blocks.area, STRIDE * id)))
+// Whether a store of these blocks, three numbers each, written from a slice of structs into so many bytes, is refused with this
+// number, and no byte is written.
+pub fn is_refused(
+    alloc: Global,
+    version: u64,
+    room: usize,
+    no: u64,
+    blocks: &[[u64; 3]],
+) -> Result<bool, AllocError> {
+    let records: Vec<BlockAddr> = blocks
+        .iter()
+        .map(|block| BlockAddr::from(*block))
+        .collect(alloc)?;
+    let mut out = vec![in alloc; MARK; room]?;
+    let written = store_slice::serialize(version, &records, &mut out);
+    Ok(written.is_err() && is_told(&[no], written.map(|_| [])) && front(&out, 0, MARK).is_some())
 }
 
-// The store in these bytes, if it has records for n blocks. Bytes and count stay two, here and below, as a line gives them: each
-// question opens them anew.
-fn open(store: &[u8], n: usize) -> Option<BlockAddrStore<'_>> {
+// Whether each block is found in the store.
+pub fn are_found(version: u64, blocks: &AreaStore, store: &[u8]) -> bool {
+    (0..blocks.n).all(|id| {
+        get(version, store, blocks.n, id) == Some(block_at(blocks.area, STRIDE * id))
+    })
+}
+
+// The store of this version in these bytes, if it has records for n blocks. Version, bytes and count stay three, here and below, as a
+// line gives them: each question opens them anew.
+fn open(version: u64, store: &[u8], n: usize) -> Option<BlockAddrStore<'_>> {
     if !(1..=MAX_BLOCKS).contains(&n) {
         return None;
     }
     let (head, rest) = store.split_at_checked(LENGTH)?;
     let len = serialize::deserialize_u64(head, 0) as usize;
     let (metas, addrs) = rest.split_at_checked(len)?;
-    let group_len = STORE_BLOCK_LEN;
+    let group_len = versions::group_len(version);
     let grouping = Grouping { n, group_len };
     if metas.len() < META_LEN * grouping.group_count() {
         return None;
@@ -96,12 +118,12 @@ fn open(store: &[u8], n: usize) -> Option<BlockAddrStore<'_>> {
 }
 
 // The block of this id.
-pub fn get(store: &[u8], n: usize, id: usize) -> Option<BlockAddr> {
-    let store = open(store, n)?;
+pub fn get(version: u64, store: &[u8], n: usize, id: usize) -> Option<BlockAddr> {
+    let store = open(version, store, n)?;
     if id < store.n { store.get(id) } else { None }
 }
 
 // The block that holds the ordinal.
-pub fn locate(store: &[u8], n: usize, ord: u64) -> Option<Located> {
-    open(store, n)?.binary_search_ord(ord).ok()
+pub fn locate(version: u64, store: &[u8], n: usize, ord: u64) -> Option<Located> {
+    open(version, store, n)?.binary_search_ord(ord).ok()
 }

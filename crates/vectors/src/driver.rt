@@ -10,7 +10,7 @@ use std::io;
 use std::io::Read;
 
 // One byte more than the longest text.
-pub const TEXT_LEN: usize = 327680;
+pub const TEXT_LEN: usize = 655360;
 
 // A letter that lines begin with: the kind of these, the row of their tally, and how many byte strings they have. One without a
 // row only sets something, and is counted where it differs. A row is its place in the list of names: several letters share one.

@@ -1,5 +1,5 @@
--- A written index opens where the number of terms is above its last block's first ordinal, and all its parts are read back, for all
--- slopes.
+-- A written index opens with a version that there is where the number of terms is above its last block's first ordinal, and all its parts
+-- are read back, for all slopes.
 use Prim.Native.Nat.{ℕ, zero, suc, ◌+◌, ◌-◌, ◌*◌, ◌^◌, ◌≤◌, ◌<◌}
 use mathlib.Core.Path.{◌≡◌, refl, sym, ap, ◌∙◌}
 use mathlib.Core.List.{List, [], append_assoc}
@@ -8,6 +8,7 @@ use native.Mathlib.Omega.{arith}
 use lib.ListN.{length, get_or, take, length-append}
 use Rattle.serialize.specs.Digits.{le_bytes}
 use Rattle.serialize.proofs.Digits.{length-digits_of, of_digits-digits_of-lt}
+use Rattle.layout.specs.Versions.{version_no}
 use Rattle.layout.specs.declared.refusals.Refusal.TheVariants.{TermsBad}
 use Rattle.group.specs.declared.BlockAddr.{BlockAddr}
 use Rattle.group.specs.Blocks.{block_of}
@@ -115,20 +116,20 @@ module _ {choose : List ℕ → ℕ} {L : ℕ} {bs : List BlockAddr} {ks : List 
       ∙ ap (λ (b : BlockAddr). b.first_ordinal) (written-block (length bs - 1) (omega (arith, w.two)))
 
   -- a number of terms that isn't above the last first ordinal gets 28
-  pub written-refused : (terms : ℕ) → terms ≤ last_first bs → open_def L terms f ≡ Err TermsBad
-  written-refused terms h = refused-below L terms f written-file (omega (arith, last-first))
+  pub written-refused : (version terms : ℕ) → version_no version ≡ 0 → terms ≤ last_first bs → open_def L version terms f ≡ Err TermsBad
+  written-refused version terms good h = refused-below L version terms f good written-file (omega (arith, last-first))
 
   -- ---- what is read with any other number of terms
 
-  module _ (terms : ℕ) (above : last_first bs < terms) where
-    opens : open_def L terms f ≡ Ok (opened_of terms f)
-    opens = opens-above L terms f written-file (omega (arith, last-first))
+  module _ (version terms : ℕ) (good : version_no version ≡ 0) (above : last_first bs < terms) where
+    opens : open_def L version terms f ≡ Ok (opened_of version terms f)
+    opens = opens-above L version terms f good written-file (omega (arith, last-first))
 
-    pub written-facts : OpenFacts L f (opened_of terms f)
-    written-facts = opens-facts-by L f (opened_of terms f) w.group (opens-own L terms f (opened_of terms f) opens)
+    pub written-facts : OpenFacts L f (opened_of version terms f)
+    written-facts = opens-facts-by L f (opened_of version terms f) w.group (opens-own L version terms f (opened_of version terms f) opens)
 
-    -- the opened record: n, the places of the directory, the group records and the address bytes, and the number of terms
-    pub written-record : opened_of terms f ≡ record {
+    -- the opened record: n, the places of the directory, the group records and the address bytes, the number of terms and the version
+    pub written-record : opened_of version terms f ≡ record {
       n = length bs;
       directory = 0;
       directory_len = length (directory_bytes ks);
@@ -137,26 +138,27 @@ module _ {choose : List ℕ → ℕ} {L : ℕ} {bs : List BlockAddr} {ks : List 
       addrs = length (directory_bytes ks) + 8 + 36 * groups;
       addrs_len = length (addrs choose L groups bs);
       terms = terms;
+      version = version;
     }
     unfolding opened_of
     written-record =
         let left : length (store_bytes choose L bs) - (8 + 36 * groups) ≡ length (addrs choose L groups bs) = omega (arith, length-store) in
         rw (written-count, store-len, records-len, parts.directory-len, left)
 
-    count : (opened_of terms f).n ≡ length bs
+    count : (opened_of version terms f).n ≡ length bs
     count = written-facts.count ∙ written-count
 
     place : (i : ℕ) → i < length bs
-        → place_by L (opened_of terms f) f i ≡ Some (4 + 8 * length bs + lengths_before ks i, length (get_or ks i []))
+        → place_by L (opened_of version terms f) f i ≡ Some (4 + 8 * length bs + lengths_before ks i, length (get_or ks i []))
     place i h =
         let g : i < length ks = omega (arith, w.same) in
-        place-known L f (opened_of terms f) written-facts i (omega (arith, count))
+        place-known L f (opened_of version terms f) written-facts i (omega (arith, count))
         ∙ rw (written-count, parts.directory, offset-whole ks bounded i g, length_whole ks bounded i g, lengths-before ks i (omega arith))
 
-    no_place : (i : ℕ) → length bs ≤ i → place_by L (opened_of terms f) f i ≡ None
-    no_place i h = place-unknown L (opened_of terms f) f i (omega (arith, count))
+    no_place : (i : ℕ) → length bs ≤ i → place_by L (opened_of version terms f) f i ≡ None
+    no_place i h = place-unknown L (opened_of version terms f) f i (omega (arith, count))
 
-    pub index_read : IndexRead L (length bs) terms bs ks f
+    pub index_read : IndexRead L (length bs) version terms bs ks f
     index_read = record {
       opens = opens;
       count = count;

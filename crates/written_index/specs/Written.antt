@@ -1,5 +1,5 @@
--- A written index, opened with a number of terms: what is found in it are the blocks and separators that it was written from. L is the
--- group's length.
+-- A written index, opened with its version and a number of terms: what is found in it are the blocks and separators that it was written
+-- from. L is the group's length.
 use Rattle.std.specs.Prelude.{ℕ, zero, suc, ◌+◌, ◌-◌, ◌*◌, ◌^◌, ◌≤◌, ◌<◌, ◌≡◌, List, [], ◌++◌, cond, ltb, length, get_or, Some, None, Ok}
 use Rattle.layout.specs.Layout.{max_blocks, max_key_len, pair_len}
 use Rattle.serialize.specs.Digits.{le_bytes}
@@ -41,19 +41,19 @@ lengths_before separators (suc i) = lengths_before separators i + length (get_or
 abbrev pub last_first : List BlockAddr → ℕ
 last_first blocks = (block_of blocks (length blocks - 1)).first_ordinal
 
--- what is read in the index f of n blocks, opened with a number of terms
-pub record IndexRead (L n terms : ℕ) (blocks : List BlockAddr) (separators : List (List ℕ)) (f : List ℕ) : Type 0 where
-  pub opens : open_def L terms f ≡ Ok (opened_of terms f)
-  pub count : (opened_of terms f).n ≡ n
+-- what is read in the index f of n blocks, opened with a version and a number of terms
+pub record IndexRead (L n version terms : ℕ) (blocks : List BlockAddr) (separators : List (List ℕ)) (f : List ℕ) : Type 0 where
+  pub opens : open_def L version terms f ≡ Ok (opened_of version terms f)
+  pub count : (opened_of version terms f).n ≡ n
   pub block : (i : ℕ) → i < n → block_in L f i ≡ block_of blocks i
   pub separator : (i : ℕ) → i < n → separator_in f i ≡ get_or separators i []
   -- separator i stands after the pairs and the separators before it; other ids have none
   pub place : (i : ℕ) → i < n
-      → place_by L (opened_of terms f) f i ≡ Some (4 + pair_len * n + lengths_before separators i, length (get_or separators i []))
-  pub no_place : (i : ℕ) → n ≤ i → place_by L (opened_of terms f) f i ≡ None
+      → place_by L (opened_of version terms f) f i ≡ Some (4 + pair_len * n + lengths_before separators i, length (get_or separators i []))
+  pub no_place : (i : ℕ) → n ≤ i → place_by L (opened_of version terms f) f i ≡ None
 
--- what a listing in the index f of n blocks, opened with a number of terms, answers and leaves, for every table and every room
-pub record ListingRead (n terms : ℕ) (separators : List (List ℕ)) (f : List ℕ) : Type 0 where
-  pub number : (t : List ℕ) (room : ℕ) → listing_no (opened_of terms f) f t room ≡ or_row (table_no t) (cond (ltb room n) 24 0)
-  pub leaves : (t marks written : List ℕ) (k count : ℕ) → GetBlockForAutomaton f (opened_of terms f) t marks written k count
+-- what a listing in the index f of n blocks, opened with a version and a number of terms, answers and leaves, for every table and room
+pub record ListingRead (n version terms : ℕ) (separators : List (List ℕ)) (f : List ℕ) : Type 0 where
+  pub number : (t : List ℕ) (room : ℕ) → listing_no (opened_of version terms f) f t room ≡ or_row (table_no t) (cond (ltb room n) 24 0)
+  pub leaves : (t marks written : List ℕ) (k count : ℕ) → GetBlockForAutomaton f (opened_of version terms f) t marks written k count
       → ListingLeaves t (λ i. get_or separators i []) n marks written k count

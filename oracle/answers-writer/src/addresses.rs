@@ -5,8 +5,9 @@ use std::collections::BTreeSet;
 use model::blocks::{self, WORKED};
 use model::foreign::{self, Group, group, near};
 use model::numbers::Numbers;
-use model::settings::{GROUP_LEN, LIMIT};
-use tantivy_sstable::access::{Block, Store};
+use model::rust::{Block, Store};
+use model::settings::LIMIT;
+use model::version::{V3, V4, VERSIONS, Version};
 
 use crate::stores;
 use crate::text::{List, hex};
@@ -18,35 +19,52 @@ pub fn list() -> String {
         "Addresses, written by oracle/write-answers.",
         "Lookups are BlockAddrStore::get and binary_search_ord of the Rust (tantivy-sstable 0.27.0), over the",
         "stand-in for `common` (numbers of 2, 4 and 8 bytes, parts of bytes).",
-        "Numbers are decimal, a byte string is x and its lower-case hex. STORE is a whole store of N blocks.",
+        "Numbers are decimal, a byte string is x and its lower-case hex. STORE is a whole store of N blocks, in groups of 128 blocks where",
+        "VERSION is 3, of 256 where it is 4.",
         "",
-        "i STORE N ID START END ORD: get; the block's start, end and first ordinal",
-        "u STORE N ID: get finds nothing",
-        "o STORE N ORDINAL ID START END ORD: binary_search_ord; the block's id, and its address as above.",
+        "i STORE VERSION N ID START END ORD: get; the block's start, end and first ordinal",
+        "u STORE VERSION N ID: get finds nothing",
+        "o STORE VERSION N ORDINAL ID START END ORD: binary_search_ord; the block's id, and its address as above.",
         "Ordinals below the first, where the Rust panics, are left out.",
         "",
         "Stores of the list above",
     ]);
     let blocks = WORKED;
-    look_up(
-        &mut list,
-        &blocks::store(&blocks),
-        &blocks,
-        0..5,
-        [0, 3, 4, 8, 9, 10, 1_000_000],
-    );
+    for version in VERSIONS {
+        look_up(
+            &mut list,
+            version,
+            &blocks::store(version, &blocks),
+            &blocks,
+            0..5,
+            [0, 3, 4, 8, 9, 10, 1_000_000],
+        );
+    }
     for (i, blocks) in stores::small().iter().enumerate() {
         let count = blocks.len() as u64;
-        // all the small ones, and some of the others
+        // all the small ones, and some of the others; one group is the same in both versions
         if count <= 3 || i % 11 == 0 {
             let most = if count <= 3 { 3 } else { 4 };
-            add(&mut list, &mut rng, &blocks::store(blocks), blocks, most);
+            let version = VERSIONS[i / 2 % 2];
+            let store = blocks::store(version, blocks);
+            add(&mut list, &mut rng, version, &store, blocks, most);
         }
     }
-    list.comment(&["", "Stores of the Rust with more than one group"]);
-    for (count, length_bits, step_bits) in [(128, 5, 0), (129, 4, 2), (130, 9, 5), (257, 2, 0)] {
+    list.comment(&["", "Stores of the Rust with one group and more"]);
+    for (version, count, length_bits, step_bits) in [
+        (V3, 128, 5, 0),
+        (V3, 129, 4, 2),
+        (V3, 130, 9, 5),
+        (V3, 257, 2, 0),
+        (V4, 129, 4, 2),
+        (V4, 255, 3, 0),
+        (V4, 256, 2, 1),
+        (V4, 257, 2, 0),
+        (V4, 513, 1, 0),
+    ] {
         let blocks = blocks::random(&mut rng, count, length_bits, step_bits, 30, 20);
-        add(&mut list, &mut rng, &blocks::store(&blocks), &blocks, 4);
+        let store = blocks::store(version, &blocks);
+        add(&mut list, &mut rng, version, &store, &blocks, 4);
     }
     list.comment(&[
         "",
@@ -66,20 +84,26 @@ pub fn list() -> String {
         let group = group(&mut rng, &blocks, offset, widest);
         let behind = rng.pick(&[0, 0, 1, 9]);
         let junk = rng.bytes((offset + group.length()) as u64 + behind);
-        add(
-            &mut list,
-            &mut rng,
-            &foreign::store(&[group], junk),
-            &blocks,
-            3,
-        );
+        let store = foreign::store(&[group], junk);
+        let version = VERSIONS[round / 4 % 2];
+        add(&mut list, &mut rng, version, &store, &blocks, 3);
     }
     list.comment(&["", "Foreign stores: two groups and more, with gaps, in another order, sharing their fields or overlapping"]);
-    for (round, count) in [129, 131, 140, 257].into_iter().enumerate() {
+    for (round, (version, count)) in [
+        (V3, 129),
+        (V3, 131),
+        (V3, 140),
+        (V3, 257),
+        (V4, 257),
+        (V4, 259),
+    ]
+    .into_iter()
+    .enumerate()
+    {
         let blocks = blocks::random(&mut rng, count, 3, 1, 20, 20);
         let mut groups = Vec::new();
         let mut offset = 0;
-        let parts: Vec<&[Block]> = blocks.chunks(GROUP_LEN).collect();
+        let parts: Vec<&[Block]> = blocks.chunks(version.group_len()).collect();
         // in every second store the last group's fields stand first
         let order: Vec<usize> = if round % 2 == 0 {
             (0..parts.len()).collect()
@@ -95,38 +119,29 @@ pub fn list() -> String {
         groups.sort_by_key(|&(place, _)| place);
         let groups: Vec<Group> = groups.into_iter().map(|(_, group)| group).collect();
         let junk = rng.bytes(offset as u64 + 3);
-        add(
-            &mut list,
-            &mut rng,
-            &foreign::store(&groups, junk),
-            &blocks,
-            4,
-        );
+        let store = foreign::store(&groups, junk);
+        add(&mut list, &mut rng, version, &store, &blocks, 4);
     }
     // the second group is like the first: one set of fields serves both; or like its front
-    for count in [256, 130] {
-        let lengths: Vec<u64> = (0..128).map(|_| rng.below(8)).collect();
-        let steps: Vec<u64> = (0..128).map(|_| rng.within(1, 2)).collect();
-        let at = |i: usize| i % 128;
+    for (version, count) in [(V3, 256), (V3, 130), (V4, 258)] {
+        let group = version.group_len();
+        let lengths: Vec<u64> = (0..group).map(|_| rng.below(8)).collect();
+        let steps: Vec<u64> = (0..group).map(|_| rng.within(1, 2)).collect();
+        let at = |i: usize| i % group;
         let blocks = blocks::touching(
             77,
             &(0..count).map(|i| lengths[at(i)]).collect::<Vec<_>>(),
             5,
             &(0..count - 1).map(|i| steps[at(i)]).collect::<Vec<_>>(),
         );
-        let first = near(&mut rng, &blocks[..128], 2);
+        let first = near(&mut rng, &blocks[..group], 2);
         let second = Group {
-            blocks: &blocks[128..],
+            blocks: &blocks[group..],
             ..first
         };
         let junk = rng.bytes(2 + first.length() as u64);
-        add(
-            &mut list,
-            &mut rng,
-            &foreign::store(&[first, second], junk),
-            &blocks,
-            4,
-        );
+        let store = foreign::store(&[first, second], junk);
+        add(&mut list, &mut rng, version, &store, &blocks, 4);
     }
     // the second group's fields begin inside the first's: all fields of both are the same
     let blocks = blocks::touching(9, &[6; 140], 3, &[2; 139]);
@@ -143,17 +158,20 @@ pub fn list() -> String {
         offset: 60,
         ..same
     };
-    add(
-        &mut list,
-        &mut rng,
-        &foreign::store(&[same, second], vec![0; same.length()]),
-        &blocks,
-        4,
-    );
+    let store = foreign::store(&[same, second], vec![0; same.length()]);
+    add(&mut list, &mut rng, V3, &store, &blocks, 4);
     // full groups of the widest fields
-    let blocks = blocks::random(&mut rng, 129, 40, 40, 20, 20);
+    for version in VERSIONS {
+        widest(&mut list, &mut rng, version);
+    }
+    list.text()
+}
+
+fn widest(list: &mut List, rng: &mut Numbers, version: Version) {
+    let group = version.group_len();
+    let blocks = blocks::random(rng, group as u64 + 1, 40, 39, 20, 20);
     let wide = Group {
-        blocks: &blocks[..128],
+        blocks: &blocks[..group],
         offset: 1,
         range_slope: u32::MAX,
         ord_slope: 0,
@@ -161,27 +179,30 @@ pub fn list() -> String {
         ord_width: 56,
     };
     let second = Group {
-        blocks: &blocks[128..],
+        blocks: &blocks[group..],
         offset: 1 + wide.length(),
         range_width: 55,
         ..wide
     };
     let junk = rng.bytes((second.offset + second.length()) as u64);
-    add(
-        &mut list,
-        &mut rng,
-        &foreign::store(&[wide, second], junk),
-        &blocks,
-        1,
-    );
-    list.text()
+    let store = foreign::store(&[wide, second], junk);
+    add(list, rng, version, &store, &blocks, 1);
 }
 
 /// At most `most` lookups of each kind, those at the ends of groups before others.
-fn add(list: &mut List, rng: &mut Numbers, bytes: &[u8], blocks: &[Block], most: usize) {
+fn add(
+    list: &mut List,
+    rng: &mut Numbers,
+    version: Version,
+    bytes: &[u8],
+    blocks: &[Block],
+    most: usize,
+) {
     let n = blocks.len() as u64;
+    let group = version.group_len() as u64;
     let mut ids = BTreeSet::new();
-    for id in [n.saturating_sub(1), 0, 128, 127, 256] {
+    // 128 begins a group in one version and is inside one in the other
+    for id in [n.saturating_sub(1), 0, group, group - 1, 2 * group, 128] {
         if id < n && ids.len() < most {
             ids.insert(id);
         }
@@ -190,14 +211,15 @@ fn add(list: &mut List, rng: &mut Numbers, bytes: &[u8], blocks: &[Block], most:
         ids.insert(rng.below(n));
     }
     if n == 0 || rng.one_in(4) {
-        ids.insert(rng.pick(&[n, n, n + 1, n.next_multiple_of(128), u64::MAX]));
+        ids.insert(rng.pick(&[n, n, n + 1, n.next_multiple_of(group), u64::MAX]));
     }
 
     let mut ords = BTreeSet::new();
     if let (Some(first), Some(last)) = (blocks.first(), blocks.last()) {
         ords.insert(last.ord);
-        if n > 128 {
-            ords.extend([blocks[128].ord, blocks[128].ord - 1]);
+        if n > group {
+            let begins = blocks[group as usize].ord;
+            ords.extend([begins, begins - 1]);
         }
         for _ in ords.len()..most {
             let ord = blocks[rng.below(n) as usize].ord;
@@ -211,21 +233,22 @@ fn add(list: &mut List, rng: &mut Numbers, bytes: &[u8], blocks: &[Block], most:
         }
         ords.retain(|&ord| ord >= first.ord);
     }
-    look_up(list, bytes, blocks, ids, ords);
+    look_up(list, version, bytes, blocks, ids, ords);
 }
 
 /// Lookups in a store whose blocks are known.
 fn look_up(
     list: &mut List,
+    version: Version,
     bytes: &[u8],
     blocks: &[Block],
     ids: impl IntoIterator<Item = u64>,
     ords: impl IntoIterator<Item = u64>,
 ) {
     blocks::legal(blocks);
-    let store = Store::open(bytes);
-    let text = hex(bytes);
+    let store = Store::open(version, bytes);
     let n = blocks.len();
+    let text = format!("{} {} {n}", hex(bytes), version.number());
     // all blocks are as they were put in
     for id in 0..n + 2 {
         assert_eq!(store.get(id as u64), blocks.get(id).copied());
@@ -233,9 +256,9 @@ fn look_up(
     for id in ids {
         match store.get(id) {
             Some(Block { start, end, ord }) => {
-                list.case(format!("i {text} {n} {id} {start} {end} {ord}"));
+                list.case(format!("i {text} {id} {start} {end} {ord}"));
             }
-            None => list.case(format!("u {text} {n} {id}")),
+            None => list.case(format!("u {text} {id}")),
         }
     }
     for target in ords {
@@ -244,6 +267,6 @@ fn look_up(
         let last = blocks.partition_point(|block| block.ord <= target) - 1;
         assert_eq!((id, block), (last as u64, blocks[last]));
         let Block { start, end, ord } = block;
-        list.case(format!("o {text} {n} {target} {id} {start} {end} {ord}"));
+        list.case(format!("o {text} {target} {id} {start} {end} {ord}"));
     }
 }

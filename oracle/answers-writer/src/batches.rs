@@ -5,13 +5,14 @@ use std::fmt::Write;
 
 use model::around;
 use model::batch::{Cause, KeyList, NO_ID, Separators};
-use model::faults::others;
+use model::faults::{other_versions, others};
 use model::files::{by_rule, two_group_file, worked_file};
 use model::key_lists::{LAYOUTS, Layout, ORDERS, Order, WAYS, refused};
 use model::numbers::Numbers;
 use model::opening::{self, Opened, Opening};
+use model::rust::Index;
 use model::settings::MOST_KEYS;
-use tantivy_sstable::access::Index;
+use model::version::{V3, V4, VERSIONS, Version};
 
 use crate::indexes;
 use crate::text::{hex, numbers};
@@ -36,8 +37,8 @@ impl Batches {
         writeln!(self.text, "# {line}").unwrap();
     }
 
-    fn open(&mut self, line: &str, bytes: Vec<u8>) {
-        self.opening = opening::open(&bytes);
+    fn open(&mut self, line: &str, version: Version, bytes: Vec<u8>) {
+        self.opening = opening::open(version, &bytes);
         assert_eq!(self.opening.no(), 0);
         self.rust = indexes::rust(&bytes, &self.opening);
         self.record = self.opening.record;
@@ -47,12 +48,22 @@ impl Batches {
         writeln!(self.text, "{line} {terms} 0 {}", record.trim_end()).unwrap();
     }
 
-    fn open_bytes(&mut self, bytes: Vec<u8>) {
-        self.open(&format!("f {}", hex(&bytes)), bytes);
+    fn open_bytes(&mut self, version: Version, bytes: Vec<u8>) {
+        let line = format!("f {} {}", hex(&bytes), version.number());
+        self.open(&line, version, bytes);
     }
 
-    fn open_by_rule(&mut self, count: u64) {
-        self.open(&format!("g {count}"), by_rule(count).bytes());
+    fn open_by_rule(&mut self, version: Version, count: u64) {
+        let line = format!("g {} {count}", version.number());
+        self.open(&line, version, by_rule(version, count).bytes());
+    }
+
+    /// The file by a version, if the number is one.
+    fn read_as(&mut self, version: u64) {
+        if let Some(version) = Version::of(version) {
+            self.opening = opening::open(version, &self.bytes);
+            self.rust = indexes::rust(&self.bytes, &self.opening);
+        }
     }
 
     fn set_record(&mut self, record: Opened) {
@@ -97,7 +108,7 @@ pub fn list() -> String {
     let mut batches = Batches {
         text: String::new(),
         bytes: Vec::new(),
-        opening: Opening::default(),
+        opening: Opening::new(V3),
         rust: None,
         record: Opened::default(),
         causes: BTreeSet::new(),
@@ -107,7 +118,8 @@ pub fn list() -> String {
         "b BYTES ROOM WORDS W .. NO ID ..: keys as pairs of offset and length over BYTES, WORDS numbers in all; an id area of ROOM",
         "numbers. NO is the number; where it is 0 an id for each key follows, 2^64 - 1 for a key above the last separator. The ids stand",
         "at the front of the area, and all else in it stays; after a refusal all of it does. Ids are those of the Rust's",
-        "locate_with_key, one key at a time; 20 (only with a record that fails by itself) and 26 are from a plain model of document 02.",
+        "locate_with_key, one key at a time; 20 (only with a record that fails by itself, as one of another version than 3 and 4 does)",
+        "and 26 are from a plain model of document 02.",
         "B BYTES ROOM WORDS W ..: with a record that may not belong to the file. 20 or 26, and the area stays; or 0, and an entry for",
         "each key that is below n or 2^64 - 1.",
     ] {
@@ -125,7 +137,7 @@ pub fn list() -> String {
 /// Lists over the worked case, and over two groups.
 fn taken(batches: &mut Batches) {
     batches.comment("no keys; empty ones, at the area's end too; equal offsets, parts that overlap; keys that fall or come again");
-    batches.open_bytes(worked_file().bytes());
+    batches.open_bytes(V3, worked_file().bytes());
     for room in [0, 1, 3] {
         batches.exact(&KeyList::default(), room);
     }
@@ -152,15 +164,22 @@ fn taken(batches: &mut Batches) {
         }
     }
     let mut rng = Numbers::from_seed(91);
-    batches.open_bytes(two_group_file(2).bytes());
-    let ids = around::ids(&mut rng, 130, 4);
-    let pool: Vec<Vec<u8>> = around::keys(&batches.opening.keys, &ids)
-        .into_iter()
-        .collect();
-    for (i, order) in ORDERS.into_iter().enumerate() {
-        for count in [2, 7, 9, MOST_KEYS - 1, MOST_KEYS] {
-            let keys = order.keys(&mut rng, &pool, count);
-            batches.exact(&LAYOUTS[(i + count) % 3].list(&keys), count + i % 2);
+    for version in VERSIONS {
+        batches.open_bytes(version, two_group_file(version, 2).bytes());
+        let n = batches.record.n;
+        let ids = around::ids(version, &mut rng, n, 4);
+        let pool: Vec<Vec<u8>> = around::keys(&batches.opening.keys, &ids)
+            .into_iter()
+            .collect();
+        let counts = match version {
+            V3 => &[2, 7, 9, MOST_KEYS - 1, MOST_KEYS][..],
+            V4 => &[2, 9, MOST_KEYS],
+        };
+        for (i, order) in ORDERS.into_iter().enumerate() {
+            for &count in counts {
+                let keys = order.keys(&mut rng, &pool, count);
+                batches.exact(&LAYOUTS[(i + count) % 3].list(&keys), count + i % 2);
+            }
         }
     }
 }
@@ -170,7 +189,7 @@ fn refusals(batches: &mut Batches) {
     batches.comment(
         "each set of the causes of 26: at the first, a middle and the last pair, sums from 2^64 on",
     );
-    batches.open_bytes(worked_file().bytes());
+    batches.open_bytes(V3, worked_file().bytes());
     for which in 0..1 << Cause::ALL.len() {
         let chosen = |k: &usize| which >> k & 1 == 1;
         let picked = (0..Cause::ALL.len()).filter(chosen);
@@ -203,9 +222,20 @@ fn refusals(batches: &mut Batches) {
 fn large(batches: &mut Batches) {
     batches.comment("large files: 7, 8, 9, 63 and 64 keys");
     let mut rng = Numbers::from_seed(92);
-    for n in [4_095, 4_096, 4_097, 8_192, 65_535, 65_536] {
-        batches.open_by_rule(n);
-        let ids = around::ids(&mut rng, n, 20);
+    for (version, n) in [
+        (V3, 4_095),
+        (V3, 4_096),
+        (V3, 4_097),
+        (V3, 8_192),
+        (V3, 65_535),
+        (V3, 65_536),
+        (V4, 129),
+        (V4, 513),
+        (V4, 4_096),
+        (V4, 65_536),
+    ] {
+        batches.open_by_rule(version, n);
+        let ids = around::ids(version, &mut rng, n, 20);
         let pool: Vec<Vec<u8>> = around::keys(&batches.opening.keys, &ids)
             .into_iter()
             .collect();
@@ -227,10 +257,11 @@ fn with_one(count: usize, place: usize) -> KeyList {
 /// Records that fail by themselves are refused before the list; others are left free.
 fn other_records(batches: &mut Batches) {
     batches.comment("records that aren't the file's: 20 before 26, and where a record doesn't fail by itself left free");
-    batches.open_bytes(worked_file().bytes());
+    batches.open_bytes(V3, worked_file().bytes());
     let (right, len) = (batches.record, batches.bytes.len());
     let (bad, _) = refused(2, &[Cause::Falls], 1, 0);
-    for record in others(right) {
+    for record in others(right).into_iter().chain(other_versions(right)) {
+        batches.read_as(record.version);
         batches.set_record(record);
         if record.unfit(len) || batches.opening.opens(record) {
             batches.exact(&with_one(2, 1), 3);
@@ -242,8 +273,8 @@ fn other_records(batches: &mut Batches) {
         }
     }
     batches.comment("the last key is outside: it is met at the first, a middle and the last key");
-    for n in [3, 4_096] {
-        batches.open_by_rule(n);
+    for (version, n) in [(V3, 3), (V3, 4_096), (V4, 4_096)] {
+        batches.open_by_rule(version, n);
         let own = batches.record;
         let directory = (0, own.directory.1 - 1);
         batches.set_record(Opened { directory, ..own });

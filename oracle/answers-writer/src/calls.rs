@@ -8,6 +8,7 @@ use model::blocks::{WORKED, block};
 use model::numbers::Numbers;
 use model::settings::{LIMIT, STRIDE};
 use model::sums::remainder;
+use model::version::{NO_VERSIONS, V3, V4, VERSION_BAD, VERSIONS, Version};
 use tantivy_sstable::access::{self, Block};
 
 use crate::text::{hex, numbers};
@@ -17,7 +18,7 @@ struct Calls {
     text: String,
     machine: Option<Machine>,
     areas: Areas,
-    /// a call's letter and all rows that held
+    /// a call's letter and all rows that held, by their numbers
     seen: BTreeSet<(char, Vec<u64>)>,
     /// parts of row 8 that were broken together
     seen_broken: BTreeSet<Vec<u64>>,
@@ -116,25 +117,33 @@ impl Calls {
         self.line(line);
     }
 
-    /// How long the index is.
-    fn total(&self) -> usize {
-        index(&self.areas.entries()).0.len()
+    /// How long the index of this version is.
+    fn total(&self, version: Version) -> usize {
+        index(version, &self.areas.entries()).0.len()
+    }
+
+    /// By version 3. Returns the number.
+    fn finish(&mut self, room: usize) -> u64 {
+        self.finish_as(V3.number(), room)
     }
 
     /// Returns the number.
-    fn finish(&mut self, room: usize) -> u64 {
-        let mut rows = hits(&[(1, self.areas.view(self.areas.n).row_1())]);
+    fn finish_as(&mut self, number: u64, room: usize) -> u64 {
+        let version = Version::of(number);
+        let mut rows = hits(&[
+            (VERSION_BAD, version.is_none()),
+            (1, self.areas.view(self.areas.n).row_1()),
+        ]);
         // beyond these counts nothing is there to look at
-        let broken = if self.areas.n <= 200 {
+        let broken = if self.areas.n <= 300 {
             self.areas.broken()
         } else {
             BTreeSet::new()
         };
         rows.extend(hits(&[(8, !broken.is_empty())]));
-        let (bytes, directory) = if rows.is_empty() {
-            index(&self.areas.entries())
-        } else {
-            Default::default()
+        let (bytes, directory) = match version {
+            Some(version) if rows.is_empty() => index(version, &self.areas.entries()),
+            _ => Default::default(),
         };
         let short = if rows.is_empty() {
             room < bytes.len()
@@ -144,29 +153,45 @@ impl Calls {
         };
         rows.extend(hits(&[(9, short)]));
         if self.machine.is_some() {
-            assert!(rows.is_empty() || rows == [9]);
+            assert!(rows.iter().all(|row| [VERSION_BAD, 9].contains(row)));
         }
         let no = first(&rows);
         if no == 0 {
             let total = bytes.len();
-            self.line(format!("f {room} 0 {total} {directory} {}", hex(&bytes)));
+            let bytes = hex(&bytes);
+            self.line(format!("f {number} {room} 0 {total} {directory} {bytes}"));
         } else {
-            self.line(format!("f {room} {no} 0 0 x"));
+            self.line(format!("f {number} {room} {no} 0 0 x"));
         }
         if no == 8 {
             self.seen_broken.insert(broken.into_iter().collect());
         }
+        rows.sort_unstable();
         self.seen.insert(('f', rows));
         no
     }
 
-    /// Finishes with the output one byte short, exactly full and with bytes behind.
+    /// Finishes by version 3 with the output one byte short and exactly full.
     fn finish_all(&mut self) {
-        let total = self.total();
+        self.finish_all_as(V3);
+    }
+
+    fn finish_all_as(&mut self, version: Version) {
+        let total = self.total(version);
         if total > 0 {
-            assert_eq!(self.finish(total - 1), 9);
+            assert_eq!(self.finish_as(version.number(), total - 1), 9);
         }
-        assert_eq!(self.finish(total), 0);
+        assert_eq!(self.finish_as(version.number(), total), 0);
+    }
+
+    /// Finishes by numbers that aren't versions: some of them, or all.
+    fn finish_as_none(&mut self, all: bool, rooms: &[usize]) {
+        let chosen = |number: &u64| all || [0, 2, 5, u64::MAX].contains(number);
+        for number in NO_VERSIONS.into_iter().filter(chosen) {
+            for &room in rooms {
+                assert_eq!(self.finish_as(number, room), VERSION_BAD);
+            }
+        }
     }
 
     /// Blocks by the rule, then one more block.
@@ -190,13 +215,14 @@ impl Calls {
     }
 
     /// Blocks by the rule, finished with the output exactly full and one byte short.
-    fn large_index(&mut self, count: u32) {
+    fn large_index(&mut self, version: Version, count: u32) {
         let entries: Vec<Entry> = (0..count).map(by_rule).collect();
-        let (bytes, directory) = index(&entries);
+        let (bytes, directory) = index(version, &entries);
         let total = bytes.len();
         let rest = remainder(&bytes);
-        self.line(format!("h {count} {total} 0 {total} {directory} {rest}"));
-        self.line(format!("h {count} {} 9 0 0 0", total - 1));
+        let front = format!("h {} {count}", version.number());
+        self.line(format!("{front} {total} 0 {total} {directory} {rest}"));
+        self.line(format!("{front} {} 9 0 0 0", total - 1));
     }
 }
 
@@ -220,12 +246,13 @@ pub fn list() -> String {
         "r N COUNT V1 .. VCOUNT KEYS: a builder with the count N over these two areas",
         "a START END ORD KEY NO: an add    k NEXTKEY NO: a shorten",
         "e N KEYS: the count now, and all keys joined",
-        "f ROOM NO TOTAL DIRECTORY INDEX: a finish into ROOM bytes",
+        "f VERSION ROOM NO TOTAL DIRECTORY INDEX: a finish into ROOM bytes. For version 4 the Rust's STORE_BLOCK_LEN is 256; 30 where",
+        "VERSION is neither 3 nor 4",
         "m COUNT START END ORD KEY NO: COUNT adds by the rule are taken, in areas of 5 x 65,537 numbers and 4 x 65,537 bytes; then one",
         "more add. The rule: s(i) is 65,536 x i + (40,503 x i mod 65,536); block i goes from s(i) to s(i + 1), its ordinal is",
         "1,000 x i + (617 x i mod 1,000), its key the 4 bytes of i, highest first",
-        "h COUNT ROOM NO TOTAL DIRECTORY REMAINDER: COUNT adds by the rule, then a finish into ROOM bytes; the index as one number, its",
-        "first byte the highest, has this remainder modulo 2^56 - 5",
+        "h VERSION COUNT ROOM NO TOTAL DIRECTORY REMAINDER: COUNT adds by the rule, then a finish into ROOM bytes; the index as one",
+        "number, its first byte the highest, has this remainder modulo 2^56 - 5",
     ] {
         calls.comment(line);
     }
@@ -244,9 +271,14 @@ pub fn list() -> String {
     let repeated = block(after.start, after.end, before.ord);
     calls.many(65_536, repeated, &after_key);
     calls.many(65_535, before, &before_key);
-    calls.comment("more than two groups");
-    for count in [257, 1000, 65_536] {
-        calls.large_index(count);
+    calls.comment("one group and more");
+    for count in [127, 128, 129, 255, 256, 257, 511, 512, 513, 1000, 65_536] {
+        for version in VERSIONS {
+            calls.large_index(version, count);
+        }
+    }
+    for (count, version) in [(0, 0), (1, 2), (129, 5), (257, u64::MAX)] {
+        calls.line(format!("h {version} {count} 30000 {VERSION_BAD} 0 0 0"));
     }
     check_seen(&calls);
     calls.text
@@ -269,13 +301,13 @@ fn check_seen(calls: &Calls) {
     for (letter, rows) in [
         ('a', &[1, 2, 3, 4, 5, 6, 7][..]),
         ('k', &[1, 2, 6]),
-        ('f', &[1, 8, 9]),
+        ('f', &[VERSION_BAD, 1, 8, 9]),
     ] {
         seen(letter, &[]);
-        for (i, &low) in rows.iter().enumerate() {
-            seen(letter, &[low]);
-            for &high in &rows[i + 1..] {
-                seen(letter, &[low, high]);
+        for (i, &row) in rows.iter().enumerate() {
+            seen(letter, &[row]);
+            for &later in &rows[i + 1..] {
+                seen(letter, &[row, later]);
             }
         }
     }
@@ -291,10 +323,14 @@ fn worked_case(calls: &mut Calls) {
         assert_eq!(calls.add(block, key), 0);
     }
     calls.state();
-    assert_eq!(calls.total(), 85);
+    assert_eq!(calls.total(V3), 85);
     calls.finish_all();
     calls.finish(100);
     calls.finish(0);
+    calls.comment("the same by version 4, and by numbers that aren't versions");
+    calls.finish_all_as(V4);
+    calls.finish_as_none(true, &[85]);
+    calls.finish_as_none(false, &[100, 84, 0]);
 }
 
 fn keys(calls: &mut Calls) {
@@ -344,6 +380,8 @@ fn rooms(calls: &mut Calls) {
     calls.state();
     calls.finish(0);
     calls.finish(5);
+    calls.finish_all_as(V4);
+    calls.finish_as_none(false, &[0, 5]);
     assert_eq!(calls.add(block(0, 0, 0), b""), 7);
     calls.comment("one block");
     calls.fresh(5, 0);
@@ -353,6 +391,8 @@ fn rooms(calls: &mut Calls) {
     calls.state();
     calls.finish(0);
     calls.finish(9);
+    calls.finish_all_as(V4);
+    calls.finish_as_none(false, &[0, 9]);
     calls.comment("the first of two keys is empty; areas exactly full");
     calls.fresh(10, 1);
     assert_eq!(calls.add(block(LIMIT - 2, LIMIT - 1, 0), b""), 0);
@@ -362,6 +402,7 @@ fn rooms(calls: &mut Calls) {
     );
     calls.state();
     calls.finish_all();
+    calls.finish_all_as(V4);
     calls.comment("areas one short");
     calls.fresh(9, 100);
     assert_eq!(calls.add(block(0, 1, 0), b"a"), 0);
@@ -451,11 +492,17 @@ fn long_keys(calls: &mut Calls) {
 }
 
 fn counts(calls: &mut Calls) {
-    calls.comment("two groups: 129 blocks");
     let mut rng = Numbers::from_seed(61);
-    calls.fresh(645, 260);
+    calls.comment("129 blocks: two groups in version 3, one in version 4");
+    count(calls, &mut rng, 129);
+    calls.comment("257 blocks: three groups in version 3, two in version 4");
+    count(calls, &mut rng, 257);
+}
+
+fn count(calls: &mut Calls, rng: &mut Numbers, count: u16) {
+    calls.fresh(STRIDE * usize::from(count), 2 * usize::from(count) + 2);
     let (mut at, mut ord) = (1000, 0);
-    for i in 0..129u16 {
+    for i in 0..count {
         let end = at + rng.below(300);
         let mut key = vec![b'a' + (i / 26) as u8, b'a' + (i % 26) as u8];
         if i % 3 == 0 {
@@ -470,7 +517,9 @@ fn counts(calls: &mut Calls) {
     }
     assert_eq!(calls.add(block(at, at, ord), b"z"), 7);
     calls.state();
-    calls.finish_all();
+    for version in VERSIONS {
+        calls.finish_all_as(version);
+    }
 }
 
 fn areas_that_do_not_fit(calls: &mut Calls) {
@@ -500,6 +549,8 @@ fn areas_that_do_not_fit(calls: &mut Calls) {
         assert_eq!(calls.shorten(b"n"), 1);
         assert_eq!(calls.finish(100), 1);
         assert_eq!(calls.finish(0), 1);
+        assert_eq!(calls.finish_as(V4.number(), 100), 1);
+        assert_eq!(calls.finish_as(5, 100), VERSION_BAD);
     }
     calls.comment("row 1 beside each other row: a last key of two bytes in a key area of one");
     calls.raw(1, &[10, 20, 5, 0, 2, 0, 0, 0, 0, 0], b"m");
@@ -521,11 +572,13 @@ fn areas_that_do_not_fit(calls: &mut Calls) {
     assert_eq!(calls.finish(100), 1);
     calls.raw(2, &[0, 1, 0, 0, 2, 1, 2, 1, 1, 3], b"abcd");
     assert_eq!(calls.finish(100), 8);
+    calls.finish_as_none(false, &[100]);
     calls.raw(2, &[0, 1, 0, 0, 2, 1, 2, 1, 3, 2], b"abcd");
     assert_eq!(calls.finish(100), 1);
     calls.raw(2, &[0, 1, 0, 0, 2, 1, 2, 1, 2, 3], b"abcd");
     assert_eq!(calls.finish(0), 1);
     assert_eq!(calls.finish(100), 1);
+    calls.finish_as_none(false, &[0, 100]);
 }
 
 fn broken_records(calls: &mut Calls) {
@@ -557,7 +610,8 @@ fn broken_records(calls: &mut Calls) {
             let mut blocks = right;
             blocks[place] = value;
             calls.raw(3, &blocks, keys);
-            calls.finish(90);
+            let version = VERSIONS[place % 2];
+            calls.finish_as(version.number(), 90);
         }
     }
     calls.comment("row 8: a key that isn't above the one before");
@@ -629,7 +683,7 @@ fn broken_records(calls: &mut Calls) {
 fn random(calls: &mut Calls) {
     calls.comment("by chance");
     let mut rng = Numbers::from_seed(62);
-    for _ in 0..13 {
+    for round in 0..13 {
         let count = rng.within(1, 9);
         calls.fresh(
             STRIDE * count as usize + rng.below(3) as usize,
@@ -658,7 +712,8 @@ fn random(calls: &mut Calls) {
             }
         }
         calls.state();
-        let total = calls.total();
-        calls.finish(total + rng.below(3) as usize);
+        let version = VERSIONS[round % 2];
+        let room = calls.total(version) + rng.below(3) as usize;
+        calls.finish_as(version.number(), room);
     }
 }

@@ -1,15 +1,17 @@
 //! Lists that are cut, lengthened or changed. Most aren't lists any more; those that still are get replayed.
 
 use model::numbers::Numbers;
+use model::version::{NO_VERSIONS, V3, V4};
 
-use crate::list_bytes::{Call, Question, encode};
+use crate::list_bytes::{Call, Question, Settings, encode};
 use crate::replayed::{self, Rooms};
 use crate::replays::{Lists, add, shorten, worked_calls};
 
-/// Where the settings' length, the number of terms and the counts stand.
+/// Where the settings' length, the number of terms, the version and the counts stand.
 const SETTINGS: usize = 0;
 const TERMS: usize = 4;
-const COUNTS: usize = 12;
+const VERSION: usize = 12;
+const COUNTS: usize = 20;
 
 /// A short list, and where its items begin.
 struct Base {
@@ -28,12 +30,12 @@ fn base() -> Base {
         Question::Key(b"c".to_vec()),
         Question::Mark(1, vec![0]),
     ];
-    let fit = replayed::rooms(&calls, questions.len());
+    let fit = replayed::rooms(V3, &calls, questions.len());
     Base {
-        bytes: encode(5, &calls, &questions),
-        calls: vec![20, 50, 56],
-        questions: vec![86, 95, 101],
-        strings: vec![45, 51, 81, 96, 110],
+        bytes: encode(Settings::of(V3, 5), &calls, &questions),
+        calls: vec![28, 58, 64],
+        questions: vec![94, 103, 109],
+        strings: vec![53, 59, 89, 104, 118],
         rooms: Rooms {
             answers: fit.answers + 10,
             ..fit
@@ -58,16 +60,20 @@ pub fn lists(lists: &mut Lists) {
     for more in [&[0][..], &[2], &[255; 9], &base.bytes] {
         lists.bytes(&[&base.bytes[..], more].concat(), base.rooms);
     }
-    for length in [3, 4, 7, 11, 12, 13, 20] {
+    for length in [3, 4, 7, 11, 12, 13, 20, 28] {
         lists.bytes(&vec![0; length], base.rooms);
     }
-    for length in [4, 11, 12, 13, 19, 20, 21] {
+    for length in [4, 11, 12, 19, 20, 27, 28, 29] {
         let mut zeros = vec![0; length];
-        zeros[SETTINGS] = 8;
+        zeros[SETTINGS] = 16;
         lists.bytes(&zeros, base.rooms);
     }
     lists.comment("damaged lists: no settings");
     let counts = [&[0; 4][..], &base.bytes[COUNTS..]].concat();
+    lists.bytes(&counts, base.rooms);
+    lists.comment("damaged lists: the number of terms alone");
+    let terms = &base.bytes[TERMS..VERSION];
+    let counts = [&[8, 0, 0, 0], terms, &base.bytes[COUNTS..]].concat();
     lists.bytes(&counts, base.rooms);
     lists.bytes(&[0xff; 40], base.rooms);
     tags(lists, &base);
@@ -92,12 +98,15 @@ fn numbers(lists: &mut Lists, base: &Base) {
         let values = [0, 1, right - 1, right + 1, 2 * right + 8, 1 << 16, 1 << 31];
         values.into_iter().chain([u32::MAX, u32::MAX - 7])
     };
-    for length in [0u32, 1, 4, 7, 9, 12, 16, 1 << 16, u32::MAX] {
+    for length in [0u32, 1, 4, 8, 12, 15, 17, 24, 1 << 16, u32::MAX] {
         lists.bytes(&base.with(SETTINGS, &length.to_le_bytes()), base.rooms);
     }
-    // any eight bytes are a number of terms
+    // any eight bytes are a number of terms, and a version or none
     for terms in [0u64, 3, 4, 6, 1 << 32, u64::MAX] {
         lists.bytes(&base.with(TERMS, &terms.to_le_bytes()), base.rooms);
+    }
+    for version in [V4.number()].into_iter().chain(NO_VERSIONS) {
+        lists.bytes(&base.with(VERSION, &version.to_le_bytes()), base.rooms);
     }
     for &at in [COUNTS, COUNTS + 4].iter().chain(&base.strings) {
         let right = u32::from_le_bytes(base.bytes[at..at + 4].try_into().unwrap());
@@ -121,13 +130,13 @@ fn changed(lists: &mut Lists) {
         Question::Address(b"c".to_vec()),
         Question::Separator(2),
     ];
-    let fit = replayed::rooms(&calls, questions.len());
+    let fit = replayed::rooms(V4, &calls, questions.len());
     let rooms = Rooms {
         keys: fit.keys + 2,
         out: fit.out + 20,
         ..fit
     };
-    let right = encode(12, &calls, &questions);
+    let right = encode(Settings::of(V4, 12), &calls, &questions);
     for _ in 0..60 {
         let at = rng.below(right.len() as u64) as usize;
         let mut bytes = right.clone();

@@ -10,9 +10,11 @@ use model::files::{self, Fault, File, rising, smallest, two_group_file, worked_f
 use model::foreign::{self, Group};
 use model::numbers::Numbers;
 use model::opening::{self, Hit, Opened, Opening, TERMS_BAD};
+use model::rust::{Block, Index};
 use model::settings::LIMIT;
-use tantivy_sstable::access::{Block, Index};
+use model::version::{V3, V4, VERSION_BAD, VERSIONS, Version};
 
+use crate::other_versions;
 use crate::refused;
 use crate::text::{hex, numbers};
 
@@ -22,10 +24,11 @@ const LONGEST_CHANGE: usize = 128;
 /// The lines so far, and the file that the next lookup is in.
 pub struct Indexes {
     text: String,
-    bytes: Vec<u8>,
-    opening: Opening,
+    pub bytes: Vec<u8>,
+    /// of the version that it was last opened with
+    pub opening: Opening,
     /// the number of terms that it was last opened with
-    terms: u64,
+    pub terms: u64,
     /// the Rust's, if the file opens
     rust: Option<Index>,
     /// how many files were opened: their numbers of terms take turns
@@ -33,6 +36,8 @@ pub struct Indexes {
     seen: BTreeSet<Vec<Hit>>,
     /// the numbers of openings that would get 28 too
     seen_with_28: BTreeSet<u64>,
+    /// the numbers that openings with numbers that aren't versions would get else
+    seen_with_30: BTreeSet<u64>,
 }
 
 impl Indexes {
@@ -40,28 +45,60 @@ impl Indexes {
         writeln!(self.text, "# {line}").unwrap();
     }
 
-    fn line(&mut self, line: String) {
+    pub fn line(&mut self, line: String) {
         writeln!(self.text, "{line}").unwrap();
     }
 
-    /// Opens a file, with some number of terms that is enough. Returns the number.
+    /// Opens a file of version 3, with some number of terms that is enough. Returns the number.
     pub fn open(&mut self, bytes: &[u8]) -> u64 {
-        self.open_as(bytes, format!("f {}", hex(bytes)))
+        self.open_as(V3, bytes)
     }
 
-    fn open_as(&mut self, bytes: &[u8], line: String) -> u64 {
+    /// Of any version.
+    pub fn open_as(&mut self, version: Version, bytes: &[u8]) -> u64 {
+        let line = format!("f {} {}", hex(bytes), version.number());
+        self.open_by(version, bytes, line)
+    }
+
+    /// The file of so many blocks by the rule of the list's comment.
+    pub fn open_by_rule(&mut self, version: Version, count: u64) -> u64 {
+        let bytes = files::by_rule(version, count).bytes();
+        let line = format!("g {} {count}", version.number());
+        self.open_by(version, &bytes, line)
+    }
+
+    fn open_by(&mut self, version: Version, bytes: &[u8], line: String) -> u64 {
         self.bytes = bytes.to_vec();
-        self.opening = opening::open(bytes);
-        self.rust = rust(bytes, &self.opening);
+        self.read_as(version);
         self.terms = self.turn(&self.opening);
         self.opened += 1;
-        self.answer(line, &opening::open(bytes), self.terms)
+        self.answer_own(line)
+    }
+
+    fn read_as(&mut self, version: Version) {
+        self.opening = opening::open(version, &self.bytes);
+        self.rust = rust(&self.bytes, &self.opening);
     }
 
     /// Opens the current file again, with so many terms. Returns the number.
     fn reopen(&mut self, terms: u64) -> u64 {
+        self.reopen_as(self.opening.version.number(), terms)
+    }
+
+    /// With any number for its version, of which lookups then are.
+    pub fn reopen_as(&mut self, version: u64, terms: u64) -> u64 {
+        let line = format!("t {version}");
         self.terms = terms;
-        self.answer("t".to_string(), &opening::open(&self.bytes), terms)
+        let Some(version) = Version::of(version) else {
+            self.seen_with_30.insert(self.opening.number(terms));
+            let zeros = numbers(&Opened::default().numbers());
+            self.line(format!("{line} {terms} {VERSION_BAD} {}", zeros.trim_end()));
+            return VERSION_BAD;
+        };
+        if version != self.opening.version {
+            self.read_as(version);
+        }
+        self.answer_own(line)
     }
 
     /// A number of terms: enough for a file that opens, any for one that is refused anyway.
@@ -71,6 +108,15 @@ impl Indexes {
             0 => all[2 + self.opened % 4],
             _ => all[self.opened % 6],
         }
+    }
+
+    /// Of the current file, with its number of terms.
+    fn answer_own(&mut self, line: String) -> u64 {
+        let none = Opening::new(self.opening.version);
+        let opening = std::mem::replace(&mut self.opening, none);
+        let no = self.answer(line, &opening, self.terms);
+        self.opening = opening;
+        no
     }
 
     fn answer(&mut self, line: String, opening: &Opening, terms: u64) -> u64 {
@@ -91,15 +137,16 @@ impl Indexes {
         let at = (0..bytes.len()).find(differs).expect("a change");
         let last = (0..bytes.len()).rfind(differs).expect("a change");
         assert!(last + 1 - at <= LONGEST_CHANGE);
-        let line = format!("c {at} {}", hex(&bytes[at..=last]));
-        let opening = opening::open(bytes);
+        let version = self.opening.version;
+        let line = format!("c {} {at} {}", version.number(), hex(&bytes[at..=last]));
+        let opening = opening::open(version, bytes);
         rust(bytes, &opening);
         let terms = self.turn(&opening);
         self.opened += 1;
         self.answer(line, &opening, terms)
     }
 
-    fn id(&mut self, id: u64) {
+    pub fn id(&mut self, id: u64) {
         let found = self.rust.as_ref().unwrap().get_block(id);
         assert_eq!(found, self.opening.by_id(id));
         match found {
@@ -108,7 +155,7 @@ impl Indexes {
         }
     }
 
-    fn ord(&mut self, ord: u64) {
+    pub fn ord(&mut self, ord: u64) {
         match self.opening.by_ord(self.terms, ord) {
             // the Rust panics below the first, and knows of no number of terms
             Err(no) => self.line(format!("o {ord} {no} 0 0 0 0")),
@@ -121,7 +168,7 @@ impl Indexes {
     }
 
     /// By key: the id, and the id with the address.
-    fn key(&mut self, key: &[u8]) {
+    pub fn key(&mut self, key: &[u8]) {
         self.located(key);
         let rust = self.rust.as_ref().unwrap();
         let text = hex(key);
@@ -141,7 +188,7 @@ impl Indexes {
         }
     }
 
-    fn separator(&mut self, id: u64) {
+    pub fn separator(&mut self, id: u64) {
         match self.opening.place(id) {
             Some((offset, length)) => self.line(format!("p {id} 1 {offset} {length}")),
             None => self.line(format!("p {id} 0 0 0")),
@@ -149,13 +196,13 @@ impl Indexes {
     }
 
     /// Sets a record that may not belong to the current file.
-    fn record(&mut self, record: Opened) {
+    pub fn record(&mut self, record: Opened) {
         let text = numbers(&record.numbers());
         self.line(format!("m {}", text.trim_end()));
     }
 
     /// Lookups whose answers are left free.
-    fn free(&mut self, record: Opened) {
+    pub fn free(&mut self, record: Opened) {
         self.record(record);
         let last = record.n.wrapping_sub(1);
         for line in [
@@ -177,9 +224,10 @@ impl Indexes {
     pub fn look_up(&mut self, rng: &mut Numbers, some: usize) {
         assert_eq!(self.opening.no(), 0);
         let n = self.opening.record.n;
-        let chosen = around::ids(rng, n, some);
+        let version = self.opening.version;
+        let chosen = around::ids(version, rng, n, some);
         let mut ids = chosen.clone();
-        ids.extend([n, n.next_multiple_of(128), u64::MAX]);
+        ids.extend([n, n.next_multiple_of(version.group_len() as u64), u64::MAX]);
         for id in ids {
             self.id(id);
         }
@@ -209,16 +257,19 @@ pub fn rust(bytes: &[u8], opening: &Opening) -> Option<Index> {
     if opening.no() != 0 {
         return None;
     }
-    let index = Index::open(bytes);
+    let index = Index::open(opening.version, bytes);
     assert_eq!(opening.blocks.len(), opening.keys.len());
     for id in 0..=opening.record.n {
         assert_eq!(index.get_block(id), opening.by_id(id));
     }
+    let mut at = opening.place(0).unwrap().0 as usize;
     for (id, key) in opening.keys.iter().enumerate() {
         assert_eq!(index.locate_with_key(key), Some(id as u64));
-        let (at, length) = opening.place(id as u64).unwrap();
-        assert_eq!(&bytes[at as usize..(at + length) as usize], key);
+        assert_eq!(&bytes[at..at + key.len()], key);
+        at += key.len();
     }
+    let last = opening.place(opening.record.n - 1).unwrap();
+    assert_eq!(last.0 + last.1, at as u64);
     Some(index)
 }
 
@@ -226,33 +277,38 @@ pub fn list() -> String {
     let mut indexes = Indexes {
         text: String::new(),
         bytes: Vec::new(),
-        opening: Opening::default(),
+        opening: Opening::new(V3),
         terms: 0,
         rust: None,
         opened: 0,
         seen: BTreeSet::new(),
         seen_with_28: BTreeSet::new(),
+        seen_with_30: BTreeSet::new(),
     };
     for line in [
         "Indexes that are opened and lookups in them, written by oracle/write-answers. Numbers are decimal, a byte string is x and",
         "its lower-case hex. A call's number is document 01's or 02's; after a refusal all else is 0.",
-        "f FILE TERMS NO N DIRECTORY LEN RECORDS LEN ADDRESSES LEN TERMS: opening a file, which the next lines are about, with so many",
-        "terms: the number, n, the places of the directory, the group records and the address bytes, and the number of terms again. All",
-        "from a plain model of documents 01 and 02.",
-        "c AT BYTES TERMS NO N ..: opening the file with these bytes in place of its own from AT on; the file itself stays. From the",
-        "model.",
-        "g COUNT TERMS NO N ..: as f; the file by the rule: COUNT keys, key i the 3 bytes of i, highest first; groups of offset 0, first",
-        "start and first ordinal 128 x the group's number, slopes 1, widths 1; 32 address bytes FF. So block i is i..i + 1 from",
-        "ordinal i on. From the model.",
-        "t TERMS NO N ..: opening the same file again, with so many terms; the next lines are about this opening. From the model.",
-        "Lookups in the file as it was opened. Blocks and ids are those of the Rust (tantivy-sstable 0.27.0), its FST a stand-in:",
+        "f FILE VERSION TERMS NO N DIRECTORY LEN RECORDS LEN ADDRESSES LEN TERMS VERSION: opening a file, which the next lines are",
+        "about, with this version and so many terms: the number, n, the places of the directory, the group records and the address",
+        "bytes, and the number of terms and the version again. All from a plain model of documents 01 and 02; 30 where VERSION is neither",
+        "3 nor 4.",
+        "c VERSION AT BYTES TERMS NO N ..: opening the file with these bytes in place of its own from AT on; the file itself stays. From",
+        "the model.",
+        "g VERSION COUNT TERMS NO N ..: as f; the file by the rule: COUNT keys, key i the 3 bytes of i, highest first; groups of offset 0,",
+        "first start and first ordinal the first block's id, slopes 1, widths 1; for version 3 32 address bytes FF, for version 4 64. So",
+        "block i is i..i + 1 from ordinal i on. From the model.",
+        "t VERSION TERMS NO N ..: opening the same file again, with this version and so many terms; the next lines are about this opening.",
+        "From the model.",
+        "Lookups in the file as it was opened. Blocks and ids are those of the Rust (tantivy-sstable 0.27.0), its FST a stand-in, and for",
+        "version 4 its STORE_BLOCK_LEN 256:",
         "i ID NO START END ORD: by id, BlockAddrStore::get; 17 where that finds nothing",
         "o ORDINAL NO ID START END ORD: by ordinal, binary_search_ord; 18 below the first, where the Rust panics, and 29 from the number",
         "of terms on, where it gives the last block, from the model",
         "k KEY NO ID: by key, locate_with_key of SSTableIndexV3; 19 where that finds nothing",
         "a KEY NO ID START END ORD: an address by key, get_block_with_key of SSTableIndexV3; 19 likewise",
         "p ID FOUND OFFSET LEN: a separator by id, its place in the file; FOUND is 0 or 1. From the model.",
-        "m N DIRECTORY LEN RECORDS LEN ADDRESSES LEN TERMS: sets the record for the next lines, which may not belong to the file",
+        "m N DIRECTORY LEN RECORDS LEN ADDRESSES LEN TERMS VERSION: sets the record for the next lines, which may not belong to the file;",
+        "one of another version than 3 and 4 gets 20 in each lookup, and no separator",
         "I ID, O ORDINAL, K KEY, A KEY, P ID: a lookup whose answer is left free. It has number 0 with an id below n and",
         "start <= end < 2^48, or the call's own row, or 20; a separator is some part of the file. By ordinal 0 comes up below TERMS",
         "alone; 18 below F alone, the number in the 8 bytes from RECORDS + 16 on; 29 alone where neither F nor TERMS is above.",
@@ -265,7 +321,9 @@ pub fn list() -> String {
     foreign_files(&mut indexes);
     by_rule(&mut indexes);
     other_terms(&mut indexes);
+    other_versions::openings(&mut indexes);
     left_free(&mut indexes);
+    other_versions::records(&mut indexes);
     check_seen(&indexes);
     indexes.text
 }
@@ -274,6 +332,8 @@ pub fn list() -> String {
 fn check_seen(indexes: &Indexes) {
     let with_28 = (10..=16).chain([TERMS_BAD]).collect();
     assert_eq!(indexes.seen_with_28, with_28);
+    let with_30 = [0].into_iter().chain(10..=16).chain([TERMS_BAD]).collect();
+    assert_eq!(indexes.seen_with_30, with_30);
     for hit in [
         (10, "under 8 bytes"),
         (10, "directory length"),
@@ -319,8 +379,14 @@ fn worked_case(indexes: &mut Indexes) {
     let bytes = worked_file().bytes();
     assert_eq!(bytes.len(), 85);
     assert_eq!(indexes.open(&bytes), 0);
-    assert_eq!(indexes.reopen(12), 0);
-    for id in [0, 1, 2, 3, 4, 128, 1 << 32, u64::MAX] {
+    for version in VERSIONS {
+        assert_eq!(indexes.reopen_as(version.number(), 12), 0);
+        worked_lookups(indexes);
+    }
+}
+
+fn worked_lookups(indexes: &mut Indexes) {
+    for id in [0, 1, 2, 3, 4, 128, 256, 1 << 32, u64::MAX] {
         indexes.id(id);
         indexes.separator(id);
     }
@@ -372,7 +438,7 @@ fn written(indexes: &mut Indexes) {
             two(b"\x00", b"\x00\x00\x00"),
         ),
     ] {
-        assert_eq!(indexes.open(&File::written(&blocks, &keys).bytes()), 0);
+        assert_eq!(indexes.open(&File::written(V3, &blocks, &keys).bytes()), 0);
         indexes.look_up(&mut rng, 0);
     }
     indexes.comment("keys of 1,024 bytes, and keys with runs of FF");
@@ -384,7 +450,7 @@ fn written(indexes: &mut Indexes) {
         long(0xff, 1023, 0xff),
     ];
     let blocks = touching(5, &[3, 0, 1000, 7], 2, &[1, 5, 900]);
-    assert_eq!(indexes.open(&File::written(&blocks, &keys).bytes()), 0);
+    assert_eq!(indexes.open(&File::written(V3, &blocks, &keys).bytes()), 0);
     for id in 0..5 {
         indexes.id(id);
         indexes.separator(id);
@@ -415,28 +481,42 @@ fn written(indexes: &mut Indexes) {
     ];
     let keys: Vec<Vec<u8>> = runs.iter().map(|key| key.to_vec()).collect();
     let blocks = touching(0, &[9, 9, 9, 9, 9, 9], 10, &[10; 5]);
-    assert_eq!(indexes.open(&File::written(&blocks, &keys).bytes()), 0);
+    assert_eq!(indexes.open(&File::written(V3, &blocks, &keys).bytes()), 0);
     indexes.look_up(&mut rng, 0);
     indexes.comment("some blocks");
     for count in 4..=8 {
         let (length_bits, step_bits) = (rng.within(2, 42), rng.within(0, 42));
         let blocks = blocks::random(&mut rng, count, length_bits, step_bits, 20, 20);
         let keys = rising(&mut rng, count, 5);
-        assert_eq!(indexes.open(&File::written(&blocks, &keys).bytes()), 0);
+        assert_eq!(indexes.open(&File::written(V3, &blocks, &keys).bytes()), 0);
         indexes.look_up(&mut rng, 0);
     }
-    indexes.comment("up to a group's 128 blocks, one group and more");
-    for (count, length_bits, step_bits) in [
-        (127, 3, 0),
-        (128, 20, 9),
-        (129, 4, 2),
-        (256, 2, 1),
-        (257, 9, 5),
+    indexes.comment(
+        "up to a group's 128 or 256 blocks, one group and more; opened with the other version too",
+    );
+    for (version, count, length_bits, step_bits) in [
+        (V3, 127, 3, 0),
+        (V3, 128, 20, 9),
+        (V3, 129, 4, 2),
+        (V3, 256, 2, 1),
+        (V3, 257, 9, 5),
+        (V4, 2, 9, 3),
+        (V4, 3, 30, 20),
+        (V4, 128, 4, 4),
+        (V4, 129, 8, 0),
+        (V4, 255, 3, 2),
+        (V4, 256, 20, 9),
+        (V4, 257, 9, 5),
+        (V4, 513, 2, 1),
     ] {
         let blocks = blocks::random(&mut rng, count, length_bits, step_bits, 30, 20);
         let keys = rising(&mut rng, count, 4);
-        assert_eq!(indexes.open(&File::written(&blocks, &keys).bytes()), 0);
+        let bytes = File::written(version, &blocks, &keys).bytes();
+        assert_eq!(indexes.open_as(version, &bytes), 0);
         indexes.look_up(&mut rng, 3);
+        let no = if count <= 128 { 0 } else { 14 };
+        let other = version.other().number();
+        assert_eq!(indexes.reopen_as(other, indexes.terms), no);
     }
 }
 
@@ -454,30 +534,39 @@ fn foreign_files(indexes: &mut Indexes) {
         let group = foreign::group(&mut rng, &blocks, offset, round % 3 == 0);
         let behind = rng.pick(&[0, 0, 1, 9]);
         let junk = rng.bytes((offset + group.length()) as u64 + behind);
-        open_foreign(indexes, &keys, &[group], junk);
+        let version = VERSIONS[round / 3 % 2];
+        open_foreign(indexes, version, &keys, &[group], junk);
         indexes.look_up(&mut rng, 0);
     }
+    for version in VERSIONS {
+        more_groups(indexes, &mut rng, version);
+        widest(indexes, &mut rng, version);
+    }
+}
+
+fn more_groups(indexes: &mut Indexes, rng: &mut Numbers, version: Version) {
     indexes.comment("foreign files of more groups: gaps, another order, one set of fields for two groups, groups that overlap");
-    let blocks = blocks::random(&mut rng, 131, 5, 2, 20, 20);
-    let keys = rising(&mut rng, 131, 3);
-    let second = foreign::near(&mut rng, &blocks[128..], 2);
-    let first = foreign::near(&mut rng, &blocks[..128], 7 + second.length());
+    let group = version.group_len();
+    let blocks = blocks::random(rng, group as u64 + 3, 5, 2, 20, 20);
+    let keys = rising(rng, group as u64 + 3, 4);
+    let second = foreign::near(rng, &blocks[group..], 2);
+    let first = foreign::near(rng, &blocks[..group], 7 + second.length());
     let junk = rng.bytes((first.offset + first.length() + 2) as u64);
-    open_foreign(indexes, &keys, &[first, second], junk);
-    indexes.look_up(&mut rng, 2);
-    let lengths: Vec<u64> = (0..129).map(|i| if i == 128 { 1 } else { i % 5 }).collect();
-    let blocks = touching(70, &[&lengths[..128], &lengths[..3]].concat(), 5, &[1; 130]);
-    let first = foreign::near(&mut rng, &blocks[..128], 1);
+    open_foreign(indexes, version, &keys, &[first, second], junk);
+    indexes.look_up(rng, 2);
+    let lengths: Vec<u64> = (0..group + 3).map(|i| (i % group % 5) as u64).collect();
+    let blocks = touching(70, &lengths, 5, &vec![1; group + 2]);
+    let first = foreign::near(rng, &blocks[..group], 1);
     let shared = Group {
-        blocks: &blocks[128..],
+        blocks: &blocks[group..],
         ..first
     };
     let junk = rng.bytes(1 + first.length() as u64);
-    open_foreign(indexes, &rising(&mut rng, 131, 3), &[first, shared], junk);
-    indexes.look_up(&mut rng, 2);
-    let blocks = touching(9, &[6; 140], 3, &[2; 139]);
+    open_foreign(indexes, version, &keys, &[first, shared], junk);
+    indexes.look_up(rng, 2);
+    let blocks = touching(9, &vec![6; group + 3], 3, &vec![2; group + 2]);
     let same = Group {
-        blocks: &blocks[..128],
+        blocks: &blocks[..group],
         offset: 0,
         range_slope: 6,
         ord_slope: 2,
@@ -485,21 +574,21 @@ fn foreign_files(indexes: &mut Indexes) {
         ord_width: 4,
     };
     let inside = Group {
-        blocks: &blocks[128..],
+        blocks: &blocks[group..],
         offset: 60,
         ..same
     };
-    open_foreign(
-        indexes,
-        &rising(&mut rng, 140, 3),
-        &[same, inside],
-        vec![0; same.length()],
-    );
-    indexes.look_up(&mut rng, 2);
+    let zeros = vec![0; same.length()];
+    open_foreign(indexes, version, &keys, &[same, inside], zeros);
+    indexes.look_up(rng, 2);
+}
+
+fn widest(indexes: &mut Indexes, rng: &mut Numbers, version: Version) {
     indexes.comment("the widest fields in a full group");
-    let blocks = blocks::random(&mut rng, 129, 40, 40, 20, 20);
+    let group = version.group_len();
+    let blocks = blocks::random(rng, group as u64 + 1, 40, 39, 20, 20);
     let wide = Group {
-        blocks: &blocks[..128],
+        blocks: &blocks[..group],
         offset: 1,
         range_slope: u32::MAX,
         ord_slope: 0,
@@ -507,18 +596,25 @@ fn foreign_files(indexes: &mut Indexes) {
         ord_width: 55,
     };
     let second = Group {
-        blocks: &blocks[128..],
+        blocks: &blocks[group..],
         offset: 1 + wide.length(),
         ..wide
     };
     let junk = rng.bytes((second.offset + second.length()) as u64);
-    open_foreign(indexes, &rising(&mut rng, 129, 3), &[wide, second], junk);
-    indexes.look_up(&mut rng, 2);
+    let keys = rising(rng, group as u64 + 1, 4);
+    open_foreign(indexes, version, &keys, &[wide, second], junk);
+    indexes.look_up(rng, 2);
 }
 
-fn open_foreign(indexes: &mut Indexes, keys: &[Vec<u8>], groups: &[Group], junk: Vec<u8>) {
+fn open_foreign(
+    indexes: &mut Indexes,
+    version: Version,
+    keys: &[Vec<u8>],
+    groups: &[Group],
+    junk: Vec<u8>,
+) {
     let file = File::new(keys, &foreign::store(groups, junk));
-    assert_eq!(indexes.open(&file.bytes()), 0);
+    assert_eq!(indexes.open_as(version, &file.bytes()), 0);
     let blocks: Vec<Block> = groups
         .iter()
         .flat_map(|group| group.blocks.to_vec())
@@ -530,29 +626,31 @@ fn open_foreign(indexes: &mut Indexes, keys: &[Vec<u8>], groups: &[Group], junk:
 /// Files by the rule in the list's comment.
 fn by_rule(indexes: &mut Indexes) {
     indexes.comment("the most blocks, and one more");
-    for (count, no) in [(129u64, 0), (65_535, 0), (65_537, 12), (65_536, 0)] {
-        let file = files::by_rule(count);
-        assert_eq!(indexes.open_as(&file.bytes(), format!("g {count}")), no);
-    }
-    for id in [
-        0,
-        127,
-        128,
-        32_767,
-        32_768,
-        65_407,
-        65_408,
-        65_535,
-        65_536,
-        u64::MAX,
-    ] {
-        indexes.id(id);
-        indexes.ord(id);
-        indexes.separator(id);
-        let key = (id.min(1 << 23) as u32).to_be_bytes();
-        indexes.key(&key[1..]);
-        indexes.key(&[&key[1..], &[0]].concat());
-        indexes.key(&key[1..3]);
+    for version in VERSIONS {
+        for (count, no) in [(129u64, 0), (65_535, 0), (65_537, 12), (65_536, 0)] {
+            assert_eq!(indexes.open_by_rule(version, count), no);
+        }
+        let group = version.group_len() as u64;
+        for id in [
+            0,
+            group - 1,
+            group,
+            32_767,
+            32_768,
+            65_535 - group,
+            65_536 - group,
+            65_535,
+            65_536,
+            u64::MAX,
+        ] {
+            indexes.id(id);
+            indexes.ord(id);
+            indexes.separator(id);
+            let key = (id.min(1 << 23) as u32).to_be_bytes();
+            indexes.key(&key[1..]);
+            indexes.key(&[&key[1..], &[0]].concat());
+            indexes.key(&key[1..3]);
+        }
     }
 }
 
@@ -563,18 +661,25 @@ fn other_terms(indexes: &mut Indexes) {
     let mut rng = Numbers::from_seed(75);
     let top = touching(LIMIT - 3, &[1, 1], LIMIT - 9, &[8]);
     let mut made = vec![worked_file(), smallest()];
-    made.push(File::written(&top, &[b"a".to_vec(), b"b".to_vec()]));
+    made.push(File::written(V3, &top, &[b"a".to_vec(), b"b".to_vec()]));
     for count in [3, 6] {
         let blocks = blocks::random(&mut rng, count, 9, 6, 20, 20);
-        made.push(File::written(&blocks, &rising(&mut rng, count, 4)));
+        made.push(File::written(V3, &blocks, &rising(&mut rng, count, 4)));
     }
     for file in made {
         assert_eq!(indexes.open(&file.bytes()), 0);
         each_number(indexes);
     }
-    for count in [128, 129, 65_536] {
-        let file = files::by_rule(count).bytes();
-        assert_eq!(indexes.open_as(&file, format!("g {count}")), 0);
+    for (version, count) in [
+        (V3, 128),
+        (V3, 129),
+        (V3, 65_536),
+        (V4, 129),
+        (V4, 256),
+        (V4, 257),
+        (V4, 65_536),
+    ] {
+        assert_eq!(indexes.open_by_rule(version, count), 0);
         each_number(indexes);
     }
 }
@@ -627,7 +732,7 @@ fn left_free(indexes: &mut Indexes) {
             indexes.free(record.with_terms(terms));
         }
     }
-    let file = two_group_file(2);
+    let file = two_group_file(V3, 2);
     let bytes = file.with(|file| file.widths(1, 57, 0)).bytes();
     assert_eq!(indexes.open(&bytes), 15);
     for terms in [1 << 48, 129] {
@@ -637,7 +742,9 @@ fn left_free(indexes: &mut Indexes) {
         indexes.line("I 129".to_string());
     }
     indexes.comment("left free: no bytes at all, with the record of the 85 bytes and with none");
-    let right = opening::open(&worked_file().bytes()).record.with_terms(12);
+    let right = opening::open(V3, &worked_file().bytes())
+        .record
+        .with_terms(12);
     assert_eq!(indexes.open(b""), 10);
     indexes.free(right);
     indexes.free(Opened::default());

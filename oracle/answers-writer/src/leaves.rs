@@ -143,12 +143,16 @@ fn slopes(list: &mut List, rng: &mut Numbers) {
         let bits = rng.pick(&[3, 8, 20, 33, 48]);
         cases.push((0..count).map(|_| rng.bits(bits)).collect());
     }
-    // full groups: 128 range points, 127 ordinal points
+    // full groups: 128 or 256 range points, 127 or 255 ordinal points
     cases.push(vec![0; 128]);
     cases.push((1..=127).collect());
     cases.push(rising(rng, 127, 2));
     cases.push(rising(rng, 128, 4));
     cases.push(rising(rng, 128, 14));
+    cases.push((1..=255).collect());
+    cases.push(rising(rng, 255, 2));
+    cases.push(rising(rng, 256, 4));
+    cases.push(rising(rng, 256, 14));
     for values in cases {
         assert!(values.iter().all(|&value| value < LIMIT));
         let (slope, width) = access::find_best_slope(&values);
@@ -342,6 +346,13 @@ fn groups(list: &mut List, rng: &mut Numbers) {
     for count in [20, 31, 40] {
         let (r, o) = (rng.within(1, 6), rng.within(1, 4));
         add(r, o, &some(rng, r, o, count));
+    }
+    // full groups of 128 and 256 blocks; with the widest fields the last bits are 14,280 and 28,616
+    for (count, bits) in [(127, 14_280), (255, 28_616)] {
+        assert_eq!((56 + 56) * count + 56, bits);
+        add(1, 1, &some(rng, 1, 1, count));
+        add(3, 2, &some(rng, 3, 2, count));
+        add(56, 56, &some(rng, 56, 56, count));
     }
     add(1, 1, &some(rng, 1, 1, 127));
     add(3, 2, &some(rng, 3, 2, 127));

@@ -1,8 +1,9 @@
 //! A list of calls and questions in bytes, as crate `replay` takes it: the settings' length and the settings, which are the number
-//! of terms; how many calls and how many questions, the calls, the questions. Each begins with its tag; a byte string has its
-//! length in front.
+//! of terms and the version; how many calls and how many questions, the calls, the questions. Each begins with its tag; a byte string
+//! has its length in front.
 
-use tantivy_sstable::access::Block;
+use model::rust::Block;
+use model::version::Version;
 
 /// `replay`'s own numbers: the bytes aren't a list; the answers have no room.
 pub const NO_LIST: u64 = 101;
@@ -24,27 +25,42 @@ pub enum Question {
     Mark(u64, Vec<u8>),
 }
 
-/// Bytes of the settings: the number of terms.
-pub const SETTINGS_LEN: u32 = 8;
+/// Bytes of the settings: the number of terms and the version.
+pub const SETTINGS_LEN: u32 = 16;
+
+/// What a list's index is finished and opened with.
+#[derive(Clone, Copy, Debug, PartialEq)]
+pub struct Settings {
+    /// any number, of which two are versions
+    pub version: u64,
+    pub terms: u64,
+}
+
+impl Settings {
+    pub fn of(version: Version, terms: u64) -> Settings {
+        let version = version.number();
+        Settings { version, terms }
+    }
+}
 
 /// What the bytes say.
 #[derive(Clone, Debug, PartialEq)]
 pub struct List {
-    /// the index is opened with so many
-    pub terms: u64,
+    pub settings: Settings,
     pub calls: Vec<Call>,
     pub questions: Vec<Question>,
 }
 
-pub fn encode(terms: u64, calls: &[Call], questions: &[Question]) -> Vec<u8> {
+pub fn encode(settings: Settings, calls: &[Call], questions: &[Question]) -> Vec<u8> {
     let counts = [calls.len() as u32, questions.len() as u32];
     let mut bytes = SETTINGS_LEN.to_le_bytes().to_vec();
-    bytes.extend(terms.to_le_bytes());
+    bytes.extend(settings.terms.to_le_bytes());
+    bytes.extend(settings.version.to_le_bytes());
     bytes.extend(counts.map(u32::to_le_bytes).concat());
     bytes.extend(calls.iter().flat_map(call_bytes));
     bytes.extend(questions.iter().flat_map(question_bytes));
     let list = List {
-        terms,
+        settings,
         calls: calls.to_vec(),
         questions: questions.to_vec(),
     };
@@ -87,6 +103,7 @@ pub fn decode(bytes: &[u8]) -> Option<List> {
         return None;
     }
     let terms = number(&mut rest)?;
+    let version = number(&mut rest)?;
     let counts = (small(&mut rest)?, small(&mut rest)?);
     // a count is beyond the bytes at the first item that isn't there, so nothing is set aside for it
     let mut calls = Vec::new();
@@ -98,7 +115,7 @@ pub fn decode(bytes: &[u8]) -> Option<List> {
         questions.push(take_question(&mut rest)?);
     }
     rest.is_empty().then_some(List {
-        terms,
+        settings: Settings { version, terms },
         calls,
         questions,
     })

@@ -2,12 +2,13 @@
 
 use model::automaton::Table;
 use model::blocks;
-use model::faults::others;
-use model::files::{Fault, File, rising, smallest, two_group_file, worked_file};
+use model::faults::{other_versions, others};
+use model::files::{Fault, File, rising, short_keys, smallest, two_group_file, worked_file};
 use model::numbers::Numbers;
 use model::opening::{self, Opened};
 use model::patterns::{drawn, nearby, ring, small};
 use model::settings::LIMIT;
+use model::version::{V3, V4};
 use tantivy_sstable::access;
 
 use crate::patterns::Patterns;
@@ -58,16 +59,24 @@ pub fn files(patterns: &mut Patterns) {
     patterns.comment("empty first separator, shortened ones");
     for keys in key_lists(&mut rng) {
         let blocks = blocks::random(&mut rng, keys.len() as u64, 8, 4, 10, 10);
-        assert_eq!(patterns.open(&File::written(&blocks, &keys).bytes()), 0);
+        assert_eq!(patterns.open(&File::written(V3, &blocks, &keys).bytes()), 0);
         let count = if keys.len() < 8 { 1 } else { 2 };
         for _ in 0..count {
             listed(patterns, &mut rng, &keys);
         }
     }
     patterns.comment("a file of two groups");
-    assert_eq!(patterns.open(&two_group_file(2).bytes()), 0);
-    let keys: Vec<Vec<u8>> = (0..130).map(|i| vec![i as u8]).collect();
-    listed(patterns, &mut rng, &keys);
+    assert_eq!(patterns.open(&two_group_file(V3, 2).bytes()), 0);
+    listed(patterns, &mut rng, &short_keys(130));
+    patterns.comment("files of version 4: one group, and two");
+    for count in [130, 258] {
+        let keys = short_keys(count);
+        let blocks = blocks::random(&mut rng, count as u64, 3, 1, 10, 10);
+        let bytes = File::written(V4, &blocks, &keys).bytes();
+        assert_eq!(patterns.open_as(V4, &bytes), 0);
+        listed(patterns, &mut rng, &keys);
+    }
+    assert_eq!(patterns.open_as(V4, &two_group_file(V3, 2).bytes()), 14);
 }
 
 /// Automata of each kind, made for the keys.
@@ -152,7 +161,7 @@ pub fn left_free(patterns: &mut Patterns) {
         free(patterns, record);
     }
     patterns.comment("left free: no bytes at all, with the record of the 85 bytes and with none");
-    let right = opening::open(&worked_file().bytes()).record;
+    let right = opening::open(V3, &worked_file().bytes()).record;
     assert_eq!(patterns.open(b""), 10);
     free(patterns, right);
     free(patterns, Opened::default());
@@ -161,6 +170,7 @@ pub fn left_free(patterns: &mut Patterns) {
     for record in others(right) {
         free(patterns, record);
     }
+    of_other_versions(patterns, right);
     patterns.comment("left free: the same with automata that are refused");
     let one = Table::new(vec![1], vec![0; 256]).bytes();
     let (mut flag, mut next) = (one.clone(), one);
@@ -183,6 +193,26 @@ pub fn left_free(patterns: &mut Patterns) {
     for room in [3, 2, 4, 256] {
         patterns.listing(room);
     }
+}
+
+/// Records of the 85 bytes with other versions.
+fn of_other_versions(patterns: &mut Patterns, right: Opened) {
+    patterns.comment("the record of another version: 20 before all others");
+    for bytes in [&[][..], &Table::new(vec![1], vec![0; 256]).bytes()] {
+        patterns.set_bytes(bytes);
+        for record in other_versions(right) {
+            patterns.set_record(record);
+            for room in [256, 2] {
+                match record.unfit(worked_file().bytes().len()) {
+                    true => patterns.listing(room),
+                    false => patterns.free(room),
+                }
+            }
+        }
+    }
+    assert_eq!(patterns.open_as(V4, &worked_file().bytes()), 0);
+    patterns.listing(3);
+    assert_eq!(patterns.open(&worked_file().bytes()), 0);
 }
 
 fn free(patterns: &mut Patterns, record: Opened) {

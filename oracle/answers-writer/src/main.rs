@@ -11,6 +11,7 @@ mod intervals;
 mod leaves;
 mod list_bytes;
 mod listings;
+mod other_versions;
 mod patterns;
 mod refused;
 mod refused_tables;
@@ -22,6 +23,9 @@ mod worked;
 
 use std::path::Path;
 use std::{env, fs};
+
+/// A text that has no byte of room in a program's area isn't replayed.
+const LONGEST_TEXT: usize = 655_359;
 
 fn main() {
     let folder = env::args().nth(1).expect("the folder to write to");
@@ -35,21 +39,31 @@ fn main() {
     }
     worked::check();
     let (replays, answers) = replays::lists();
-    let lists = [
-        ("leaves.txt", leaves::list(), 60_000),
-        ("stores.txt", stores::list(), 200_000),
-        ("addresses.txt", addresses::list(), 200_000),
-        ("calls.txt", calls::list(), 65_000),
-        // these two are one text for the program that replays them
-        ("indexes.txt", indexes::list(), 250_000),
-        ("batches.txt", batches::list(), 77_679),
-        ("patterns.txt", patterns::list(), 262_143),
-        ("replays.txt", replays, 327_679),
-        ("replayed.txt", answers, 400_000),
+    // the lists of one entry are one text for the program that replays them
+    let texts = [
+        vec![("leaves.txt", leaves::list())],
+        vec![
+            ("stores.txt", stores::list()),
+            ("addresses.txt", addresses::list()),
+        ],
+        vec![("calls.txt", calls::list())],
+        vec![
+            ("indexes.txt", indexes::list()),
+            ("batches.txt", batches::list()),
+        ],
+        vec![("patterns.txt", patterns::list())],
+        vec![("replays.txt", replays)],
+        vec![("replayed.txt", answers)],
     ];
-    for (name, list, most) in lists {
-        fs::write(Path::new(&folder).join(name), &list).expect("the folder can be written to");
-        assert!(list.len() <= most, "{name} has {} bytes", list.len());
+    for lists in texts {
+        let len: usize = lists.iter().map(|list| list.1.len()).sum();
+        for (name, list) in lists {
+            assert!(
+                len <= LONGEST_TEXT,
+                "{name} with what it is joined to has {len} bytes"
+            );
+            fs::write(Path::new(&folder).join(name), &list).expect("the folder can be written to");
+        }
     }
     folder::write(Path::new(&folder));
 }

@@ -5,7 +5,8 @@ use std::fmt::Write;
 
 use model::automaton::{Interval, Table, mark, number, room, table_hits};
 use model::opening::{self, Hit, Opened, Opening};
-use tantivy_sstable::access::Index;
+use model::rust::Index;
+use model::version::{V3, Version};
 
 use crate::intervals;
 use crate::listings;
@@ -20,6 +21,9 @@ pub struct Patterns {
     hits: Vec<Hit>,
     table: Option<Table>,
     opening: Opening,
+    /// the file's length, and the record that the next listing uses
+    len: usize,
+    record: Opened,
     /// the Rust's index, if the file opens
     rust: Option<Index>,
     /// what was hit together in a call of each kind
@@ -142,14 +146,21 @@ impl Patterns {
         self.example(interval, room(interval));
     }
 
-    /// Opens a file.
+    /// Opens a file of version 3.
     pub fn open(&mut self, bytes: &[u8]) -> u64 {
-        self.opening = opening::open(bytes);
+        self.open_as(V3, bytes)
+    }
+
+    /// Of any version.
+    pub fn open_as(&mut self, version: Version, bytes: &[u8]) -> u64 {
+        self.opening = opening::open(version, bytes);
+        self.len = bytes.len();
+        self.record = self.opening.record;
         let no = self.opening.no();
-        self.rust = (no == 0).then(|| Index::open(bytes));
+        self.rust = (no == 0).then(|| Index::open(version, bytes));
         self.calls.clear();
         let n = self.opening.answer(self.opening.record.terms).n;
-        self.line(format!("f {} {n}", hex(bytes)));
+        self.line(format!("f {} {} {n}", hex(bytes), version.number()));
         no
     }
 
@@ -165,6 +176,7 @@ impl Patterns {
     /// Sets the record.
     pub fn set_record(&mut self, record: Opened) {
         let text = numbers(&record.numbers());
+        self.record = record;
         self.calls.clear();
         self.line(format!("m {}", text.trim_end()));
     }
@@ -183,9 +195,12 @@ impl Patterns {
         marks
     }
 
-    /// A listing of the current file, with its own record.
+    /// A listing of the current file, with its own record or with one that fails by itself.
     pub fn listing(&mut self, room: usize) {
         assert!(self.rust.is_some());
+        if self.record.unfit(self.len) {
+            return self.call('l', vec![(20, "record")], format!("l {room} 20 0 x"));
+        }
         let mut hits = self.hits.clone();
         if room < self.n() {
             hits.push((24, "marks"));
@@ -219,7 +234,9 @@ pub fn list() -> String {
         bytes: Vec::new(),
         hits: table_hits(&[]),
         table: None,
-        opening: Opening::default(),
+        opening: Opening::new(V3),
+        len: 0,
+        record: Opened::default(),
         rust: None,
         seen: BTreeSet::new(),
         calls: HashSet::new(),
@@ -240,10 +257,11 @@ pub fn list() -> String {
         "b HAS START END NO MARK: can_block_match_automaton of the Rust (tantivy-sstable 0.27.0); a plain search for an accepted",
         "string gives the same",
         "e HAS START END ROOM NO: an example, written to ROOM bytes. It has number 25 where the mark is 0.",
-        "f FILE N: opens a file, with one term more than its last first ordinal, whose record the next lines use; its count of blocks,",
-        "0 if it is refused",
-        "l ROOM NO COUNT MARKS: a listing to ROOM bytes; the marks are get_block_for_automaton of SSTableIndexV3, its FST a stand-in",
-        "m N DIRECTORY LEN RECORDS LEN ADDRESSES LEN TERMS: sets the record for the next lines, which may not belong to the file",
+        "f FILE VERSION N: opens a file, with this version and one term more than its last first ordinal, whose record the next lines",
+        "use; its count of blocks, 0 if it is refused",
+        "l ROOM NO COUNT MARKS: a listing to ROOM bytes; the marks are get_block_for_automaton of SSTableIndexV3, its FST a stand-in, and",
+        "for version 4 its STORE_BLOCK_LEN 256. 20 with a record of another version than 3 and 4",
+        "m N DIRECTORY LEN RECORDS LEN ADDRESSES LEN TERMS VERSION: sets the record for the next lines, which may not belong to the file",
         "L ROOM: a listing whose answer is left free. It has a number of 20 to 24, or marks of 0 and 1 and the count of its ones.",
     ] {
         patterns.comment(line);

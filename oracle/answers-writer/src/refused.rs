@@ -7,7 +7,8 @@ use model::faults::faults;
 use model::files::{Fault, File, keys_of_one_byte, smallest, two_group_file, worked_file};
 use model::foreign::{self, Group};
 use model::numbers::Numbers;
-use model::settings::{GROUP_LEN, LIMIT};
+use model::settings::LIMIT;
+use model::version::V3;
 
 use crate::indexes::Indexes;
 
@@ -81,14 +82,14 @@ fn broken(indexes: &mut Indexes) {
         assert_eq!(indexes.open(&file.with(fault).bytes()), row);
     }
     indexes.comment("row 12 alone: no block, one block, a key of 1,025 bytes");
-    let none = File::new(&[], &blocks::store(&[]));
+    let none = File::new(&[], &blocks::store(V3, &[]));
     assert_eq!(indexes.open(&none.bytes()), 12);
     let blocks = touching(0, &[1, 1], 0, &[1]);
-    let one = File::new(&[b"a".to_vec()], &blocks::store(&blocks[..1]));
+    let one = File::new(&[b"a".to_vec()], &blocks::store(V3, &blocks[..1]));
     assert_eq!(indexes.open(&one.bytes()), 12);
     let keys = [vec![0x61; 1025], vec![0x62]];
     assert_eq!(
-        indexes.open(&File::new(&keys, &blocks::store(&blocks)).bytes()),
+        indexes.open(&File::new(&keys, &blocks::store(V3, &blocks)).bytes()),
         12
     );
 }
@@ -147,7 +148,7 @@ fn pairs(indexes: &mut Indexes) {
 fn two_groups(indexes: &mut Indexes) {
     indexes.comment("two groups: row 15 over all groups before row 16 of any block, and the joint between the groups");
     let mut rng = Numbers::from_seed(72);
-    let file = two_group_file(2);
+    let file = two_group_file(V3, 2);
     assert_eq!(indexes.open(&file.bytes()), 0);
     indexes.look_up(&mut rng, 0);
     let faults: [(u64, Fault); 20] = [
@@ -197,7 +198,7 @@ fn two_groups(indexes: &mut Indexes) {
         assert_eq!(indexes.change(&file.with(change).bytes()), 0);
     }
     indexes.comment("a second group of one block, where no ordinal is read");
-    let one = two_group_file(1);
+    let one = two_group_file(V3, 1);
     assert_eq!(indexes.open(&one.bytes()), 0);
     indexes.look_up(&mut rng, 0);
     let faults: [(u64, Fault); 7] = [
@@ -239,7 +240,7 @@ fn one_part(indexes: &mut Indexes) {
         let blocks = touching(1000, &vec![2; count], 1000, &vec![2; count - 1]);
         let mut groups = Vec::new();
         let mut offset = 0;
-        for blocks in blocks.chunks(GROUP_LEN) {
+        for blocks in blocks.chunks(V3.group_len()) {
             // each field is the byte 128
             let group = Group {
                 blocks,
@@ -272,7 +273,7 @@ fn one_part(indexes: &mut Indexes) {
     }
     indexes.comment("one key as the one before it or behind it, one pair's offset or length");
     let count = 130;
-    let file = two_group_file(2);
+    let file = two_group_file(V3, 2);
     assert_eq!(indexes.open(&file.bytes()), 0);
     for i in [0, 1, 2, 63, 64, 65, 127, 128, 129] {
         for value in [i as u8 - u8::from(i > 0), i as u8 + 1] {

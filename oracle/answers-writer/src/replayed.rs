@@ -3,13 +3,15 @@
 
 use std::fmt::Write;
 
-use tantivy_sstable::access::{self, Index};
+use tantivy_sstable::access;
 
 use model::areas::{Areas, Entry, MARK, Machine, first, index};
 use model::automaton::{Table, mark, number, table_hits};
 use model::canonical;
 use model::opening::{self, Opening, TERMS_BAD};
+use model::rust::Index;
 use model::settings::{LONGEST_KEY, STRIDE};
+use model::version::{VERSION_BAD, Version};
 
 use crate::list_bytes::{Call, List, NO_LIST, NO_ROOM, Question, decode};
 use crate::text::hex;
@@ -139,13 +141,13 @@ pub fn entries(calls: &[Call]) -> (Vec<Entry>, usize) {
     (builder.machine.entries, keys)
 }
 
-/// Room for all that the calls take, the index and the answers, and no more.
-pub fn rooms(calls: &[Call], questions: usize) -> Rooms {
+/// Room for all that the calls take, the index of this version and the answers, and no more.
+pub fn rooms(version: Version, calls: &[Call], questions: usize) -> Rooms {
     let (entries, keys) = entries(calls);
     Rooms {
         blocks: STRIDE * entries.len(),
         keys,
-        out: index(&entries).0.len(),
+        out: index(version, &entries).0.len(),
         answers: 5 * (calls.len() + 2 + questions),
     }
 }
@@ -276,60 +278,90 @@ fn areas(builder: &Builder, index: &[u8], cells: &[Cells], rooms: Rooms) -> [u64
 
 fn run(mut builder: Builder, rooms: Rooms, list: &List) -> Replayed {
     let calls: Vec<u64> = list.calls.iter().map(|call| builder.make(call)).collect();
-    let (full, directory) = index(&builder.machine.entries);
-    let fits = full.len() <= rooms.out;
-    let finished = if fits {
-        [0, full.len() as u64, directory, 0, 0]
-    } else {
-        [9, 0, 0, 0, 0]
-    };
-    let bytes = if fits { full } else { Vec::new() };
-    let opening = opening::open(&bytes);
     let entries = &builder.machine.entries;
-    let written = fits && entries.len() > 1;
-    let enough = entries.last().is_some_and(|last| list.terms > last.0.ord);
-    let no = opening.number(list.terms);
+    let made = match Version::of(list.settings.version) {
+        Some(version) => made(version, list, entries, rooms.out),
+        None => Made::refused(VERSION_BAD, [VERSION_BAD; 2], list),
+    };
+    let alone = |no: u64| [no, 0, 0, 0, 0];
+    let mut cells: Vec<Cells> = calls.iter().copied().map(alone).collect();
+    let [opening, check] = made.opening;
+    cells.extend([made.finish, [opening, check, 0, 0, 0]]);
+    cells.extend(&made.questions);
+    Replayed {
+        no: 0,
+        areas: areas(&builder, &made.index, &cells, rooms),
+        calls,
+        finish: made.finish[0],
+        opening,
+        questions: made.questions,
+        cells,
+        index: made.index,
+    }
+}
+
+/// What comes behind the calls.
+struct Made {
+    finish: Cells,
+    /// opening's number and the check's
+    opening: [u64; 2],
+    questions: Vec<Cells>,
+    index: Vec<u8>,
+}
+
+impl Made {
+    /// A finish that is refused, and what then doesn't open.
+    fn refused(finish: u64, opening: [u64; 2], list: &List) -> Made {
+        Made {
+            finish: [finish, 0, 0, 0, 0],
+            opening,
+            questions: vec![[opening[0], 0, 0, 0, 0]; list.questions.len()],
+            index: Vec::new(),
+        }
+    }
+}
+
+/// The index of the entries in so many bytes, opened and asked.
+fn made(version: Version, list: &List, entries: &[Entry], room: usize) -> Made {
+    let (bytes, directory) = index(version, entries);
+    if bytes.len() > room {
+        return Made::refused(9, [10; 2], list);
+    }
+    let terms = list.settings.terms;
+    let opening = opening::open(version, &bytes);
+    let enough = entries.last().is_some_and(|last| terms > last.0.ord);
+    let no = opening.number(terms);
+    let check = canonical::number(&opening, &bytes);
     // what finish wrote opens where the terms are enough, and is canonical in any case
-    let due = match (written, enough) {
+    let due = match (entries.len() > 1, enough) {
         (false, _) => [10, 10],
         (true, false) => [TERMS_BAD, 0],
         (true, true) => [0, 0],
     };
-    let check = canonical::number(&opening, &bytes);
     assert_eq!([no, check], due);
-    let questions: Vec<Cells> = if no == 0 {
-        let read: Vec<Entry> = opening
-            .blocks
-            .iter()
-            .copied()
-            .zip(opening.keys.clone())
-            .collect();
-        assert_eq!(read, builder.machine.entries);
-        let opened = Opened {
-            rust: Index::open(&bytes),
-            bytes: bytes.clone(),
-            model: opening,
-            terms: list.terms,
-        };
-        list.questions
-            .iter()
-            .map(|question| opened.answer(question))
-            .collect()
-    } else {
-        vec![[no, 0, 0, 0, 0]; list.questions.len()]
+    let questions = match no {
+        0 => answers(opening, &bytes, list, entries),
+        _ => vec![[no, 0, 0, 0, 0]; list.questions.len()],
     };
-    let alone = |no: u64| [no, 0, 0, 0, 0];
-    let mut cells: Vec<Cells> = calls.iter().copied().map(alone).collect();
-    cells.extend([finished, [no, check, 0, 0, 0]]);
-    cells.extend(&questions);
-    Replayed {
-        no: 0,
-        areas: areas(&builder, &bytes, &cells, rooms),
-        calls,
-        finish: finished[0],
-        opening: no,
+    Made {
+        finish: [0, bytes.len() as u64, directory, 0, 0],
+        opening: [no, check],
         questions,
-        cells,
         index: bytes,
     }
+}
+
+/// The answers to the questions, where what is read is the entries.
+fn answers(opening: Opening, bytes: &[u8], list: &List, entries: &[Entry]) -> Vec<Cells> {
+    let blocks = opening.blocks.iter().copied();
+    let read: Vec<Entry> = blocks.zip(opening.keys.clone()).collect();
+    assert_eq!(read, entries);
+    let opened = Opened {
+        rust: Index::open(opening.version, bytes),
+        bytes: bytes.to_vec(),
+        model: opening,
+        terms: list.settings.terms,
+    };
+    let questions = list.questions.iter();
+    questions.map(|question| opened.answer(question)).collect()
 }

@@ -3,7 +3,7 @@
 use std::collections::BTreeSet;
 use std::fmt::Write;
 
-use tantivy_sstable::access::{self, Block};
+use tantivy_sstable::access;
 
 use model::areas::Entry;
 use model::around::{self, beside};
@@ -11,10 +11,12 @@ use model::automaton::Table;
 use model::blocks::{WORKED, block};
 use model::numbers::Numbers;
 use model::patterns::ring;
+use model::rust::Block;
 use model::settings::LIMIT;
+use model::version::{NO_VERSIONS, V3, V4, VERSION_BAD, VERSIONS, Version};
 
 use crate::damaged_lists;
-use crate::list_bytes::{Call, List, NO_LIST, NO_ROOM, Question, decode, encode};
+use crate::list_bytes::{Call, List, NO_LIST, NO_ROOM, Question, Settings, decode, encode};
 use crate::replayed::{self, Replayed, Rooms};
 use crate::text::hex;
 
@@ -132,23 +134,29 @@ impl Lists {
 
     /// The same with so many terms.
     fn with_terms(&mut self, terms: u64, calls: &[Call], questions: &[Question]) -> Replayed {
-        let questions = beside_terms(terms, questions);
-        let rooms = replayed::rooms(calls, questions.len());
-        self.bytes(&encode(terms, calls, &questions), rooms)
+        self.with(Settings::of(V3, terms), calls, questions)
+    }
+
+    /// The same with any version, in areas that are big enough for version 3 where there is no such version.
+    fn with(&mut self, settings: Settings, calls: &[Call], questions: &[Question]) -> Replayed {
+        let questions = beside_terms(settings.terms, questions);
+        let version = Version::of(settings.version).unwrap_or(V3);
+        let rooms = replayed::rooms(version, calls, questions.len());
+        self.bytes(&encode(settings, calls, &questions), rooms)
     }
 
     /// In areas with room behind.
     fn wide(&mut self, calls: &[Call], questions: &[Question]) -> Replayed {
-        let terms = self.turn(calls);
-        let questions = beside_terms(terms, questions);
-        let fit = replayed::rooms(calls, questions.len());
+        let settings = Settings::of(VERSIONS[self.count % 2], self.turn(calls));
+        let questions = beside_terms(settings.terms, questions);
+        let fit = replayed::rooms(V3, calls, questions.len());
         let rooms = Rooms {
             blocks: fit.blocks + 12,
             keys: fit.keys + 7,
             out: fit.out + 9,
             answers: fit.answers + 6,
         };
-        self.bytes(&encode(terms, calls, &questions), rooms)
+        self.bytes(&encode(settings, calls, &questions), rooms)
     }
 }
 
@@ -272,6 +280,7 @@ pub fn lists() -> (String, String) {
     traps(&mut lists);
     few(&mut lists);
     other_terms(&mut lists);
+    other_versions(&mut lists);
     rooms(&mut lists);
     rows(&mut lists);
     long_keys(&mut lists);
@@ -289,14 +298,14 @@ fn check_seen(lists: &Lists) {
         ("list", &[0, NO_LIST, NO_ROOM][..]),
         ("add", &[0, 2, 3, 4, 5, 6, 7]),
         ("shorten", &[0, 2, 6]),
-        ("finish", &[0, 9]),
-        ("opening", &[0, 10, 28]),
-        ("id", &[0, 10, 17, 28]),
-        ("ordinal", &[0, 10, 18, 28, 29]),
-        ("key", &[0, 10, 19, 28]),
-        ("address", &[0, 10, 19, 28]),
-        ("separator", &[0, 10, 28]),
-        ("mark", &[0, 10, 21, 22, 23, 28]),
+        ("finish", &[0, 9, 30]),
+        ("opening", &[0, 10, 28, 30]),
+        ("id", &[0, 10, 17, 28, 30]),
+        ("ordinal", &[0, 10, 18, 28, 29, 30]),
+        ("key", &[0, 10, 19, 28, 30]),
+        ("address", &[0, 10, 19, 28, 30]),
+        ("separator", &[0, 10, 28, 30]),
+        ("mark", &[0, 10, 21, 22, 23, 28, 30]),
     ];
     let due: BTreeSet<(&str, u64)> = kinds
         .iter()
@@ -316,7 +325,7 @@ fn worked_cases(lists: &mut Lists) {
         questions.push(Question::Key(key.to_vec()));
         questions.push(Question::Address(key.to_vec()));
     }
-    assert_eq!(replayed::rooms(&calls, 0).out, 85);
+    assert_eq!(replayed::rooms(V3, &calls, 0).out, 85);
     lists.with_terms(12, &calls, &questions);
     lists.wide(&calls, &marks(3, &Table::words(&[b"c"])));
     lists.comment("point (1, 2^40); no points in a second group come below");
@@ -471,9 +480,10 @@ fn other_terms(lists: &mut Lists) {
             lists.with_terms(terms, calls, &[Question::Ordinal(7)]);
         }
     }
-    let fit = replayed::rooms(&worked_calls(), 1);
+    let fit = replayed::rooms(V3, &worked_calls(), 1);
     for terms in [0, 12] {
-        let bytes = encode(terms, &worked_calls(), &[Question::Ordinal(4)]);
+        let settings = Settings::of(V3, terms);
+        let bytes = encode(settings, &worked_calls(), &[Question::Ordinal(4)]);
         lists.bytes(&bytes, Rooms { out: 84, ..fit });
     }
     lists.comment("ordinals at the limit");
@@ -482,6 +492,46 @@ fn other_terms(lists: &mut Lists) {
         let ends = [LIMIT - 9, LIMIT - 1, u64::MAX].map(beside);
         let ords: Vec<Question> = ends.into_iter().flatten().map(Question::Ordinal).collect();
         lists.with_terms(terms, &top, &ords);
+    }
+}
+
+fn other_versions(lists: &mut Lists) {
+    lists.comment("the same with version 4, and with numbers that aren't versions");
+    for version in VERSIONS {
+        for terms in [9, 10, 12] {
+            lists.with(Settings::of(version, terms), &worked_calls(), &each_kind());
+        }
+    }
+    let refused = |replayed: Replayed| {
+        let questions = replayed.questions.iter().map(|cells| cells[0]);
+        let numbers = [replayed.finish, replayed.opening].into_iter();
+        assert!(numbers.chain(questions).all(|no| no == VERSION_BAD));
+    };
+    for version in NO_VERSIONS {
+        let terms = 12;
+        refused(lists.with(Settings { version, terms }, &worked_calls(), &each_kind()));
+    }
+    lists.comment("no version, and what would be refused anyway: too few terms, no index, no room for it, calls that are refused");
+    let few = [add(3, 3, 7, b"")];
+    let bad = [add(0, 1, 0, b"a"), add(9, 2, 4, b"b"), shorten(b"a")];
+    for version in [0, 2, 5, u64::MAX] {
+        for (terms, calls) in [
+            (0, &worked_calls()[..]),
+            (9, &worked_calls()),
+            (u64::MAX, &worked_calls()),
+            (10, &few),
+            (0, &[]),
+            (1, &[]),
+            (5, &bad),
+        ] {
+            refused(lists.with(Settings { version, terms }, calls, &[Question::Id(0)]));
+        }
+        let fit = replayed::rooms(V3, &worked_calls(), 1);
+        for out in [84, 0] {
+            let settings = Settings { version, terms: 12 };
+            let bytes = encode(settings, &worked_calls(), &[Question::Id(0)]);
+            refused(lists.bytes(&bytes, Rooms { out, ..fit }));
+        }
     }
 }
 
@@ -516,8 +566,8 @@ fn rooms(lists: &mut Lists) {
             Question::Key(b"b".to_vec()),
             Question::Separator(1),
         ];
-        let fit = replayed::rooms(&calls, questions.len());
-        let bytes = encode(12, &calls, &questions);
+        let fit = replayed::rooms(V3, &calls, questions.len());
+        let bytes = encode(Settings::of(V3, 12), &calls, &questions);
         for blocks in shorter(fit.blocks) {
             lists.bytes(&bytes, Rooms { blocks, ..fit });
         }
@@ -540,13 +590,13 @@ fn rooms(lists: &mut Lists) {
         add(1, 2, 1, b"abfg"),
     ];
     let questions = all(&calls);
-    let fit = replayed::rooms(&calls, questions.len());
+    let fit = replayed::rooms(V3, &calls, questions.len());
     // with few terms: the second block's first ordinal is 1
-    let bytes = encode(1, &calls, &questions);
+    let bytes = encode(Settings::of(V3, 1), &calls, &questions);
     for keys in 6..=fit.keys {
         lists.bytes(&bytes, Rooms { keys, ..fit });
     }
-    lists.bytes(&encode(2, &calls, &questions), fit);
+    lists.bytes(&encode(Settings::of(V4, 2), &calls, &questions), fit);
 }
 
 fn rows(lists: &mut Lists) {
@@ -582,7 +632,8 @@ fn rows(lists: &mut Lists) {
             out: 100,
             answers: 5 * (calls.len() + 5),
         };
-        lists.bytes(&encode(LIMIT, &calls, &questions), rooms);
+        let settings = Settings::of(V3, LIMIT);
+        lists.bytes(&encode(settings, &calls, &questions), rooms);
     }
     lists.comment("numbers at the limit");
     let top = LIMIT - 1;
@@ -641,8 +692,8 @@ fn long_keys(lists: &mut Lists) {
         Question::Address(over),
         Question::Key(vec![]),
     ];
-    let fit = replayed::rooms(&calls, questions.len());
-    let bytes = encode(4, &calls, &questions);
+    let fit = replayed::rooms(V4, &calls, questions.len());
+    let bytes = encode(Settings::of(V4, 4), &calls, &questions);
     for keys in [fit.keys, fit.keys - 1, 2047, 2046, 1023, 1022] {
         lists.bytes(&bytes, Rooms { keys, ..fit });
     }
@@ -666,9 +717,19 @@ fn long_list(rng: &mut Numbers, count: u64) -> Vec<Call> {
 }
 
 fn counts(lists: &mut Lists) {
-    lists.comment("one group and two, two and three: 127 to 129 and 255 to 257 blocks");
+    lists.comment("one group and two, two and three: 127 to 129 and 255 to 257 blocks; in version 4 one group up to 256");
     let mut rng = Numbers::from_seed(71);
-    for count in [127, 128, 129, 255, 256, 257] {
+    for (version, count) in [
+        (V3, 127),
+        (V3, 128),
+        (V3, 129),
+        (V3, 255),
+        (V3, 256),
+        (V3, 257),
+        (V4, 129),
+        (V4, 256),
+        (V4, 257),
+    ] {
         let calls = long_list(&mut rng, count);
         let entries = replayed::entries(&calls).0;
         assert_eq!(entries.len() as u64, count);
@@ -683,7 +744,8 @@ fn counts(lists: &mut Lists) {
                 [i - 1, i, i + 1].map(|i| Question::Mark(i as u64, Table::words(&[word]).bytes())),
             );
         }
-        lists.list(&calls, &questions);
+        let settings = Settings::of(version, lists.turn(&calls));
+        lists.with(settings, &calls, &questions);
     }
 }
 
@@ -795,7 +857,7 @@ fn by_chance(lists: &mut Lists, rng: &mut Numbers, calls: &[Call]) {
         usize::from(b == byte || s == 1 && b > byte)
     });
     questions.push(Question::Mark(rng.below(4), table.bytes()));
-    let fit = replayed::rooms(calls, questions.len());
+    let fit = replayed::rooms(V3, calls, questions.len());
     let near = |rng: &mut Numbers, fit: usize| (fit + rng.pick(&[0, 0, 1, 2, 6])).saturating_sub(1);
     let rooms = Rooms {
         blocks: near(rng, fit.blocks + 1),
@@ -809,5 +871,7 @@ fn by_chance(lists: &mut Lists, rng: &mut Numbers, calls: &[Call]) {
         ..rooms
     };
     let rooms = if rng.one_in(4) { short } else { rooms };
-    lists.bytes(&encode(terms, calls, &questions), rooms);
+    let version = rng.pick(&[3, 3, 3, 4, 4, 4, 5]);
+    let settings = Settings { version, terms };
+    lists.bytes(&encode(settings, calls, &questions), rooms);
 }

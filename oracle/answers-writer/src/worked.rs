@@ -3,6 +3,7 @@
 use model::automaton::Table;
 use model::blocks::WORKED as BLOCKS;
 use model::opening;
+use model::version::V3;
 use tantivy_bitpacker::{BitPacker, compute_num_bits};
 use tantivy_sstable::access::{self, Index, Store};
 
@@ -44,7 +45,7 @@ pub fn check() {
     }
     assert_eq!(index.locate_with_ord(4), 1);
     // with 12 terms
-    let opening = opening::open(&bytes);
+    let opening = opening::open(V3, &bytes);
     assert_eq!((opening.number(12), opening.number(9)), (0, 28));
     for (ord, id) in [(3, 0), (4, 1), (11, 2)] {
         let due = (id, BLOCKS[id as usize]);

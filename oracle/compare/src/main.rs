@@ -35,6 +35,10 @@ fn main() -> ExitCode {
     }
     let mut tally = Tally::new(stop);
     println!("{}", about(begin));
+    if !interface_fits() {
+        println!("0 passed, 1 failed");
+        return ExitCode::FAILURE;
+    }
     run(&mut tally, Path::new(&root), &words);
     let (passed, failed) = tally.print();
     println!("{passed} passed, {failed} failed");
@@ -43,6 +47,15 @@ fn main() -> ExitCode {
     } else {
         ExitCode::FAILURE
     }
+}
+
+/// Calls of another interface take other numbers, so none is made.
+fn interface_fits() -> bool {
+    let (interface, due) = (calls::interface(), calls::INTERFACE);
+    if interface != due {
+        println!("FAILED interface {interface}: the declarations are of {due}");
+    }
+    interface == due
 }
 
 /// Which archive, which Rust, and where parts are lent.

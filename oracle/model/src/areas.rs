@@ -2,10 +2,10 @@
 
 use std::collections::BTreeSet;
 
-use tantivy_sstable::access::{self, Block};
-
 use crate::blocks::block;
+use crate::rust::{self, Block};
 use crate::settings::{LIMIT, LONGEST_KEY, MOST_BLOCKS, STRIDE};
+use crate::version::Version;
 
 pub const MOST: u128 = MOST_BLOCKS as u128;
 /// What fills lent areas.
@@ -206,12 +206,12 @@ impl Areas {
 }
 
 /// The index of the Rust and its directory's length; nothing for 0 and 1 blocks.
-pub fn index(entries: &[Entry]) -> (Vec<u8>, u64) {
+pub fn index(version: Version, entries: &[Entry]) -> (Vec<u8>, u64) {
     let given: Vec<(Block, &[u8])> = entries
         .iter()
         .map(|entry| (entry.0, &entry.1[..]))
         .collect();
-    let bytes = access::write_index(&given);
+    let bytes = rust::write_index(version, &given);
     let directory = u64::from_le_bytes(bytes[bytes.len() - 8..].try_into().unwrap());
     if entries.len() < 2 {
         assert_eq!((bytes.len(), directory), (8, 0));

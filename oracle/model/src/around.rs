@@ -2,18 +2,20 @@
 
 use std::collections::BTreeSet;
 
-use tantivy_sstable::access::Block;
-
 use crate::numbers::Numbers;
-use crate::settings::GROUP_LEN;
+use crate::rust::Block;
+use crate::version::Version;
 
 /// Ids of a file: all of a short one.
-pub fn ids(rng: &mut Numbers, n: u64, some: usize) -> BTreeSet<u64> {
+pub fn ids(version: Version, rng: &mut Numbers, n: u64, some: usize) -> BTreeSet<u64> {
     if n <= 8 {
         return (0..n).collect();
     }
-    let group = GROUP_LEN as u64;
+    let group = version.group_len() as u64;
+    // 127 and 128 end a group in one version and are inside one in the other
     let around = [
+        127,
+        128,
         group - 2,
         group - 1,
         group,

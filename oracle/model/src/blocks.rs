@@ -1,9 +1,9 @@
 //! Lists of blocks.
 
-use tantivy_sstable::access::{self, Block, Store};
-
 use crate::numbers::Numbers;
+use crate::rust::{self, Block, Store};
 use crate::settings::LIMIT;
+use crate::version::Version;
 
 /// The three blocks of the worked case.
 pub const WORKED: [Block; 3] = [
@@ -88,10 +88,10 @@ pub fn by_rule(seed: u64, count: u64) -> Vec<Block> {
 }
 
 /// The store of legal blocks, read back.
-pub fn store(blocks: &[Block]) -> Vec<u8> {
+pub fn store(version: Version, blocks: &[Block]) -> Vec<u8> {
     legal(blocks);
-    let bytes = access::write_store(blocks);
-    let store = Store::open(&bytes);
+    let bytes = rust::write_store(version, blocks);
+    let store = Store::open(version, &bytes);
     for id in 0..=blocks.len() {
         assert_eq!(store.get(id as u64), blocks.get(id).copied());
     }

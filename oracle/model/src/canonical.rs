@@ -1,12 +1,11 @@
 //! A plain model of the check whether a file is the one that finish writes, after document 02; and of the writer, after document 01. It
 //! counts in whole numbers and shares nothing with the Rust.
 
-use tantivy_sstable::access::Block;
-
 use crate::files::File;
 use crate::foreign::{self, Group, ord_points, range_points};
 use crate::opening::Opening;
-use crate::settings::GROUP_LEN;
+use crate::rust::Block;
+use crate::version::Version;
 
 /// The row of a file that opens but isn't the one that finish writes.
 pub const NOT_CANONICAL: u64 = 27;
@@ -48,7 +47,7 @@ pub fn slope_and_width(points: &[(u64, u64)]) -> (u32, u8) {
 }
 
 /// The groups as the writer makes them: the first at offset 0, each behind the one before it.
-pub fn groups(blocks: &[Block]) -> Vec<Group<'_>> {
+pub fn groups(version: Version, blocks: &[Block]) -> Vec<Group<'_>> {
     let plan = |blocks| {
         let (range_slope, range_width) = slope_and_width(&range_points(blocks));
         let (ord_slope, ord_width) = slope_and_width(&ord_points(blocks));
@@ -61,7 +60,12 @@ pub fn groups(blocks: &[Block]) -> Vec<Group<'_>> {
             ord_width,
         }
     };
-    touching(&blocks.chunks(GROUP_LEN).map(plan).collect::<Vec<_>>())
+    touching(
+        &blocks
+            .chunks(version.group_len())
+            .map(plan)
+            .collect::<Vec<_>>(),
+    )
 }
 
 /// The same groups, the first at offset 0, each behind the one before it.
@@ -82,16 +86,16 @@ pub fn end(groups: &[Group]) -> usize {
 }
 
 /// The index of these blocks and keys.
-pub fn written(blocks: &[Block], keys: &[Vec<u8>]) -> Vec<u8> {
-    let groups = groups(blocks);
+pub fn written(version: Version, blocks: &[Block], keys: &[Vec<u8>]) -> Vec<u8> {
+    let groups = groups(version, blocks);
     let store = foreign::store(&groups, vec![0; end(&groups)]);
     File::new(keys, &store).bytes()
 }
 
-/// The check's number: opening's, or whether the file is the index of what is read in it.
+/// The check's number with the opening's version: opening's, or whether the file is the index of what is read in it.
 pub fn number(opening: &Opening, file: &[u8]) -> u64 {
     match opening.no() {
-        0 if written(&opening.blocks, &opening.keys) == file => 0,
+        0 if written(opening.version, &opening.blocks, &opening.keys) == file => 0,
         0 => NOT_CANONICAL,
         no => no,
     }

@@ -3,6 +3,7 @@
 use crate::files::{Fault, smallest};
 use crate::opening::{self, Opened};
 use crate::settings::LIMIT;
+use crate::version::{NO_VERSIONS, V3, VERSIONS, Version};
 
 /// A fault's row, and the fault.
 pub fn faults() -> Vec<(u64, Fault)> {
@@ -130,16 +131,17 @@ pub fn faults() -> Vec<(u64, Fault)> {
     ]
 }
 
-/// Records that the 85 bytes don't have.
+/// Records that the 85 bytes don't have, of the same version.
 pub fn others(right: Opened) -> Vec<Opened> {
+    let group = Version::of(right.version).map_or(0, |version| version.group_len() as u64);
     let mut records = Vec::new();
     for n in [
         0,
         1,
         2,
         4,
-        128,
-        129,
+        group,
+        group + 1,
         65_536,
         65_537,
         1 << 32,
@@ -149,7 +151,7 @@ pub fn others(right: Opened) -> Vec<Opened> {
         records.push(Opened { n, ..right });
     }
     // more groups than there are records, which lie inside
-    for n in [129, 256, 65_536] {
+    for n in [group + 1, 2 * group, 65_536] {
         records.push(Opened {
             n,
             records: (0, 85),
@@ -211,7 +213,9 @@ pub fn others(right: Opened) -> Vec<Opened> {
             ..right
         });
     }
-    let small = opening::open(&smallest().bytes()).record;
+    let small = opening::open(V3, &smallest().bytes())
+        .record
+        .with_version(right.version);
     records.push(small);
     // another number of terms, alone and with another place
     for terms in [0, 1, 4, 5, 9, 10, 1 << 48, 1 << 55, u64::MAX] {
@@ -220,6 +224,23 @@ pub fn others(right: Opened) -> Vec<Opened> {
         records.push(Opened {
             records: (from.wrapping_sub(1), length),
             ..right.with_terms(terms)
+        });
+    }
+    records
+}
+
+/// The record with other versions, most of which there aren't: alone, and with another place or number of terms.
+pub fn other_versions(right: Opened) -> Vec<Opened> {
+    let known = VERSIONS.map(|version| version.number());
+    let all = NO_VERSIONS.into_iter().chain(known);
+    let mut records = Vec::new();
+    for version in all.filter(|&version| version != right.version) {
+        let record = right.with_version(version);
+        let (from, length) = right.records;
+        records.extend([record, record.with_terms(0), record.with_terms(u64::MAX)]);
+        records.push(Opened {
+            records: (from.wrapping_sub(1), length),
+            ..record
         });
     }
     records

@@ -2,12 +2,12 @@
 
 use std::collections::BTreeSet;
 
-use tantivy_sstable::access::{self, Block};
-
 use crate::blocks::{self, touching};
 use crate::foreign::{self, Group};
 use crate::numbers::Numbers;
-use crate::settings::{GROUP_LEN, GROUP_RECORD};
+use crate::rust::{self, Block};
+use crate::settings::GROUP_RECORD;
+use crate::version::{VERSIONS, Version};
 
 /// The parts of a file.
 #[derive(Clone)]
@@ -41,14 +41,14 @@ impl File {
     }
 
     /// As the Rust's builder writes it.
-    pub fn written(blocks: &[Block], keys: &[Vec<u8>]) -> File {
+    pub fn written(version: Version, blocks: &[Block], keys: &[Vec<u8>]) -> File {
         let given: Vec<(Block, &[u8])> = blocks
             .iter()
             .copied()
             .zip(keys.iter().map(Vec::as_slice))
             .collect();
-        let file = File::new(keys, &blocks::store(blocks));
-        assert_eq!(file.bytes(), access::write_index(&given));
+        let file = File::new(keys, &blocks::store(version, blocks));
+        assert_eq!(file.bytes(), rust::write_index(version, &given));
         file
     }
 
@@ -113,14 +113,21 @@ impl File {
 
 pub type Fault = fn(&mut File);
 
+/// The same in all versions, as up to 128 blocks are.
+fn written_alike(blocks: &[Block], keys: &[Vec<u8>]) -> File {
+    let [file, other] = VERSIONS.map(|version| File::written(version, blocks, keys));
+    assert_eq!(file.bytes(), other.bytes());
+    file
+}
+
 pub fn worked_file() -> File {
     let keys = [b"b".to_vec(), b"d".to_vec(), b"f".to_vec()];
-    File::written(&blocks::WORKED, &keys)
+    written_alike(&blocks::WORKED, &keys)
 }
 
 /// A file that opens with no byte to spare.
 pub fn smallest() -> File {
-    let file = File::written(
+    let file = written_alike(
         &touching(0, &[1, 1], 0, &[1]),
         &[b"a".to_vec(), b"b".to_vec()],
     );
@@ -129,14 +136,23 @@ pub fn smallest() -> File {
 }
 
 pub fn keys_of_one_byte(count: usize) -> Vec<Vec<u8>> {
+    assert!(count <= 256);
     (0..count).map(|i| vec![i as u8]).collect()
 }
 
-/// A file of two groups, the second with `more` blocks, keys of one byte.
-pub fn two_group_file(more: usize) -> File {
-    let count = GROUP_LEN + more;
+/// Keys of one byte, or of two where there are more of them.
+pub fn short_keys(count: usize) -> Vec<Vec<u8>> {
+    match count {
+        0..=256 => keys_of_one_byte(count),
+        _ => (0..count).map(|i| i.to_be_bytes()[6..].to_vec()).collect(),
+    }
+}
+
+/// A file of two groups, the second with `more` blocks, short keys.
+pub fn two_group_file(version: Version, more: usize) -> File {
+    let count = version.group_len() + more;
     let blocks = touching(3, &vec![2; count], 1, &vec![1; count - 1]);
-    File::written(&blocks, &keys_of_one_byte(count))
+    File::written(version, &blocks, &short_keys(count))
 }
 
 /// Rising keys over few bytes, FF among them; the first one may be empty.
@@ -153,12 +169,12 @@ pub fn rising(rng: &mut Numbers, count: u64, longest: u64) -> Vec<Vec<u8>> {
 }
 
 /// The file of the rule that the stored list of indexes has in its comment.
-pub fn by_rule(count: u64) -> File {
+pub fn by_rule(version: Version, count: u64) -> File {
     let lengths = vec![1; count as usize];
     let blocks = touching(0, &lengths, 0, &lengths[1..]);
     let keys: Vec<Vec<u8>> = (0..count).map(|i| i.to_be_bytes()[5..].to_vec()).collect();
     let groups: Vec<Group> = blocks
-        .chunks(GROUP_LEN)
+        .chunks(version.group_len())
         .map(|blocks| Group {
             blocks,
             offset: 0,
@@ -168,5 +184,8 @@ pub fn by_rule(count: u64) -> File {
             ord_width: 1,
         })
         .collect();
-    File::new(&keys, &foreign::store(&groups, vec![0xff; 32]))
+    File::new(
+        &keys,
+        &foreign::store(&groups, vec![0xff; version.group_len() / 4]),
+    )
 }

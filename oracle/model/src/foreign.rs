@@ -1,8 +1,7 @@
 //! A writer of stores that takes offsets, slopes and widths as they are given.
 
-use tantivy_sstable::access::Block;
-
 use crate::numbers::Numbers;
+use crate::rust::Block;
 use crate::settings::WIDEST;
 
 /// A group of blocks.

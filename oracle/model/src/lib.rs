@@ -13,6 +13,8 @@ pub mod key_lists;
 pub mod numbers;
 pub mod opening;
 pub mod patterns;
+pub mod rust;
 pub mod settings;
 pub mod sums;
+pub mod version;
 pub mod ways;

@@ -1,15 +1,14 @@
-//! A plain model of opening and the lookups, after document 01's table and document 02's number of terms. It counts in whole numbers,
-//! and reads fields bit by bit.
+//! A plain model of opening and the lookups, after document 01's table and document 02's number of terms and versions. It counts in
+//! whole numbers, and reads fields bit by bit.
 
 use std::collections::BTreeSet;
 
-use tantivy_sstable::access::Block;
-
+use crate::rust::Block;
 use crate::settings::{self, OPENED_LEN};
+use crate::version::Version;
 
 /// The settings as whole numbers.
 const LIMIT: i128 = settings::LIMIT as i128;
-const GROUP: i128 = settings::GROUP_LEN as i128;
 const RECORD: i128 = settings::GROUP_RECORD as i128;
 const MOST: i128 = settings::MOST_BLOCKS as i128;
 const LONGEST: i128 = settings::LONGEST_KEY as i128;
@@ -21,7 +20,16 @@ pub const TERMS_BAD: u64 = 28;
 /// The row of an ordinal that isn't below the number of terms.
 pub const ORDINAL_ABOVE: u64 = 29;
 
-/// The opened record: n, offset and length of the directory, the group records and the address bytes, and the number of terms.
+/// Blocks in a group, and how many groups so many blocks have.
+fn group_len(version: Version) -> i128 {
+    version.group_len() as i128
+}
+
+fn groups_of(version: Version, n: i128) -> i128 {
+    (n + group_len(version) - 1) / group_len(version)
+}
+
+/// The opened record: n, offset and length of the directory, the group records and the address bytes, the number of terms, the version.
 #[derive(Clone, Copy, Debug, Default, PartialEq, Eq)]
 pub struct Opened {
     pub n: u64,
@@ -29,27 +37,44 @@ pub struct Opened {
     pub records: (u64, u64),
     pub addresses: (u64, u64),
     pub terms: u64,
+    pub version: u64,
 }
 
 impl Opened {
+    /// What a refusal leaves: zeros.
+    pub const NONE: Opened = Opened {
+        n: 0,
+        directory: (0, 0),
+        records: (0, 0),
+        addresses: (0, 0),
+        terms: 0,
+        version: 0,
+    };
+
     pub fn of(numbers: [u64; OPENED_LEN]) -> Opened {
-        let [n, d, dl, r, rl, a, al, terms] = numbers;
+        let [n, d, dl, r, rl, a, al, terms, version] = numbers;
         Opened {
             n,
             directory: (d, dl),
             records: (r, rl),
             addresses: (a, al),
             terms,
+            version,
         }
     }
 
     pub fn numbers(&self) -> [u64; OPENED_LEN] {
         let (d, r, a) = (self.directory, self.records, self.addresses);
-        [self.n, d.0, d.1, r.0, r.1, a.0, a.1, self.terms]
+        let (terms, version) = (self.terms, self.version);
+        [self.n, d.0, d.1, r.0, r.1, a.0, a.1, terms, version]
     }
 
     pub fn with_terms(self, terms: u64) -> Opened {
         Opened { terms, ..self }
+    }
+
+    pub fn with_version(self, version: u64) -> Opened {
+        Opened { version, ..self }
     }
 
     /// The first ordinal of the first group record that it names, if that is inside.
@@ -75,10 +100,13 @@ impl Opened {
 
     /// Whether it can't be the record of so many bytes, whatever they are: a lookup must say 20. The number of terms has no part in it.
     pub fn unfit(&self, len: usize) -> bool {
+        let Some(version) = Version::of(self.version) else {
+            return true;
+        };
         let n = i128::from(self.n);
         let outside = |(from, length)| i128::from(from) + i128::from(length) > len as i128;
         let places = [self.directory, self.records, self.addresses];
-        let groups = (n + GROUP - 1) / GROUP;
+        let groups = groups_of(version, n);
         !(1..=MOST).contains(&n)
             || places.into_iter().any(outside)
             || i128::from(self.records.1) < RECORD * groups
@@ -88,9 +116,9 @@ impl Opened {
 /// A row and which of its parts is hit.
 pub type Hit = (u64, &'static str);
 
-/// What a file holds, as far as it can be read.
-#[derive(Default)]
+/// What a file of this version holds, as far as it can be read.
 pub struct Opening {
+    pub version: Version,
     /// those of rows 10 to 16 that are hit, in the order in which they are tried
     pub hits: Vec<Hit>,
     /// the record, with the least number of terms that opens; for a refused file the one that it would have, if its parts are inside
@@ -100,6 +128,17 @@ pub struct Opening {
 }
 
 impl Opening {
+    /// Nothing that was read.
+    pub fn new(version: Version) -> Opening {
+        Opening {
+            version,
+            hits: Vec::new(),
+            record: Opened::default().with_version(version.number()),
+            keys: Vec::new(),
+            blocks: Vec::new(),
+        }
+    }
+
     /// The first of rows 10 to 16 that is hit, or 0: what the file alone decides, and the number of an opening with enough terms.
     pub fn no(&self) -> u64 {
         self.hits.first().map_or(0, |hit| hit.0)
@@ -138,7 +177,7 @@ impl Opening {
         if self.number(terms) == 0 {
             self.record.with_terms(terms)
         } else {
-            Opened::default()
+            Opened::NONE
         }
     }
 
@@ -147,7 +186,7 @@ impl Opening {
         self.number(record.terms) == 0 && self.is_but_for_terms(record)
     }
 
-    /// Whether this is the record of a file that opens, whatever its number of terms.
+    /// Whether this is the record of a file that opens with this version, whatever its number of terms.
     pub fn is_but_for_terms(&self, record: Opened) -> bool {
         self.no() == 0 && record == self.record.with_terms(record.terms)
     }
@@ -196,16 +235,16 @@ fn number(bytes: &[u8], at: i128, count: i128) -> Option<i128> {
     Some(digits.fold(0, |value, &byte| 256 * value + i128::from(byte)))
 }
 
-/// Reads a file, as every opening of it does: rows 10 to 16. What opening answers depends on the number of terms besides.
-pub fn open(file: &[u8]) -> Opening {
-    let mut opening = rows(file);
+/// Reads a file of this version, as every opening of it does: rows 10 to 16. What opening answers depends on the number of terms besides.
+pub fn open(version: Version, file: &[u8]) -> Opening {
+    let mut opening = rows(version, file);
     let least = opening.last_ord().map(|last| last.saturating_add(1));
     opening.record.terms = least.unwrap_or(0);
     opening
 }
 
-fn rows(file: &[u8]) -> Opening {
-    let mut opening = Opening::default();
+fn rows(version: Version, file: &[u8]) -> Opening {
+    let mut opening = Opening::new(version);
     let len = file.len() as i128;
     let Some(directory_len) = number(file, len - 8, 8) else {
         opening.hits.push((10, "under 8 bytes"));
@@ -284,7 +323,8 @@ fn open_directory(opening: &mut Opening, directory: &[u8]) {
 /// Rows 14 to 16. The store has 8 bytes or more; the directory may have no count.
 fn open_store(opening: &mut Opening, store: &[u8], n: Option<i128>) {
     let records_len = number(store, 0, 8).unwrap();
-    let groups = n.map(|n| (n + GROUP - 1) / GROUP);
+    let (version, most) = (opening.version, group_len(opening.version));
+    let groups = n.map(|n| groups_of(version, n));
     if groups.is_some_and(|groups| records_len != RECORD * groups) {
         opening.hits.push((14, "records' length"));
     }
@@ -302,7 +342,7 @@ fn open_store(opening: &mut Opening, store: &[u8], n: Option<i128>) {
         return;
     };
     let groups: Vec<Group> = (0..groups)
-        .map_while(|g| Group::read(store, 8 + RECORD * g, (n - GROUP * g).min(GROUP), addresses))
+        .map_while(|g| Group::read(store, 8 + RECORD * g, (n - most * g).min(most), addresses))
         .collect();
     let mut hits: Vec<Hit> = groups.iter().flat_map(Group::row_15).collect();
     let all: Vec<Option<Vec<Values>>> = groups.iter().map(Group::values).collect();

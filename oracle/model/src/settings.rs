@@ -1,16 +1,14 @@
-//! The format's numbers. The models, the makers of cases and the comparison take them from here.
+//! The format's numbers but for a group's length, which is its version's. The models, the makers of cases and the comparison take them
+//! from here.
 
 /// Where ends and ordinals stop.
 pub const LIMIT: u64 = 1 << 48;
-
-/// Blocks in a group; the last one may have fewer.
-pub const GROUP_LEN: usize = 128;
 
 /// Numbers that a block takes in the builder's area.
 pub const STRIDE: usize = 5;
 
 /// Numbers of the opened record.
-pub const OPENED_LEN: usize = 8;
+pub const OPENED_LEN: usize = 9;
 
 /// Blocks that a builder, a slice or a file can have.
 pub const MOST_BLOCKS: usize = 65_536;

@@ -2,11 +2,11 @@
 
 use std::collections::BTreeSet;
 
-use tantivy_sstable::access::Block;
-
 use crate::canonical::{end, groups, touching};
 use crate::foreign::{self, Group, fits, ord_points, range_points};
+use crate::rust::Block;
 use crate::settings::WIDEST;
+use crate::version::Version;
 
 /// What differs.
 #[derive(Clone, Copy, Debug, PartialEq, Eq, PartialOrd, Ord)]
@@ -44,8 +44,8 @@ impl Way {
 }
 
 /// A store of these blocks in each way that they allow, at the first two groups, one in the middle and the last two.
-pub fn stores(blocks: &[Block]) -> Vec<(Way, Vec<u8>)> {
-    let own = groups(blocks);
+pub fn stores(version: Version, blocks: &[Block]) -> Vec<(Way, Vec<u8>)> {
+    let own = groups(version, blocks);
     let count = own.len();
     let places = [0, 1, count / 2, count.wrapping_sub(2), count - 1];
     let places: BTreeSet<usize> = places.into_iter().filter(|&place| place < count).collect();

@@ -2,6 +2,24 @@
 
 use super::*;
 
+const VERSIONS: [u64; 2] = [3, 4];
+
+/// Some numbers that are no version.
+const NO_VERSIONS: [u64; 12] = [
+    0,
+    1,
+    2,
+    5,
+    6,
+    30,
+    128,
+    256,
+    259,
+    1 << 32 | 3,
+    1 << 63 | 4,
+    u64::MAX,
+];
+
 const NUMBERS: [u64; 15] = [0, 10, 0, 0, 1, 10, 25, 4, 1, 1, 25, 30, 9, 2, 1];
 const KEYS: &[u8] = b"bdf";
 
@@ -15,34 +33,45 @@ fn tables() -> [Vec<u8>; 2] {
     [any, e]
 }
 
-fn worked() -> (Vec<u8>, Opened) {
+fn worked(version: u64) -> (Vec<u8>, Opened) {
     let mut index = vec![0; 85];
     let finished = Finished {
         total: 85,
         directory_len: 31,
     };
-    assert_eq!(finish(3, &NUMBERS, KEYS, &mut index), Ok(finished));
-    let opened = open(12, &index).unwrap();
+    assert_eq!(finish(version, 3, &NUMBERS, KEYS, &mut index), Ok(finished));
+    let opened = open(version, 12, &index).unwrap();
     (index, opened)
 }
 
 /// The same with 3 as the first ordinal.
-fn from_three() -> (Vec<u8>, Opened) {
+fn from_three(version: u64) -> (Vec<u8>, Opened) {
     let (mut blocks, mut index) = (NUMBERS, vec![0; 85]);
     blocks[2] = 3;
-    let total = finish(3, &blocks, KEYS, &mut index).unwrap().total;
-    index.truncate(total);
-    let opened = open(12, &index).unwrap();
+    let finished = finish(version, 3, &blocks, KEYS, &mut index);
+    index.truncate(finished.unwrap().total);
+    let opened = open(version, 12, &index).unwrap();
     (index, opened)
+}
+
+/// Both, in both versions.
+fn indexes() -> Vec<(Vec<u8>, Opened)> {
+    let both = |version| [worked(version), from_three(version)];
+    VERSIONS.into_iter().flat_map(both).collect()
 }
 
 #[test]
 fn record_of_an_opening() {
-    let (index, opened) = worked();
-    assert_eq!(opened, [3, 0, 31, 39, 36, 75, 2, 12]);
-    for terms in [10, 11, 1 << 48, 1 << 55, u64::MAX] {
-        let record = open(terms, &index).unwrap();
-        assert_eq!((&record[..7], record[7]), (&opened[..7], terms));
+    for version in VERSIONS {
+        let (index, opened) = worked(version);
+        assert_eq!(opened, [3, 0, 31, 39, 36, 75, 2, 12, version]);
+        for terms in [10, 11, 1 << 48, 1 << 55, u64::MAX] {
+            let record = open(version, terms, &index).unwrap();
+            assert_eq!(
+                (&record[..7], &record[7..]),
+                (&opened[..7], &[terms, version][..])
+            );
+        }
     }
 }
 
@@ -85,18 +114,21 @@ fn no_1() {
         assert_eq!(add(&mut count, blocks, keys, b"g", block), refused);
         assert_eq!(shorten(n, blocks, keys, b"g"), refused);
         assert_eq!(count, n);
-        assert_eq!(finish_len(n, blocks, keys), Err(Refusal::BuilderAreas));
-        let mut out = [9; 85];
-        let answer = finish(n, blocks, keys, &mut out);
-        assert_eq!(answer, Err(Refusal::BuilderAreas));
-        assert_eq!(out, [9; 85]);
+        for version in VERSIONS {
+            let answer = finish_len(version, n, blocks, keys);
+            assert_eq!(answer, Err(Refusal::BuilderAreas));
+            let mut out = [9; 85];
+            let answer = finish(version, n, blocks, keys, &mut out);
+            assert_eq!(answer, Err(Refusal::BuilderAreas));
+            assert_eq!(out, [9; 85]);
+        }
         assert_eq!(blocks, &NUMBERS[..blocks_len]);
         assert_eq!(keys, &KEYS[..keys_len]);
     }
     // an offset and a length whose sum wraps
     let mut blocks = NUMBERS;
     blocks[13] = u64::MAX;
-    let answer = finish_len(3, &blocks, KEYS);
+    let answer = finish_len(3, 3, &blocks, KEYS);
     assert_eq!(answer, Err(Refusal::BuilderAreas));
 }
 
@@ -125,47 +157,62 @@ fn no_7() {
 
 #[test]
 fn no_8() {
+    for version in VERSIONS {
+        no_8_in(version);
+    }
+}
+
+fn no_8_in(version: u64) {
     // one number changed: a block's numbers, its join, its ordinal, an offset, a length
     for (at, value) in [(0, 11), (1, 9), (7, 0), (11, 1 << 48), (8, 0), (4, 2)] {
         let mut blocks = NUMBERS;
         blocks[at] = value;
-        let answer = finish_len(3, &blocks, KEYS);
+        let answer = finish_len(version, 3, &blocks, KEYS);
         assert_eq!(answer, Err(Refusal::BuilderBlocks), "{at}");
         let mut out = [9; 85];
-        let answer = finish(3, &blocks, KEYS, &mut out);
+        let answer = finish(version, 3, &blocks, KEYS, &mut out);
         assert_eq!(answer, Err(Refusal::BuilderBlocks), "{at}");
         assert_eq!(out, [9; 85]);
     }
-    let answer = finish_len(3, &NUMBERS, b"bbf");
+    let answer = finish_len(version, 3, &NUMBERS, b"bbf");
     assert_eq!(answer, Err(Refusal::BuilderBlocks));
     // with one block too
-    let answer = finish_len(1, &[11, 10, 0, 0, 1], b"b");
+    let answer = finish_len(version, 1, &[11, 10, 0, 0, 1], b"b");
     assert_eq!(answer, Err(Refusal::BuilderBlocks));
     // a long key 0, and a key 1 that begins inside it: no byte is read behind the area
     let blocks = [0, 1, 0, 0, 1_024, 1, 2, 1, 5, 1];
-    let answer = finish_len(2, &blocks, &[0; 10]);
+    let answer = finish_len(version, 2, &blocks, &[0; 10]);
     assert_eq!(answer, Err(Refusal::BuilderBlocks));
 }
 
 #[test]
 fn no_9() {
-    let answer = finish(3, &NUMBERS, KEYS, &mut [0; 84]);
-    assert_eq!(answer, Err(Refusal::OutputTooShort));
-    assert_eq!(finish_len(3, &NUMBERS, KEYS), Ok(85));
-    assert_eq!(finish_len(1, &NUMBERS, KEYS), Ok(0));
-    let none = Finished {
-        total: 0,
-        directory_len: 0,
-    };
-    assert_eq!(finish(0, &[], &[], &mut []), Ok(none));
-    let answer = store(&[BlockAddr::default()], &mut [0; 44]);
-    assert_eq!(answer, Err(Refusal::OutputTooShort));
-    assert_eq!(store(&[BlockAddr::default()], &mut [0; 45]), Ok(45));
+    for version in VERSIONS {
+        let answer = finish(version, 3, &NUMBERS, KEYS, &mut [0; 84]);
+        assert_eq!(answer, Err(Refusal::OutputTooShort));
+        assert_eq!(finish_len(version, 3, &NUMBERS, KEYS), Ok(85));
+        assert_eq!(finish_len(version, 1, &NUMBERS, KEYS), Ok(0));
+        let none = Finished {
+            total: 0,
+            directory_len: 0,
+        };
+        assert_eq!(finish(version, 0, &[], &[], &mut []), Ok(none));
+        let one = [BlockAddr::default()];
+        let answer = store(version, &one, &mut [0; 44]);
+        assert_eq!(answer, Err(Refusal::OutputTooShort));
+        assert_eq!(store(version, &one, &mut [0; 45]), Ok(45));
+    }
 }
 
 #[test]
 fn no_17_to_19() {
-    let (index, opened) = worked();
+    for version in VERSIONS {
+        no_17_to_19_in(version);
+    }
+}
+
+fn no_17_to_19_in(version: u64) {
+    let (index, opened) = worked(version);
     for id in [3, u64::MAX] {
         assert_eq!(get_block(&index, &opened, id), Err(Refusal::UnknownId));
         assert_eq!(separator(&index, &opened, id), (0, 0));
@@ -176,7 +223,7 @@ fn no_17_to_19() {
     assert_eq!(locate_with_key(&index, &opened, key), Err(refused));
     assert_eq!(get_block_with_key(&index, &opened, key), Err(refused));
 
-    let (index, opened) = from_three();
+    let (index, opened) = from_three(version);
     for ord in 0..3 {
         let answer = locate_with_ord(&index, &opened, ord);
         assert_eq!(answer, Err(Refusal::OrdinalBelowFirst));
@@ -185,22 +232,24 @@ fn no_17_to_19() {
 
 #[test]
 fn no_28() {
-    for (index, _) in [worked(), from_three()] {
+    for (index, opened) in indexes() {
+        let opening = |terms, bytes: &[u8]| open(opened[8], terms, bytes);
         for terms in 0..=9 {
-            assert_eq!(open(terms, &index), Err(Refusal::TooFewTerms));
+            assert_eq!(opening(terms, &index), Err(Refusal::TooFewTerms));
         }
-        assert!(open(10, &index).is_ok());
+        assert!(opening(10, &index).is_ok());
         // a fault of the file comes first
         for terms in [0, 9, 10] {
-            assert_eq!(open(terms, &index[1..]), open(u64::MAX, &index[1..]));
-            assert_ne!(open(terms, &index[1..]), Err(Refusal::TooFewTerms));
+            let answer = opening(terms, &index[1..]);
+            assert_eq!(answer, opening(u64::MAX, &index[1..]));
+            assert_ne!(answer, Err(Refusal::TooFewTerms));
         }
     }
 }
 
 #[test]
 fn no_29() {
-    for (index, opened) in [worked(), from_three()] {
+    for (index, opened) in indexes() {
         for (ord, id) in [(3, 0), (4, 1), (8, 1), (9, 2), (11, 2)] {
             let found = locate_with_ord(&index, &opened, ord).unwrap();
             assert_eq!(found, (id, get_block(&index, &opened, id).unwrap()));
@@ -212,10 +261,56 @@ fn no_29() {
     }
 }
 
+/// Whatever is lent, and whatever other number there is for it.
+#[test]
+fn no_30() {
+    let refused = Refusal::UnknownVersion;
+    let (index, _) = worked(3);
+    let turned = [BlockAddr {
+        start: 1,
+        ..BlockAddr::default()
+    }];
+    let many: Vec<BlockAddr> = (0..65_537).map(|i| BlockAddr::new(i..i + 1, i)).collect();
+    let mut broken = NUMBERS;
+    broken[7] = 0;
+    for version in NO_VERSIONS {
+        assert_eq!(crate::Version::from_number(version), Err(refused));
+        // the blocks; none; 1; 8
+        for (n, blocks) in [(3, NUMBERS), (0, NUMBERS), (65_537, NUMBERS), (3, broken)] {
+            assert_eq!(finish_len(version, n, &blocks, KEYS), Err(refused));
+            for room in [0, 84, 85] {
+                let mut out = vec![9; room];
+                let answer = finish(version, n, &blocks, KEYS, &mut out);
+                assert_eq!((answer, out), (Err(refused), vec![9; room]));
+            }
+        }
+        // none; 3; 7
+        for blocks in [&[][..], &turned, &many] {
+            let mut out = [9; 100];
+            assert_eq!(store(version, blocks, &mut out), Err(refused));
+            assert_eq!(store(version, blocks, &mut []), Err(refused));
+            assert_eq!(out, [9; 100]);
+        }
+        // the file; 10; 11; a byte that is gone
+        for bytes in [&index[..], &[], &[0; 8], &index[1..]] {
+            assert_eq!(check_canonical(version, bytes), Err(refused));
+            for terms in [0, 9, 12, u64::MAX] {
+                assert_eq!(open(version, terms, bytes), Err(refused));
+            }
+        }
+    }
+}
+
 /// The number of terms put into the record by hand: the rest of the record fits, so 20 isn't said.
 #[test]
 fn terms_of_strangers() {
-    let (index, opened) = from_three();
+    for version in VERSIONS {
+        terms_of_strangers_in(version);
+    }
+}
+
+fn terms_of_strangers_in(version: u64) {
+    let (index, opened) = from_three(version);
     let mut numbers: Vec<u64> = (0..20).collect();
     numbers.extend([1 << 48, 1 << 55, u64::MAX - 1, u64::MAX]);
     for &terms in &numbers {
@@ -232,7 +327,8 @@ fn terms_of_strangers() {
             assert_eq!(locate_with_ord(&index, &record, ord), due, "{ord} {terms}");
         }
         // above the last first ordinal it is the record of an opening
-        assert_eq!(open(terms, &index).ok(), (terms > 9).then_some(record));
+        let again = open(version, terms, &index).ok();
+        assert_eq!(again, (terms > 9).then_some(record));
         // no other call looks at it
         let (mut all, mut as_opened) = [&record, &opened].map(|r| with_record(&index, r)).into();
         (all[1], as_opened[1]) = (Ok(0), Ok(0));
@@ -298,7 +394,13 @@ fn with_record(index: &[u8], opened: &Opened) -> [Result<u64, Refusal>; 6] {
 
 #[test]
 fn no_20() {
-    let (index, opened) = worked();
+    for version in VERSIONS {
+        no_20_in(version);
+    }
+}
+
+fn no_20_in(version: u64) {
+    let (index, opened) = worked(version);
     assert_eq!(
         with_record(&index, &opened),
         [Ok(1), Ok(1), Ok(1), Ok(1), Ok(1), Ok(3)]
@@ -317,14 +419,10 @@ fn no_20() {
     ] {
         let mut other = opened;
         other[at] = value;
-        let all = with_record(&index, &other);
-        assert_eq!(all, [Err(Refusal::OpenedRecord); 6], "{at} {value}");
-        assert_eq!(separator(&index, &other, 1), (0, 0));
+        unfit(&index, &other);
     }
-    let all = with_record(&index[..40], &opened);
-    assert_eq!(all, [Err(Refusal::OpenedRecord); 6]);
-    let all = with_record(&[], &opened);
-    assert_eq!(all, [Err(Refusal::OpenedRecord); 6]);
+    unfit(&index[..40], &opened);
+    unfit(&[], &opened);
     // a key's pair that leads out of the bytes: found only by those that read it
     let mut broken = index.clone();
     broken[4 + 8 + 3] = 0xff;
@@ -341,14 +439,98 @@ fn no_20() {
     assert_eq!(answer, Err(Refusal::OpenedRecord));
 }
 
+/// A record that fails its own test: 20, whatever else is asked and lent.
+fn unfit(index: &[u8], opened: &Opened) {
+    let refused = Refusal::OpenedRecord;
+    assert_eq!(with_record(index, opened), [Err(refused); 6], "{opened:?}");
+    for id in [0, 1, 2, 3, 299, u64::MAX] {
+        assert_eq!(get_block(index, opened, id), Err(refused));
+        assert_eq!(separator(index, opened, id), (0, 0));
+    }
+    for ord in [0, 3, 12, u64::MAX] {
+        assert_eq!(locate_with_ord(index, opened, ord), Err(refused));
+    }
+    for key in [&b""[..], b"g", &[0xff; 30]] {
+        assert_eq!(locate_with_key(index, opened, key), Err(refused));
+        assert_eq!(get_block_with_key(index, opened, key), Err(refused));
+    }
+    // before 26, and before 21 and 24
+    let answer = locate_with_keys(index, opened, &[0], b"", &mut []);
+    assert_eq!(answer, Err(refused));
+    assert_eq!(list(index, opened, &[], &mut []), Err(refused));
+}
+
+/// The version put into the record by hand.
+#[test]
+fn versions_of_strangers() {
+    for (index, opened) in indexes() {
+        for version in NO_VERSIONS {
+            let mut record = opened;
+            record[8] = version;
+            unfit(&index, &record);
+        }
+        // in a group that isn't full no call can tell them apart
+        let mut record = opened;
+        record[8] = 7 - opened[8];
+        assert_eq!(open(record[8], 12, &index), Ok(record));
+        assert_eq!(with_record(&index, &record), with_record(&index, &opened));
+    }
+}
+
+/// 300 blocks, which are three groups in version 3 and two in version 4, with the other version put into the record.
+#[test]
+fn versions_of_strangers_in_more_groups() {
+    let mut builder = crate::Builder::new();
+    for i in 0..300u16 {
+        let at = u64::from(i);
+        let block = BlockAddr::new(at..at + 1, at);
+        builder.add_block(&i.to_be_bytes(), block).unwrap();
+    }
+    let [three, four] = [crate::Version::V3, crate::Version::V4].map(|version| {
+        let index = builder.finish(version).unwrap();
+        let opened = open(version.number(), 300, &index).unwrap();
+        (index, opened)
+    });
+    for (index, opened) in [&three, &four] {
+        for version in NO_VERSIONS {
+            let mut record = *opened;
+            record[8] = version;
+            unfit(index, &record);
+        }
+        for id in 0..300 {
+            let due = BlockAddr::new(id..id + 1, id);
+            assert_eq!(get_block(index, opened, id), Ok(due));
+            assert_eq!(locate_with_ord(index, opened, id), Ok((id, due)));
+        }
+    }
+    // too few group records for version 3
+    let (index, mut record) = four;
+    record[8] = 3;
+    unfit(&index, &record);
+    // enough for version 4: a block or 20, and keys as before, for which no group is read
+    let (index, opened) = three;
+    let mut record = opened;
+    record[8] = 4;
+    allowed(with_record(&index, &record));
+    for id in 0..301 {
+        let before = separator(&index, &opened, id);
+        assert_eq!(separator(&index, &record, id), before);
+        match get_block(&index, &record, id) {
+            Ok(block) => assert!(block.start <= block.end && block.end < 1 << 48),
+            Err(Refusal::UnknownId) => assert_eq!(id, 300),
+            Err(refusal) => assert_eq!(refusal, Refusal::OpenedRecord),
+        }
+    }
+}
+
 /// Any record at all: an answer, or a number that the call has.
 #[test]
 fn records_of_strangers() {
-    let (index, opened) = from_three();
-    let numbers = [0, 1, 2, 3, 31, 36, 39, 75, 84, 85, 86, 1 << 32, u64::MAX];
+    let (index, opened) = from_three(4);
+    let numbers = [0, 1, 2, 3, 4, 31, 36, 39, 75, 84, 85, 86, 1 << 32, u64::MAX];
     let mut seen = [0; 30];
-    for first in 0..8 {
-        for second in 0..8 {
+    for first in 0..9 {
+        for second in 0..9 {
             for value in numbers {
                 for other in numbers {
                     let mut record = opened;
@@ -388,7 +570,13 @@ fn allowed(all: [Result<u64, Refusal>; 6]) {
 /// Each byte changed after the opening.
 #[test]
 fn bytes_of_strangers() {
-    let (good, opened) = from_three();
+    for version in VERSIONS {
+        bytes_of_strangers_in(version);
+    }
+}
+
+fn bytes_of_strangers_in(version: u64) {
+    let (good, opened) = from_three(version);
     let mut seen = [0; 30];
     for at in 0..good.len() {
         for value in [0, 1, 2, 5, 57, 0x7f, 0x80, 0xff] {
@@ -413,7 +601,7 @@ fn bytes_of_strangers() {
 /// A batch: the record's own test, then the list's, then what the searches read.
 #[test]
 fn no_20_and_26() {
-    let (index, opened) = worked();
+    let (index, opened) = worked(3);
     let batch = |index: &[u8], opened: &Opened, pairs: &[u64]| {
         let mut ids = [9; 3];
         let answer = locate_with_keys(index, opened, pairs, b"gfa", &mut ids);
@@ -454,8 +642,8 @@ fn no_20_after_63_keys() {
         let block = BlockAddr::new(i..i + 1, i);
         builder.add_block(&key(i), block).unwrap();
     }
-    let mut index = builder.finish().unwrap();
-    let opened = open(5_000, &index).unwrap();
+    let mut index = builder.finish(crate::Version::V3).unwrap();
+    let opened = open(3, 5_000, &index).unwrap();
     let keys = [key(1_999), key(0)].concat();
     let mut pairs = [0, 4].repeat(64);
     pairs[126] = 4;
@@ -476,7 +664,7 @@ fn no_20_after_63_keys() {
 
 #[test]
 fn no_21_to_23() {
-    let (index, opened) = worked();
+    let (index, opened) = worked(3);
     let [_, table] = tables();
     let refused = |table: &[u8], refusal| {
         let mut marks = [9; 3];
@@ -500,7 +688,7 @@ fn no_21_to_23() {
 
 #[test]
 fn no_24_and_25() {
-    let (index, opened) = worked();
+    let (index, opened) = worked(3);
     let [any, e] = tables();
     let mut marks = [9; 2];
     let answer = list(&index, &opened, &any, &mut marks);
@@ -564,38 +752,37 @@ fn absent_start() {
 /// A refusal sets each out-parameter to 0.
 #[test]
 fn out_parameters_of_refusals() {
-    let (index, opened) = worked();
+    let (index, opened) = worked(4);
     let [any, e] = tables();
     let (bytes, len) = (index.as_ptr(), index.len());
-    let (mut a, mut b, mut c, mut d) = (9, 9, 9, 9);
-    let mut record = [9; 8];
+    let (mut a, mut b);
+    let (mut c, mut d) = (9, 9);
     let mut out = [9; 10];
+    let (numbers, keys) = (NUMBERS.as_ptr(), KEYS.as_ptr());
     // SAFETY: pointers and lengths of references.
     unsafe {
-        let number = rosmarel_finish(
-            3,
-            NUMBERS.as_ptr(),
-            15,
-            KEYS.as_ptr(),
-            3,
-            out.as_mut_ptr(),
-            10,
-            &mut a,
-            &mut b,
-        );
-        assert_eq!((number, a, b), (9, 0, 0));
-        a = 9;
-        let number = rosmarel_finish_len(4, NUMBERS.as_ptr(), 15, KEYS.as_ptr(), 3, &mut a);
-        assert_eq!((number, a), (1, 0));
-        a = 9;
+        for (version, due) in [(4, 9), (5, 30)] {
+            (a, b) = (9, 9);
+            let at = out.as_mut_ptr();
+            let number = rosmarel_finish(version, 3, numbers, 15, keys, 3, at, 10, &mut a, &mut b);
+            assert_eq!((number, a, b), (due, 0, 0));
+        }
+        for (version, due) in [(4, 1), (5, 30)] {
+            a = 9;
+            let number = rosmarel_finish_len(version, 4, numbers, 15, keys, 3, &mut a);
+            assert_eq!((number, a), (due, 0));
+        }
         let block = BlockAddr::new(0..u64::MAX, 0);
-        let number = rosmarel_store(&block, 1, out.as_mut_ptr(), 10, &mut a);
-        assert_eq!((number, a), (3, 0));
-        assert_eq!(rosmarel_open(12, bytes, 7, &mut record), 10);
-        assert_eq!(record, [0; 8]);
-        record = [9; 8];
-        assert_eq!(rosmarel_open(9, bytes, len, &mut record), 28);
-        assert_eq!(record, [0; 8]);
+        for (version, due) in [(4, 3), (5, 30)] {
+            a = 9;
+            let number = rosmarel_store(version, &block, 1, out.as_mut_ptr(), 10, &mut a);
+            assert_eq!((number, a), (due, 0));
+        }
+        for (version, terms, len, due) in [(4, 12, 7, 10), (4, 9, len, 28), (5, 12, len, 30)] {
+            let mut record = [9; 9];
+            let number = rosmarel_open(version, terms, bytes, len, &mut record);
+            assert_eq!((number, record), (due, [0; 9]));
+        }
         (a, b) = (9, 9);
         let number = rosmarel_get_block(bytes, len, &opened, 3, &mut a, &mut b, &mut c);
         assert_eq!((number, a, b, c), (17, 0, 0, 0));
@@ -661,17 +848,21 @@ fn empty_slices() {
     let answer = add(&mut n, &mut [], &mut [], &[], BlockAddr::default());
     assert_eq!((answer, n), (refused, 0));
     assert_eq!(shorten(0, &mut [], &mut [], &[]), Ok(()));
-    assert_eq!(finish_len(0, &[], &[]), Ok(0));
-    assert_eq!(open(0, &[]), Err(Refusal::Footer));
-    assert_eq!(store(&[], &mut []), Err(Refusal::OutputTooShort));
-    assert_eq!(store(&[], &mut [0; 8]), Ok(8));
+    for version in VERSIONS {
+        assert_eq!(finish_len(version, 0, &[], &[]), Ok(0));
+        assert_eq!(open(version, 0, &[]), Err(Refusal::Footer));
+        assert_eq!(check_canonical(version, &[]), Err(Refusal::Footer));
+        let answer = store(version, &[], &mut []);
+        assert_eq!(answer, Err(Refusal::OutputTooShort));
+        assert_eq!(store(version, &[], &mut [0; 8]), Ok(8));
+    }
     assert_eq!(common_prefix_len(&[], &[]), 0);
-    let record = [0; 8];
+    let record = [0; 9];
     assert_eq!(get_block(&[], &record, 0), Err(Refusal::OpenedRecord));
     assert_eq!(separator(&[], &record, 0), (0, 0));
     let answer = locate_with_keys(&[], &record, &[], &[], &mut []);
     assert_eq!(answer, Err(Refusal::OpenedRecord));
-    let (index, opened) = worked();
+    let (index, opened) = worked(3);
     let answer = locate_with_keys(&index, &opened, &[], &[], &mut []);
     assert_eq!(answer, Ok(()));
     let answer = list(&[], &record, &[], &mut []);

@@ -3,10 +3,33 @@
 #![allow(dead_code)]
 
 use std::collections::HashSet;
+use std::slice::Chunks;
 
-use rosmarel::BlockAddr;
+use rosmarel::{BlockAddr, Version};
 
 pub const LIMIT: u64 = 1 << 48;
+
+/// The versions that there are.
+pub const VERSIONS: [Version; 2] = [Version::V3, Version::V4];
+
+pub fn other(version: Version) -> Version {
+    match version {
+        Version::V3 => Version::V4,
+        Version::V4 => Version::V3,
+    }
+}
+
+/// How many blocks a group has.
+pub fn group_len(version: Version) -> usize {
+    match version {
+        Version::V3 => 128,
+        Version::V4 => 256,
+    }
+}
+
+pub fn groups(version: Version, blocks: &[BlockAddr]) -> Chunks<'_, BlockAddr> {
+    blocks.chunks(group_len(version))
+}
 
 /// Entries of the plain machine: block i and separator i.
 #[derive(Clone, Debug, Default, PartialEq)]
@@ -65,13 +88,13 @@ impl Entries {
     }
 
     /// The index, empty for 0 and 1 blocks.
-    pub fn index(&self) -> Vec<u8> {
+    pub fn index(&self, version: Version) -> Vec<u8> {
         if self.blocks.len() < 2 {
             return Vec::new();
         }
         let directory = self.directory();
-        let len = directory.len() as u64;
-        [directory, store(&self.blocks), len.to_le_bytes().to_vec()].concat()
+        let len = (directory.len() as u64).to_le_bytes();
+        [&directory[..], &store(version, &self.blocks), &len].concat()
     }
 
     pub fn directory(&self) -> Vec<u8> {
@@ -234,10 +257,10 @@ pub fn fields(group: &[BlockAddr], plan: Plan) -> Vec<u8> {
     bits.chunks(8).map(byte).collect()
 }
 
-pub fn store(blocks: &[BlockAddr]) -> Vec<u8> {
+pub fn store(version: Version, blocks: &[BlockAddr]) -> Vec<u8> {
     let mut records = Vec::new();
     let mut addresses: Vec<u8> = Vec::new();
-    for group in blocks.chunks(128) {
+    for group in groups(version, blocks) {
         let plan = plan(group);
         records.extend(record(group, plan, addresses.len()));
         addresses.extend(fields(group, plan));
@@ -263,17 +286,17 @@ fn number(bytes: &[u8], at: usize, count: usize) -> u64 {
 }
 
 /// The number of the check: what opening refuses in the file, or 27 where it isn't the index of what is read in it.
-pub fn canonical_no(file: &[u8]) -> u32 {
-    match read(file) {
+pub fn canonical_no(file: &[u8], version: Version) -> u32 {
+    match read(file, version) {
         Err(number) => number,
-        Ok(entries) if entries.index() == file => 0,
+        Ok(entries) if entries.index(version) == file => 0,
         Ok(_) => 27,
     }
 }
 
 /// Opens a file of so many terms: its entries, or the first row that is hit.
-pub fn open(file: &[u8], terms: u64) -> Result<Entries, u32> {
-    let entries = read(file)?;
+pub fn open(file: &[u8], version: Version, terms: u64) -> Result<Entries, u32> {
+    let entries = read(file, version)?;
     if terms < entries.least_terms() {
         return Err(28);
     }
@@ -281,7 +304,7 @@ pub fn open(file: &[u8], terms: u64) -> Result<Entries, u32> {
 }
 
 /// Reads a file: its entries, or the first of rows 10 to 16 that it hits.
-pub fn read(file: &[u8]) -> Result<Entries, u32> {
+pub fn read(file: &[u8], version: Version) -> Result<Entries, u32> {
     let Some(body) = file.len().checked_sub(8) else {
         return Err(10);
     };
@@ -297,7 +320,7 @@ pub fn read(file: &[u8]) -> Result<Entries, u32> {
     if keys.windows(2).any(|pair| pair[0] >= pair[1]) {
         return Err(13);
     }
-    let blocks = open_store(store, keys.len())?;
+    let blocks = open_store(store, group_len(version), keys.len())?;
     Ok(Entries { blocks, keys })
 }
 
@@ -325,8 +348,8 @@ fn open_directory(directory: &[u8]) -> Option<Vec<Vec<u8>>> {
     rest.is_empty().then_some(keys)
 }
 
-fn open_store(store: &[u8], n: usize) -> Result<Vec<BlockAddr>, u32> {
-    let records_len = 36 * n.div_ceil(128);
+fn open_store(store: &[u8], group_len: usize, n: usize) -> Result<Vec<BlockAddr>, u32> {
+    let records_len = 36 * n.div_ceil(group_len);
     if number(store, 0, 8) != records_len as u64 || 8 + records_len > store.len() {
         return Err(14);
     }
@@ -334,7 +357,7 @@ fn open_store(store: &[u8], n: usize) -> Result<Vec<BlockAddr>, u32> {
     let groups: Vec<Group> = records.chunks(36).map(Group::read).collect();
     for (i, group) in groups.iter().enumerate() {
         let widths = [group.range_width, group.ordinal_width];
-        let wrong_count = group.count != (n - 128 * i).min(128) as u64;
+        let wrong_count = group.count != (n - group_len * i).min(group_len) as u64;
         if widths.iter().any(|width| !(1..=56).contains(width)) || wrong_count {
             return Err(15);
         }

@@ -1,12 +1,12 @@
 -- Of the text's three cases each has its piece.
-use Rattle.std.proofs.Common.{◌≡◌, ◌<◌, ◌≤◌, ℕ, List, [], ◌∷◌, Ok, Err, length, get_or, sym, ap, ◌∙◌, arith}
-use Rattle.layout.specs.Layout.{store_block_len}
+use Rattle.std.proofs.Common.{◌≡◌, ◌<◌, ◌≤◌, ℕ, List, [], ◌∷◌, Ok, Err, length, get_or, sym, ap, subst, ◌∙◌, arith}
 use Rattle.layout.specs.Refusals.{number_of}
+use Rattle.layout.specs.Versions.{group_len_of}
 use Rattle.index.specs.declared.SSTableIndexV3.{SSTableIndexV3}
-use Rattle.index.specs.Opening.{load_least_def, least_terms, Opens}
-use Rattle.index.proofs.Terms.{opens-own}
+use Rattle.index.specs.Opening.{load_least_def, least_terms, OpensBy, Opens}
+use Rattle.index.proofs.Terms.{own-version, opens-own}
 use Rattle.line_text.specs.Lines.{too_long_line, refused_line}
-use Rattle.block_lines.specs.Text.{max_len, line_at, lines_from, blocks_pieces, piece_at, IsPiece}
+use Rattle.block_lines.specs.Text.{read_version, max_len, line_at, lines_from, blocks_pieces, piece_at, IsPiece}
 use Rattle.block_lines.proofs.Opened.{line-fits}
 use Rattle.block_lines.proofs.TextPieces.{long-pieces, short-pieces, refused-short, length-lines, line-is}
 use Rattle.block_lines.proofs.piece.Goals as goal
@@ -18,9 +18,12 @@ only pieces piece i e h =
     rw (e, z)
 
 -- the lines of an opened index
-module _ (f : List ℕ) (opened : SSTableIndexV3) (few : length f ≤ max_len) (loaded : load_least_def f ≡ Ok opened) where
+module _ (f : List ℕ) (opened : SSTableIndexV3) (few : length f ≤ max_len) (loaded : load_least_def read_version f ≡ Ok opened) where
   opens : Opens f opened
-  opens = opens-own store_block_len (least_terms store_block_len f) f opened loaded
+  opens =
+      let L = group_len_of read_version in
+      subst (λ (v : ℕ). OpensBy (group_len_of v) f opened) (sym (own-version L read_version (least_terms L f) f opened loaded))
+      (opens-own L read_version (least_terms L f) f opened loaded)
 
   lines : blocks_pieces f ≡ lines_from opened f 0 opened.n
   lines = short-pieces f few (Ok opened) loaded
@@ -43,13 +46,13 @@ returns-then-data-gt-MAX_LEN c = record {
 pub line-requires : goal.line-requires
 line-requires c =
     let f = c.args.«data».now in
-    let loaded : load_least_def f ≡ Ok c.in-Ok.opened = sym c.requires.0 ∙ c.in-Ok.is in
+    let loaded : load_least_def read_version f ≡ Ok c.in-Ok.opened = sym c.requires.0 ∙ c.in-Ok.is in
     let few = c.if-data-gt-MAX_LEN.false in
     (opens f c.in-Ok.opened few loaded, below f c.in-Ok.opened few loaded c.args.i c.requires.1)
 
 pub returns-in-Ok : goal.returns-in-Ok
 returns-in-Ok c =
-    let loaded : load_least_def c.args.«data».now ≡ Ok c.in-Ok.opened = sym c.requires.0 ∙ c.in-Ok.is in
+    let loaded : load_least_def read_version c.args.«data».now ≡ Ok c.in-Ok.opened = sym c.requires.0 ∙ c.in-Ok.is in
     is_line c.args.«data».now c.in-Ok.opened c.if-data-gt-MAX_LEN.false loaded c.args.i c.requires.1 _ c.line.ensures.same
 
 pub returns-in-Err : goal.returns-in-Err

@@ -20,7 +20,7 @@ slice_bounds-open_list-end c =
     let m = c.make_calls-builder in
     let l = c.finish_list-total in
     total-fits a.list.now.head.list.now a.blocks.now a.keys.now a.out.now m.new.blocks m.new.keys m.result m.ensures.leaves_state
-    l.result l.new.out l.ensures.value l.ensures.out_after l.auto.out
+    l.result l.new.out (rw c.version.ensures at l.ensures.value) (rw c.version.ensures at l.ensures.out_after) l.auto.out
 
 pub slice_bounds-open_list-end-2 : goal.slice_bounds-open_list-end-2
 slice_bounds-open_list-end-2 c = sym (length-take-le _ _ (slice_bounds-open_list-end c))
@@ -41,7 +41,8 @@ returns c =
     let l = c.finish_list-total in
     replayed s a.blocks.now a.keys.now a.out.now m.new.blocks m.new.keys m.result m.ensures.leaves_state
     a.answers.now c.call_count-count.result c.call_count-count.ensures.0 _ _ _ l.new.out
-    m.ensures.answers_after l.ensures.out_after l.ensures.answers_after _ a.list.now.counted
+    m.ensures.answers_after (rw c.version.ensures at l.ensures.out_after) (rw c.version.ensures at l.ensures.answers_after) _
+    a.list.now.counted
     (c.open_list.ensures _ _ (finish_settings s) (entries_of s a.blocks.now a.keys.now)
     (opened-list s a.blocks.now a.keys.now a.out.now m.new.blocks m.new.keys m.result m.ensures.leaves_state
-    l.result l.new.out l.ensures.value l.ensures.out_after))
+    l.result l.new.out (rw c.version.ensures at l.ensures.value) (rw c.version.ensures at l.ensures.out_after)))

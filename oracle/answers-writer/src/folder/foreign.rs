@@ -1,13 +1,14 @@
 //! Index files that keep the rules, but that the Rust's builder wouldn't write.
 
-use crate::folder::Folder;
+use crate::folder::{Folder, table, version_of};
 use model::blocks::{WORKED, touching};
 use model::files::File;
 use model::foreign::{self, Group, least_width, ord_points, range_points};
 use model::opening;
+use model::version::{V3, Version};
 
 /// The file of the groups; the address bytes behind and between their fields are as given.
-fn put(folder: &mut Folder, name: &str, what: &str, groups: &[Group], addresses: Vec<u8>) {
+pub fn put(folder: &mut Folder, name: &str, what: &str, groups: &[Group], addresses: Vec<u8>) {
     let blocks: Vec<_> = groups
         .iter()
         .flat_map(|group| group.blocks.to_vec())
@@ -16,15 +17,21 @@ fn put(folder: &mut Folder, name: &str, what: &str, groups: &[Group], addresses:
         .map(|i| vec![b'b' + (i / 64) as u8, (2 * (i % 64)) as u8])
         .collect();
     let bytes = File::new(&keys, &foreign::store(groups, addresses)).bytes();
-    assert_eq!(opening::open(&bytes).blocks, blocks);
-    let own = File::written(&blocks, &keys).bytes();
+    let version = version_of(name);
+    assert_eq!(opening::open(version, &bytes).blocks, blocks);
+    let own = File::written(version, &blocks, &keys).bytes();
     assert_ne!(bytes, own, "{name}");
-    folder.opens("foreign", name, &bytes, what);
+    folder.opens(table(name, "foreign"), name, &bytes, what);
 }
 
 pub fn files(folder: &mut Folder) {
     one_group(folder);
-    last_bit(folder);
+    last_bit(
+        folder,
+        V3,
+        "foreign-last-bit",
+        "128 blocks, both widths 56: the last field ends at bit 14,280, the highest that a group can have",
+    );
     two_groups(folder);
 }
 
@@ -104,23 +111,18 @@ fn one_group(folder: &mut Folder) {
 }
 
 /// The highest bit that a group's fields can take.
-fn last_bit(folder: &mut Folder) {
-    let lengths: Vec<u64> = (0..128).map(|i| i % 7).collect();
+pub fn last_bit(folder: &mut Folder, version: Version, name: &str, what: &str) {
+    let count = version.group_len() as u64;
+    let lengths: Vec<u64> = (0..count).map(|i| i % 7).collect();
     let full = Group {
-        blocks: &touching(70, &lengths, 5, &[3; 127]),
+        blocks: &touching(70, &lengths, 5, &vec![3; lengths.len() - 1]),
         offset: 0,
         range_slope: 3,
         ord_slope: 2,
         range_width: 56,
         ord_width: 56,
     };
-    put(
-        folder,
-        "foreign-last-bit",
-        "128 blocks, both widths 56: the last field ends at bit 14,280, the highest that a group can have",
-        &[full],
-        vec![0; full.length()],
-    );
+    put(folder, name, what, &[full], vec![0; full.length()]);
 }
 
 fn two_groups(folder: &mut Folder) {

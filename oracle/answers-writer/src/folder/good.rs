@@ -6,20 +6,21 @@ use crate::folder::Folder;
 use model::blocks::touching;
 use model::files::{File, worked_file};
 use model::settings::LIMIT;
+use model::version::V3;
 
 fn keys(keys: &[&[u8]]) -> Vec<Vec<u8>> {
     keys.iter().map(|key| key.to_vec()).collect()
 }
 
 /// Keys of two bytes.
-fn many(count: usize) -> Vec<Vec<u8>> {
+pub fn many(count: usize) -> Vec<Vec<u8>> {
     (0..count)
         .map(|i| vec![(i / 16) as u8, (i % 16) as u8])
         .collect()
 }
 
 /// Blocks of different lengths.
-fn uneven(count: usize) -> Vec<Block> {
+pub fn uneven(count: usize) -> Vec<Block> {
     let lengths: Vec<u64> = (0..count as u64).map(|i| i * i % 37).collect();
     let steps: Vec<u64> = (1..count as u64).map(|i| 1 + i * 7 % 5).collect();
     touching(1000, &lengths, 3, &steps)
@@ -106,7 +107,7 @@ pub fn files(folder: &mut Folder) {
             many(257),
         ),
     ] {
-        let file = File::written(&blocks, &keys);
+        let file = File::written(V3, &blocks, &keys);
         folder.opens("good", name, &file.bytes(), what);
     }
 }

@@ -5,13 +5,12 @@ mod good;
 mod one_way;
 mod refused;
 mod tables;
+mod version_4;
 
 use std::collections::BTreeSet;
 use std::fmt::Write;
 use std::fs;
 use std::path::Path;
-
-use tantivy_sstable::access::{self, Block, Index};
 
 use crate::indexes;
 use crate::text::hex;
@@ -19,9 +18,27 @@ use model::around;
 use model::canonical::{self, NOT_CANONICAL};
 use model::numbers::Numbers;
 use model::opening::{self, Opening};
+use model::rust::{self, Block, Index};
+use model::version::{self, V3, V4, Version};
 
 /// A file that has no byte of room in the program's area isn't read.
 const MOST: usize = 65_535;
+
+/// The version that a file of this name is read with.
+fn version_of(name: &str) -> Version {
+    match name.starts_with("v4-") {
+        true => V4,
+        false => V3,
+    }
+}
+
+/// The table of the README that a file of this name stands in; each version 4 stands in its own.
+fn table(name: &str, of_version_3: &'static str) -> &'static str {
+    match version_of(name) {
+        V3 => of_version_3,
+        V4 => "version 4",
+    }
+}
 
 /// The folder's files, and what the program is told to replay.
 pub struct Folder {
@@ -49,7 +66,7 @@ impl Folder {
 
     /// An index file that is refused.
     fn refused(&mut self, table: &'static str, name: &str, bytes: &[u8], what: &str) {
-        let answer = format!("refused {}", opening::open(bytes).no());
+        let answer = format!("refused {}", opening::open(version_of(name), bytes).no());
         let cell = format!("`{answer}`");
         self.case(table, &format!("{name}.index"), bytes, what, &cell);
         self.put(format!("{name}.expected"), format!("{answer}\n").into());
@@ -57,7 +74,7 @@ impl Folder {
 
     /// An index file that opens, with questions.
     fn opens(&mut self, table: &'static str, name: &str, bytes: &[u8], what: &str) {
-        let opening = opening::open(bytes);
+        let opening = opening::open(version_of(name), bytes);
         assert_eq!(opening.no(), 0, "{name}");
         let index = indexes::rust(bytes, &opening).unwrap();
         let check = check(bytes, &opening);
@@ -65,7 +82,7 @@ impl Folder {
         self.case(table, &format!("{name}.index"), bytes, what, &cell);
         let lines = lines(&index, &opening);
         self.put(format!("{name}.expected"), lines.into());
-        let questions = questions(&index, &opening) + &format!("c {check}\n");
+        let questions = questions(&index, &opening) + &format!("c {check}\n") + &by_version(bytes);
         self.questions += questions.lines().count();
         self.put(format!("{name}.questions"), questions.into());
         self.names.push(format!("{name}.questions"));
@@ -103,6 +120,7 @@ impl Folder {
             "good",
             "foreign",
             "one way",
+            "version 4",
             "refused tables",
             "tables",
         ] {
@@ -120,7 +138,7 @@ impl Folder {
 fn check(bytes: &[u8], opening: &Opening) -> u64 {
     let keys = opening.keys.iter().map(Vec::as_slice);
     let given: Vec<(Block, &[u8])> = opening.blocks.iter().copied().zip(keys).collect();
-    let no = match access::write_index(&given) == bytes {
+    let no = match rust::write_index(opening.version, &given) == bytes {
         true => 0,
         false => NOT_CANONICAL,
     };
@@ -145,7 +163,7 @@ fn lines(index: &Index, opening: &Opening) -> String {
 /// Questions around the blocks' boundaries. The answers are the Rust's, where it has one.
 fn questions(index: &Index, opening: &Opening) -> String {
     let n = opening.record.n;
-    let chosen = around::ids(&mut Numbers::from_seed(1), n, 0);
+    let chosen = around::ids(opening.version, &mut Numbers::from_seed(1), n, 0);
     let mut text = String::new();
     for id in chosen.iter().copied().chain([n, u64::MAX]) {
         assert_eq!(index.get_block(id), opening.by_id(id));
@@ -186,7 +204,7 @@ fn by_terms(index: &Index, opening: &Opening, chosen: &BTreeSet<u64>) -> String 
         for ord in ords {
             match opening.by_ord(terms, ord) {
                 Ok((id, _)) => {
-                    assert_eq!(index.locate_with_ord(ord), id);
+                    assert_eq!(index.get_and_locate_with_ord(ord).0, id);
                     writeln!(text, "o {terms} {ord} 0 {id}")
                 }
                 // the Rust panics below the first, and knows of no number of terms
@@ -194,6 +212,16 @@ fn by_terms(index: &Index, opening: &Opening, chosen: &BTreeSet<u64>) -> String 
             }
             .unwrap();
         }
+    }
+    text
+}
+
+/// Questions whether the file opens with a version and enough terms.
+fn by_version(bytes: &[u8]) -> String {
+    let mut text = String::new();
+    for version in [0, 2, 3, 4, 5, u64::MAX] {
+        let no = version::number(version, |version| opening::open(version, bytes).no());
+        writeln!(text, "v {version} {no}").unwrap();
     }
     text
 }
@@ -210,6 +238,7 @@ pub fn write(place: &Path) {
     good::files(&mut folder);
     foreign::files(&mut folder);
     one_way::files(&mut folder);
+    version_4::files(&mut folder);
     tables::tables(&mut folder);
     let readme = folder.readme();
     folder.put("README.md".to_string(), readme.into());

@@ -2,12 +2,13 @@
 
 use tantivy_sstable::access::Block;
 
-use crate::folder::Folder;
+use crate::folder::{Folder, table, version_of};
 use model::blocks::{WORKED, touching};
 use model::canonical::{NOT_CANONICAL, groups, number};
 use model::files::File;
 use model::foreign::Group;
 use model::opening;
+use model::version::V3;
 use model::ways::{Way, exchanged, gap, padding, shared, slopes, with};
 
 /// Keys of two bytes.
@@ -17,12 +18,12 @@ fn keys(count: usize) -> Vec<Vec<u8>> {
         .collect()
 }
 
-fn put(folder: &mut Folder, name: &str, what: &str, blocks: &[Block], store: &[u8]) {
+pub fn put(folder: &mut Folder, name: &str, what: &str, blocks: &[Block], store: &[u8]) {
     let bytes = File::new(&keys(blocks.len()), store).bytes();
-    let opening = opening::open(&bytes);
+    let opening = opening::open(version_of(name), &bytes);
     assert_eq!(opening.blocks, blocks, "{name}");
     assert_eq!(number(&opening, &bytes), NOT_CANONICAL, "{name}");
-    folder.opens("one way", name, &bytes, what);
+    folder.opens(table(name, "one way"), name, &bytes, what);
 }
 
 /// The last of the stores in which this differs.
@@ -37,7 +38,7 @@ pub fn files(folder: &mut Folder) {
 }
 
 fn one_group(folder: &mut Folder) {
-    let own = groups(&WORKED);
+    let own = groups(V3, &WORKED);
     for (name, what, store) in [
         (
             "27-gap-before",
@@ -78,14 +79,14 @@ fn one_group(folder: &mut Folder) {
         "27-other-range-slope",
         "range slope 1, with which 2 bits are enough too; the writer's is 2",
         &two,
-        &last(slopes(&groups(&two), 0), Way::RangeSlope),
+        &last(slopes(&groups(V3, &two), 0), Way::RangeSlope),
     );
 }
 
 fn more_groups(folder: &mut Folder) {
     let lengths: Vec<u64> = (0..131).map(|i| i * i % 37).collect();
     let uneven = touching(70, &lengths, 5, &[3; 130]);
-    let own = groups(&uneven);
+    let own = groups(V3, &uneven);
     for (name, what, store) in [
         (
             "27-gap",
@@ -116,10 +117,10 @@ fn more_groups(folder: &mut Folder) {
         "27-shared-groups",
         "two groups, one set of fields for both",
         &even,
-        &shared(&groups(&even), 0).expect("equal fields"),
+        &shared(&groups(V3, &even), 0).expect("equal fields"),
     );
     let one_more = &even[..129];
-    let own: Vec<Group> = groups(one_more);
+    let own: Vec<Group> = groups(V3, one_more);
     put(
         folder,
         "27-unused-slope",

@@ -6,9 +6,10 @@ use model::files::{Fault, File, keys_of_one_byte};
 use model::foreign::{self, Group};
 use model::opening;
 use model::settings::LIMIT;
+use model::version::{V3, VERSIONS, Version};
 
 /// A file's name, which begins with its row; the row's parts that it breaks; what it is; its bytes.
-type Case = (&'static str, &'static [&'static str], &'static str, Vec<u8>);
+pub type Case = (&'static str, &'static [&'static str], &'static str, Vec<u8>);
 
 pub fn files(folder: &mut Folder) {
     let smallest = smallest();
@@ -21,45 +22,57 @@ pub fn files(folder: &mut Folder) {
         ]
     );
     for case in smallest {
-        check(&case);
-        check_smallest(&case);
+        for version in VERSIONS {
+            // blocks that don't touch need two groups
+            if version == V3 || case.0 != "16-join" {
+                check(version, &case);
+                check_smallest(version, &case);
+            }
+        }
         folder.refused("smallest", case.0, &case.3, case.2);
     }
     for case in more() {
-        check(&case);
+        check(V3, &case);
         folder.refused("more", case.0, &case.3, case.2);
     }
 }
 
-/// The row that a name begins with.
+/// The row that a name begins with, behind its version.
 fn row(name: &str) -> u64 {
+    let name = name.strip_prefix("v4-").unwrap_or(name);
     name[..2].parse().unwrap()
 }
 
 /// Whether bytes are refused by this row, for these parts of it and no others.
-fn breaks(bytes: &[u8], row: u64, parts: &[&str]) -> bool {
-    let opening = opening::open(bytes);
+fn breaks(version: Version, bytes: &[u8], row: u64, parts: &[&str]) -> bool {
+    let opening = opening::open(version, bytes);
     let hits = opening.hits.iter().filter(|hit| hit.0 == row);
     opening.no() == row && hits.map(|hit| hit.1).eq(parts.iter().copied())
 }
 
-fn check((name, parts, _, bytes): &Case) {
-    let hits = opening::open(bytes).hits;
-    assert!(breaks(bytes, row(name), parts), "{name}: {hits:?}");
+pub fn check(version: Version, (name, parts, _, bytes): &Case) {
+    let hits = opening::open(version, bytes).hits;
+    assert!(breaks(version, bytes, row(name), parts), "{name}: {hits:?}");
 }
 
 /// Cutting a run of bytes out gives no file that breaks the same parts, whether the directory's length stays or is less by the run.
-fn check_smallest((name, parts, _, bytes): &Case) {
+fn check_smallest(version: Version, (name, parts, _, bytes): &Case) {
     let length = bytes.len();
     for from in 0..length {
         for to in from + 1..=length.min(from + 80) {
             let mut rest = [&bytes[..from], &bytes[to..]].concat();
-            assert!(!breaks(&rest, row(name), parts), "{name} {from} {to}");
+            assert!(
+                !breaks(version, &rest, row(name), parts),
+                "{name} {from} {to}"
+            );
             if let Some(footer) = rest.last_chunk_mut::<8>() {
                 let less = u64::from_le_bytes(*footer).wrapping_sub((to - from) as u64);
                 *footer = less.to_le_bytes();
             }
-            assert!(!breaks(&rest, row(name), parts), "{name} {from} {to}");
+            assert!(
+                !breaks(version, &rest, row(name), parts),
+                "{name} {from} {to}"
+            );
         }
     }
 }
@@ -83,7 +96,7 @@ fn file(directory: &[u8], records_len: u64) -> Vec<u8> {
 /// The smallest file that opens, with a fault.
 fn small(fault: Fault) -> Vec<u8> {
     let blocks = touching(0, &[1, 1], 0, &[1]);
-    let file = File::written(&blocks, &[vec![], b"a".to_vec()]);
+    let file = File::written(V3, &blocks, &[vec![], b"a".to_vec()]);
     assert_eq!(file.bytes().len(), 74);
     file.with(fault).bytes()
 }
@@ -91,7 +104,7 @@ fn small(fault: Fault) -> Vec<u8> {
 /// A file of one full group, as the writer makes it, with a fault.
 fn full_group(fault: Fault) -> Vec<u8> {
     let blocks = touching(0, &[1; 128], 0, &[1; 127]);
-    File::written(&blocks, &keys_of_one_byte(128))
+    File::written(V3, &blocks, &keys_of_one_byte(128))
         .with(fault)
         .bytes()
 }
@@ -112,7 +125,7 @@ fn two_groups(fault: Fault) -> Vec<u8> {
         .collect();
     let keys = [vec![vec![]], keys_of_one_byte(128)].concat();
     let file = File::new(&keys, &foreign::store(&groups, vec![0xff; 32]));
-    assert_eq!(opening::open(&file.bytes()).no(), 0);
+    assert_eq!(opening::open(V3, &file.bytes()).no(), 0);
     file.with(fault).bytes()
 }
 

@@ -6,6 +6,7 @@ use crate::folder::Folder;
 use model::automaton::{Table, mark, table_hits};
 use model::files::worked_file;
 use model::opening;
+use model::version::V3;
 
 pub fn tables(folder: &mut Folder) {
     refused(folder);
@@ -21,7 +22,7 @@ pub fn tables(folder: &mut Folder) {
 /// The marks of the blocks of worked.index as digits, and how many are 1.
 fn marks(table: &Table) -> String {
     let bytes = worked_file().bytes();
-    let keys = opening::open(&bytes).keys;
+    let keys = opening::open(V3, &bytes).keys;
     let marked = Index::open(&bytes).get_block_for_automaton(table);
     let mut digits = String::new();
     for (i, key) in keys.iter().enumerate() {

@@ -7,7 +7,7 @@ use model::batch::{KeyList, NO_ID, Separators};
 use model::opening::Opened;
 
 use super::Call;
-use super::opened::File;
+use super::opened::{File, Judged};
 use crate::asked::rust;
 use crate::memory::lent::Lent;
 use crate::memory::touched::calling;
@@ -15,7 +15,7 @@ use crate::tally::{By, Case, Tally};
 
 #[rustfmt::skip]
 unsafe extern "C" {
-    fn rosmarel_locate_with_keys(index: *const u8, index_len: usize, opened: *const [u64; 8], pairs: *const u64, pairs_len: usize,
+    fn rosmarel_locate_with_keys(index: *const u8, index_len: usize, opened: *const [u64; 9], pairs: *const u64, pairs_len: usize,
         keys: *const u8, keys_len: usize, ids: *mut u64, ids_len: usize) -> u32;
 }
 
@@ -100,8 +100,8 @@ impl File {
     }
 
     fn batch_due(&self, tally: &mut Tally, list: &KeyList, room: usize) -> Due {
-        if self.exact {
-            return self.entries_due(tally, list, room);
+        if let Some(judged) = self.judged() {
+            return self.entries_due(tally, judged, list, room);
         }
         // the archive's own order: the record by itself, then the list, then what a search meets
         if Opened::of(self.numbers()).unfit(self.bytes.len()) {
@@ -114,21 +114,24 @@ impl File {
     }
 
     /// The model's answer; its entries must be those of the Rust, and those of the call for one key.
-    fn entries_due(&self, tally: &mut Tally, list: &KeyList, room: usize) -> Due {
-        let known = &self.known;
+    fn entries_due(&self, tally: &mut Tally, judged: Judged, list: &KeyList, room: usize) -> Due {
+        let Judged {
+            opening,
+            index,
+            known,
+        } = judged;
         let separators = known
             .separators
-            .get_or_init(|| Separators::new(&self.opening.keys));
+            .get_or_init(|| Separators::new(&opening.keys));
         let (no, entries) = separators.locate(list, room);
         if no != 0 {
             return Due::Exactly(no, entries);
         }
         let keys = list.keys();
-        let rust: Option<Vec<u64>> = self.judged().and_then(|index| {
-            let found = |key: &&[u8]| index.locate_with_key(key).unwrap_or(NO_ID);
-            rust(&LOCATE_WITH_KEYS, || keys.iter().map(found).collect())
-        });
-        let singles: Option<Vec<u64>> = keys.iter().map(|key| self.single(tally, key)).collect();
+        let found = |key: &&[u8]| index.locate_with_key(key).unwrap_or(NO_ID);
+        let rust: Option<Vec<u64>> = rust(&LOCATE_WITH_KEYS, || keys.iter().map(found).collect());
+        let single = |key: &&[u8]| self.single(tally, known, key);
+        let singles: Option<Vec<u64>> = keys.iter().map(single).collect();
         if rust.as_ref() == Some(&entries) && singles.as_ref() == Some(&entries) {
             Due::Exactly(0, entries)
         } else {
@@ -139,8 +142,8 @@ impl File {
     }
 
     /// The entry that the call for one key gives.
-    fn single(&self, tally: &mut Tally, key: &[u8]) -> Option<u64> {
-        if let Some(&entry) = self.known.singles.borrow().get(key) {
+    fn single(&self, tally: &mut Tally, known: &Known, key: &[u8]) -> Option<u64> {
+        if let Some(&entry) = known.singles.borrow().get(key) {
             return entry;
         }
         let entry = match self.key(tally, key) {
@@ -148,8 +151,7 @@ impl File {
             (19, _) => Some(NO_ID),
             _ => None,
         };
-        let mut singles = self.known.singles.borrow_mut();
-        singles.insert(key.to_vec(), entry);
+        known.singles.borrow_mut().insert(key.to_vec(), entry);
         entry
     }
 

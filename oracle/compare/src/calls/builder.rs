@@ -1,7 +1,9 @@
 //! A builder of the library beside the models: add, shorten, finish and finish_len.
 
 use model::areas::{Areas, Entry, Machine, View, first, index};
-use tantivy_sstable::access::{self, Block};
+use model::rust::Block;
+use model::version::{NO_VERSIONS, VERSION_BAD, Version};
+use tantivy_sstable::access;
 
 use super::Call;
 use super::building::{self, ADD, FINISH, FINISH_LEN, SHORTEN};
@@ -177,7 +179,7 @@ impl Builder {
         }
     }
 
-    /// The row that a finish hits before it looks at its output, or 0.
+    /// The row that a finish with a right version hits before it looks at its output, or 0.
     fn finish_row(&self) -> u64 {
         if self.areas.view(self.areas.n).row_1() {
             1
@@ -189,7 +191,7 @@ impl Builder {
     }
 
     /// The row, and what the Rust writes; None where it panics.
-    fn index(&self) -> (u64, Option<Written>) {
+    fn index(&self, version: Version) -> (u64, Option<Written>) {
         let row = self.finish_row();
         if row != 0 {
             return (row, Some((Vec::new(), 0)));
@@ -198,41 +200,57 @@ impl Builder {
             Some(machine) => machine.entries.clone(),
             None => self.areas.entries(),
         };
-        (0, rust(&FINISH, || index(&entries)))
+        (0, rust(&FINISH, || index(version, &entries)))
     }
 
     /// A finish into a buffer of each of these lengths beside the index's, and its length alone. Returns the index.
-    pub fn finish(&mut self, tally: &mut Tally, rooms: &[isize]) -> Vec<u8> {
-        let (row, written) = self.index();
+    pub fn finish(&mut self, tally: &mut Tally, version: Version, rooms: &[isize]) -> Vec<u8> {
+        let (row, written) = self.index(version);
         let len = written.as_ref().map_or(0, |written| written.0.len());
+        let version = version.number();
         for room in rooms {
-            self.finish_into(
-                tally,
-                len.saturating_add_signed(*room),
-                row,
-                written.as_ref(),
-            );
+            let room = len.saturating_add_signed(*room);
+            self.finish_into(tally, version, room, row, written.as_ref());
         }
-        self.finish_len(tally, row, written.as_ref());
+        self.finish_len(tally, version, row, written.as_ref());
+        self.finish_one_unknown(tally, len);
         written.unwrap_or_default().0
     }
 
-    /// A finish into a buffer of `room` bytes. Returns the number, the index and its directory's length.
-    pub fn finish_room(&mut self, tally: &mut Tally, room: usize) -> (u64, Vec<u8>, u64) {
-        let (row, written) = self.index();
-        let no = self.finish_into(tally, room, row, written.as_ref());
+    /// A finish into a buffer of `room` bytes, and its length alone, with any version. Returns the number, the index and its directory's
+    /// length.
+    pub fn finish_room(
+        &mut self,
+        tally: &mut Tally,
+        version: u64,
+        room: usize,
+    ) -> (u64, Vec<u8>, u64) {
+        // 30 comes first, whatever the areas hold
+        let unknown = (VERSION_BAD, Some((Vec::new(), 0)));
+        let (row, written) = Version::of(version).map_or(unknown, |known| self.index(known));
+        let no = self.finish_into(tally, version, room, row, written.as_ref());
+        self.finish_len(tally, version, row, written.as_ref());
         let (bytes, directory) = written.filter(|_| no == 0).unwrap_or_default();
         (no, bytes, directory)
+    }
+
+    /// A finish with a version that there isn't, now and then: always the same one for the same areas.
+    fn finish_one_unknown(&mut self, tally: &mut Tally, room: usize) {
+        let print = self.print(&FINISH);
+        if print.turn(&[0, 1, 2, 3]) == 0 {
+            self.finish_room(tally, print.number(1).turn(&NO_VERSIONS), room);
+        }
     }
 
     fn finish_into(
         &mut self,
         tally: &mut Tally,
+        version: u64,
         room: usize,
         row: u64,
         written: Option<&Written>,
     ) -> u64 {
-        let print = self.print(&FINISH).number(room as u64);
+        let print = self.print(&FINISH).number(version).number(room as u64);
         let (bytes, directory) =
             written.map_or((&[][..], 0), |written| (&written.0[..], written.1));
         let due = match row {
@@ -245,6 +263,7 @@ impl Builder {
         };
         let (mut out, mut answers) = (Lent::buffer(room), Out::some());
         let no = building::finish(
+            version,
             self.areas.n,
             &self.blocks,
             &self.keys,
@@ -259,24 +278,28 @@ impl Builder {
         tally.case(case.outside(outside), || {
             let (got, asked) = (values(&answers).0, panics(written));
             format!(
-                "into {room} bytes gives {no} {got:?}, not {due} {lengths:?}{asked}; {}",
+                "version {version} into {room} bytes gives {no} {got:?}, not {due} {lengths:?}{asked}; {}",
                 self.lent()
             )
         });
         due
     }
 
-    fn finish_len(&mut self, tally: &mut Tally, row: u64, written: Option<&Written>) {
-        let print = self.print(&FINISH_LEN);
+    fn finish_len(&mut self, tally: &mut Tally, version: u64, row: u64, written: Option<&Written>) {
+        let print = self.print(&FINISH_LEN).number(version);
         let due = written.map_or(0, |written| written.0.len() as u64);
         let mut total = Out::new();
-        let no = building::finish_len(self.areas.n, &self.blocks, &self.keys, &mut total);
+        let (n, blocks, keys) = (self.areas.n, &self.blocks, &self.keys);
+        let no = building::finish_len(version, n, blocks, keys, &mut total);
         let right = self.settle() && written.is_some() && no == row && total.is(due);
         tally.case(
             Case::new(&FINISH_LEN, by(row, self.areas.n), print, no, right),
             || {
                 let (got, asked) = (total.value(), panics(written));
-                format!("gives {no} {got}, not {row} {due}{asked}; {}", self.lent())
+                format!(
+                    "version {version} gives {no} {got}, not {row} {due}{asked}; {}",
+                    self.lent()
+                )
             },
         );
     }

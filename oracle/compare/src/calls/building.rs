@@ -1,6 +1,7 @@
 //! The builder's calls, declared.
 
-use tantivy_sstable::access::Block;
+use model::rust::Block;
+use model::version::VERSION_BAD;
 
 use super::Call;
 use crate::memory::lent::Lent;
@@ -13,9 +14,9 @@ unsafe extern "C" {
         key: *const u8, key_len: usize, start: u64, end: u64, first_ordinal: u64) -> u32;
     fn rosmarel_shorten(n: u64, blocks: *mut u64, blocks_len: usize, keys: *mut u8, keys_len: usize,
         next_key: *const u8, next_key_len: usize) -> u32;
-    fn rosmarel_finish(n: u64, blocks: *const u64, blocks_len: usize, keys: *const u8, keys_len: usize,
+    fn rosmarel_finish(version: u64, n: u64, blocks: *const u64, blocks_len: usize, keys: *const u8, keys_len: usize,
         out: *mut u8, out_len: usize, total: *mut u64, directory_len: *mut u64) -> u32;
-    fn rosmarel_finish_len(n: u64, blocks: *const u64, blocks_len: usize, keys: *const u8, keys_len: usize,
+    fn rosmarel_finish_len(version: u64, n: u64, blocks: *const u64, blocks_len: usize, keys: *const u8, keys_len: usize,
         total: *mut u64) -> u32;
 }
 
@@ -29,11 +30,11 @@ pub static SHORTEN: Call = Call {
 };
 pub static FINISH: Call = Call {
     name: "finish",
-    numbers: &[0, 1, 8, 9],
+    numbers: &[0, 1, 8, 9, VERSION_BAD],
 };
 pub static FINISH_LEN: Call = Call {
     name: "finish_len",
-    numbers: &[0, 1, 8],
+    numbers: &[0, 1, 8, VERSION_BAD],
 };
 pub const CALLS: &[&Call] = &[&ADD, &SHORTEN, &FINISH, &FINISH_LEN];
 
@@ -62,25 +63,19 @@ pub fn shorten(n: u64, blocks: &mut Lent<u64>, keys: &mut Bytes, next: &Bytes) -
 
 /// The two out-parameters are total and directory length.
 #[rustfmt::skip]
-pub fn finish(n: u64, blocks: &Lent<u64>, keys: &Bytes, out: &mut Bytes, lengths: &mut [Out; 2]) -> u64 {
+pub fn finish(version: u64, n: u64, blocks: &Lent<u64>, keys: &Bytes, out: &mut Bytes, lengths: &mut [Out; 2]) -> u64 {
     let [total, directory] = lengths.each_mut().map(Out::ptr);
     let room = out.len();
     calling(&FINISH, || unsafe {
-        rosmarel_finish(n, blocks.ptr(), blocks.len(), keys.ptr(), keys.len(), out.ptr_mut(), room, total, directory)
+        rosmarel_finish(version, n, blocks.ptr(), blocks.len(), keys.ptr(), keys.len(), out.ptr_mut(), room, total, directory)
     })
     .into()
 }
 
-pub fn finish_len(n: u64, blocks: &Lent<u64>, keys: &Bytes, total: &mut Out) -> u64 {
+#[rustfmt::skip]
+pub fn finish_len(version: u64, n: u64, blocks: &Lent<u64>, keys: &Bytes, total: &mut Out) -> u64 {
     calling(&FINISH_LEN, || unsafe {
-        rosmarel_finish_len(
-            n,
-            blocks.ptr(),
-            blocks.len(),
-            keys.ptr(),
-            keys.len(),
-            total.ptr(),
-        )
+        rosmarel_finish_len(version, n, blocks.ptr(), blocks.len(), keys.ptr(), keys.len(), total.ptr())
     })
     .into()
 }

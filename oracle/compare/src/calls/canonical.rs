@@ -2,34 +2,35 @@
 
 use model::canonical::{self, NOT_CANONICAL};
 use model::opening::Opening;
-use tantivy_sstable::access::{self, Block};
+use model::rust::{self, Block};
+use model::version::VERSION_BAD;
 
 use super::Call;
-use crate::asked::rust;
+use crate::asked;
 use crate::memory::lent::Lent;
 use crate::memory::touched::calling;
 use crate::print::Print;
 use crate::tally::{By, Case, Tally};
 
 unsafe extern "C" {
-    fn rosmarel_check_canonical(index: *const u8, index_len: usize) -> u32;
+    fn rosmarel_check_canonical(version: u64, index: *const u8, index_len: usize) -> u32;
 }
 
 pub static CHECK_CANONICAL: Call = Call {
     name: "check_canonical",
-    numbers: &[0, 10, 11, 12, 13, 14, 15, 16, NOT_CANONICAL],
+    numbers: &[0, 10, 11, 12, 13, 14, 15, 16, NOT_CANONICAL, VERSION_BAD],
 };
 pub const CALLS: &[&Call] = &[&CHECK_CANONICAL];
 
-fn call(index: &Lent<u8>) -> u64 {
+fn call(version: u64, index: &Lent<u8>) -> u64 {
     // SAFETY: a part that is lent.
     calling(&CHECK_CANONICAL, || unsafe {
-        rosmarel_check_canonical(index.ptr(), index.len())
+        rosmarel_check_canonical(version, index.ptr(), index.len())
     })
     .into()
 }
 
-/// Checks a file, whose print this is. Returns the number that is due.
+/// Checks a file with the opening's version. Its print is this. Returns the number that is due.
 pub fn check(
     tally: &mut Tally,
     index: &Lent<u8>,
@@ -37,7 +38,8 @@ pub fn check(
     opening: &Opening,
     print: Print,
 ) -> u64 {
-    let no = call(index);
+    let version = opening.version.number();
+    let no = call(version, index);
     let due = canonical::number(opening, bytes);
     // of a file that opens the Rust's builder says the same
     let written = (opening.no() == 0).then(|| rewritten(opening));
@@ -52,7 +54,7 @@ pub fn check(
     } else {
         By::Model
     };
-    let print = Print::of(&CHECK_CANONICAL).and(print);
+    let print = Print::of(&CHECK_CANONICAL).and(print).number(version);
     let case = Case::new(&CHECK_CANONICAL, by, print, no, right);
     tally.case(case, || {
         let asked = match &written {
@@ -62,16 +64,31 @@ pub fn check(
         };
         let len = bytes.len();
         format!(
-            "{len} bytes give {no}, not {due}{asked}; {:x?}",
+            "version {version}, {len} bytes give {no}, not {due}{asked}; {:x?}",
             &bytes[..len.min(300)]
         )
     });
     due
 }
 
+/// Checks a file with a version that there isn't: 30, whatever its bytes are.
+pub fn unknown(tally: &mut Tally, version: u64, index: &Lent<u8>, bytes: &[u8], print: Print) {
+    let no = call(version, index);
+    let due = VERSION_BAD;
+    let right = no == due && index.holds(bytes);
+    let print = Print::of(&CHECK_CANONICAL).and(print).number(version);
+    let case = Case::new(&CHECK_CANONICAL, By::Model, print, no, right);
+    tally.case(case, || {
+        let (len, shown) = (bytes.len(), &bytes[..bytes.len().min(300)]);
+        format!("version {version}, {len} bytes give {no}, not {due}; {shown:x?}")
+    });
+}
+
 /// The Rust's index of what the model reads in a file; None where it panics.
 fn rewritten(opening: &Opening) -> Option<Vec<u8>> {
     let keys = opening.keys.iter().map(Vec::as_slice);
     let given: Vec<(Block, &[u8])> = opening.blocks.iter().copied().zip(keys).collect();
-    rust(&CHECK_CANONICAL, || access::write_index(&given))
+    asked::rust(&CHECK_CANONICAL, || {
+        rust::write_index(opening.version, &given)
+    })
 }

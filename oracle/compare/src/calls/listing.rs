@@ -1,5 +1,7 @@
 //! Listings of the blocks that a pattern may be in.
 
+use model::rust::Index;
+
 use super::Call;
 use super::intervals::Pattern;
 use super::opened::File;
@@ -11,7 +13,7 @@ use crate::tally::{By, Case, Tally};
 
 #[rustfmt::skip]
 unsafe extern "C" {
-    fn rosmarel_list(index: *const u8, index_len: usize, opened: *const [u64; 8], automaton: *const u8,
+    fn rosmarel_list(index: *const u8, index_len: usize, opened: *const [u64; 9], automaton: *const u8,
         automaton_len: usize, marks: *mut u8, marks_len: usize, count: *mut u64) -> u32;
 }
 
@@ -50,7 +52,7 @@ impl File {
         let (mut marks, mut count) = (Lent::buffer(room), Out::new());
         let no = call(self, &pattern.lent, &mut marks, &mut count);
         let kept = self.untouched() && count.guarded() && pattern.untouched();
-        let due = self.exact.then(|| self.marks(pattern, room));
+        let due = self.marks_due(pattern, room);
         let right = match &due {
             Some(Some((due, front))) => {
                 no == *due && count.is(ones(front)) && marks.holds_front(front)
@@ -60,7 +62,7 @@ impl File {
         };
         let by = match (&due, no) {
             (None, _) => By::Range,
-            (_, 0) => By::Rust,
+            (_, 0) if self.judged().is_some() => By::Rust,
             _ => By::Model,
         };
         let print = self.print(&LIST).and(pattern.print).number(room as u64);
@@ -80,14 +82,22 @@ impl File {
         (no, count.value(), marks.part().to_vec())
     }
 
+    /// What is due, if anything is; Some(None) where the Rust panics.
+    fn marks_due(&self, pattern: &Pattern, room: usize) -> Option<Option<(u64, Vec<u8>)>> {
+        if self.version_unknown() {
+            return Some(Some((20, Vec::new())));
+        }
+        let judged = self.judged()?;
+        Some(self.marks(judged.index, pattern, room))
+    }
+
     /// The number, and the marks of the Rust; None where it panics.
-    fn marks(&self, pattern: &Pattern, room: usize) -> Option<(u64, Vec<u8>)> {
+    fn marks(&self, index: &Index, pattern: &Pattern, room: usize) -> Option<(u64, Vec<u8>)> {
         let n = self.n() as usize;
-        match (pattern.taken(), &self.rust) {
-            (Err(row), _) => Some((row, Vec::new())),
-            (Ok(_), _) if room < n => Some((24, Vec::new())),
-            (Ok(table), index) => {
-                let index = index.as_ref()?;
+        match pattern.taken() {
+            Err(row) => Some((row, Vec::new())),
+            Ok(_) if room < n => Some((24, Vec::new())),
+            Ok(table) => {
                 let mut marks = vec![0; n];
                 for id in rust(&LIST, || index.get_block_for_automaton(table))? {
                     *marks.get_mut(id as usize)? = 1;

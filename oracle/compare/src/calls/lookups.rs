@@ -1,11 +1,11 @@
 //! Lookups by id, ordinal and key, and separators, in files that were opened.
 
-use model::opening::{ORDINAL_ABOVE, Opened};
+use model::opening::{ORDINAL_ABOVE, Opened, Opening};
+use model::rust::Block;
 use model::settings::LIMIT;
-use tantivy_sstable::access::Block;
 
 use super::Call;
-use super::opened::File;
+use super::opened::{File, Judged};
 use crate::asked::{Outside, rust};
 use crate::memory::lent::Lent;
 use crate::memory::out::{Out, values};
@@ -15,15 +15,15 @@ use crate::tally::{By, Case, Tally};
 
 #[rustfmt::skip]
 unsafe extern "C" {
-    fn rosmarel_get_block(index: *const u8, index_len: usize, opened: *const [u64; 8], id: u64,
+    fn rosmarel_get_block(index: *const u8, index_len: usize, opened: *const [u64; 9], id: u64,
         start: *mut u64, end: *mut u64, first_ordinal: *mut u64) -> u32;
-    fn rosmarel_locate_with_ord(index: *const u8, index_len: usize, opened: *const [u64; 8], ord: u64,
+    fn rosmarel_locate_with_ord(index: *const u8, index_len: usize, opened: *const [u64; 9], ord: u64,
         id: *mut u64, start: *mut u64, end: *mut u64, first_ordinal: *mut u64) -> u32;
-    fn rosmarel_locate_with_key(index: *const u8, index_len: usize, opened: *const [u64; 8],
+    fn rosmarel_locate_with_key(index: *const u8, index_len: usize, opened: *const [u64; 9],
         key: *const u8, key_len: usize, id: *mut u64) -> u32;
-    fn rosmarel_get_block_with_key(index: *const u8, index_len: usize, opened: *const [u64; 8],
+    fn rosmarel_get_block_with_key(index: *const u8, index_len: usize, opened: *const [u64; 9],
         key: *const u8, key_len: usize, id: *mut u64, start: *mut u64, end: *mut u64, first_ordinal: *mut u64) -> u32;
-    fn rosmarel_separator(index: *const u8, index_len: usize, opened: *const [u64; 8], id: u64,
+    fn rosmarel_separator(index: *const u8, index_len: usize, opened: *const [u64; 9], id: u64,
         offset: *mut u64, len: *mut u64);
 }
 
@@ -169,7 +169,7 @@ struct Made<const N: usize> {
 }
 
 impl<const N: usize> Made<N> {
-    /// Without anything due, the answer is held to a range.
+    /// Without anything due, the answer is held to a range, or is 20 for a version that there isn't.
     fn judge(
         self,
         tally: &mut Tally,
@@ -188,6 +188,10 @@ impl<const N: usize> Made<N> {
         let case = match &due {
             Some(due) => {
                 Case::new(call, due.by(), print, no, kept && due.is(no, got)).outside(due.outside())
+            }
+            None if file.version_unknown() => {
+                let refused = (no, got) == (20, [0; N]);
+                Case::new(call, By::Model, print, no, kept && refused)
             }
             None => Case::new(call, By::Range, print, no, kept && in_range),
         };
@@ -210,19 +214,14 @@ fn in_range(n: u64, no: u64, row: u64, got: &[u64], id: u64, range: (u64, u64)) 
 }
 
 impl File {
-    /// The Rust's index, if the record is the file's.
-    pub fn judged(&self) -> Option<&tantivy_sstable::access::Index> {
-        self.rust.as_ref().filter(|_| self.exact)
-    }
-
     /// By id. Returns the number, start, end and first ordinal.
     pub fn id(&self, tally: &mut Tally, id: u64) -> (u64, [u64; 3]) {
         let mut block = Out::some();
         let no = get_block(self, id, &mut block);
         let (got, guarded) = values(&block);
-        let due = self.judged().map(|index| Due {
+        let due = self.judged().map(|Judged { opening, index, .. }| Due {
             row: 17,
-            model: self.opening.by_id(id).map(numbers),
+            model: opening.by_id(id).map(numbers),
             rust: rust(&GET_BLOCK, || index.get_block(id).map(numbers)),
             differs: None,
         });
@@ -244,15 +243,17 @@ impl File {
         let mut found = Out::some();
         let no = locate_with_ord(&self.lent, &self.record, ord, &mut found);
         let (got, guarded) = values(&found);
-        let due = self.judged().map(|index| {
-            let model = self.opening.by_ord(self.terms(), ord);
+        let due = self.judged().map(|Judged { opening, index, .. }| {
+            let model = opening.by_ord(self.terms(), ord);
             Due {
                 row: model.err().unwrap_or(0),
                 model: model.ok().map(located),
                 rust: rust(&LOCATE_WITH_ORD, || {
                     Some(located(index.get_and_locate_with_ord(ord)))
                 }),
-                differs: self.last_block().filter(|_| model == Err(ORDINAL_ABOVE)),
+                differs: self
+                    .last_block(opening)
+                    .filter(|_| model == Err(ORDINAL_ABOVE)),
             }
         });
         let print = self.print(&LOCATE_WITH_ORD).number(ord);
@@ -272,10 +273,10 @@ impl File {
     }
 
     /// What the Rust gives for every ordinal from the number of terms on, in a file that opens with so many.
-    fn last_block(&self) -> Option<[u64; 4]> {
+    fn last_block(&self, opening: &Opening) -> Option<[u64; 4]> {
         let record = Opened::of(self.numbers());
-        let last = *self.opening.blocks.last()?;
-        let opens = self.opening.opens(record);
+        let last = *opening.blocks.last()?;
+        let opens = opening.opens(record);
         opens.then(|| located((record.n - 1, last)))
     }
 
@@ -284,9 +285,9 @@ impl File {
         let (lent, mut id) = (Lent::new(key), Out::some());
         let no = locate_with_key(self, &lent, &mut id);
         let (got, guarded) = values(&id);
-        let due = self.judged().map(|index| Due {
+        let due = self.judged().map(|Judged { opening, index, .. }| Due {
             row: 19,
-            model: self.opening.by_key(key).map(|id| [id]),
+            model: opening.by_key(key).map(|id| [id]),
             rust: rust(&LOCATE_WITH_KEY, || {
                 index.locate_with_key(key).map(|id| [id])
             }),
@@ -310,12 +311,11 @@ impl File {
         let (lent, mut found) = (Lent::new(key), Out::some());
         let no = get_block_with_key(self, &lent, &mut found);
         let (got, guarded) = values(&found);
-        let due = self.judged().map(|index| Due {
+        let due = self.judged().map(|Judged { opening, index, .. }| Due {
             row: 19,
-            model: self
-                .opening
+            model: opening
                 .by_key(key)
-                .and_then(|id| Some(located((id, self.opening.by_id(id)?)))),
+                .and_then(|id| Some(located((id, opening.by_id(id)?)))),
             rust: rust(&GET_BLOCK_WITH_KEY, || {
                 Some(located((
                     index.locate_with_key(key)?,
@@ -347,8 +347,9 @@ impl File {
         let (part, kept) = (self.part(got), self.untouched() && guarded);
         let due = self
             .judged()
-            .map(|_| self.opening.place(id).map(<[u64; 2]>::from));
+            .map(|judged| judged.opening.place(id).map(<[u64; 2]>::from));
         let (by, right) = match due {
+            None if self.version_unknown() => (By::Model, got == [0, 0]),
             None => (By::Range, part.is_some()),
             Some(None) => (By::Model, got == [0, 0]),
             Some(Some(due)) => (By::Rust, got == due && self.rust_finds(part) == Some(id)),
@@ -365,7 +366,7 @@ impl File {
 
     /// The block that the Rust finds by the key; a panic finds none.
     fn rust_finds(&self, key: Option<&[u8]>) -> Option<u64> {
-        let (index, key) = (self.judged()?, key?);
+        let (index, key) = (self.judged()?.index, key?);
         rust(&SEPARATOR, || index.locate_with_key(key)).flatten()
     }
 

@@ -12,6 +12,19 @@ pub mod lookups;
 pub mod opened;
 pub mod stores;
 
+/// The interface that the declarations are of.
+pub const INTERFACE: u64 = 5;
+
+unsafe extern "C" {
+    fn rosmarel_interface() -> u64;
+}
+
+/// The archive's.
+pub fn interface() -> u64 {
+    // SAFETY: it takes nothing.
+    unsafe { rosmarel_interface() }
+}
+
 /// An exported function, without `rosmarel_`.
 pub struct Call {
     pub name: &'static str,

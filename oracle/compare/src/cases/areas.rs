@@ -3,8 +3,9 @@
 use model::areas::Areas;
 use model::blocks::block;
 use model::numbers::Numbers;
+use model::rust::Block;
 use model::settings::{LIMIT, LONGEST_KEY, MOST_BLOCKS, STRIDE};
-use tantivy_sstable::access::Block;
+use model::version::{V3, V4};
 
 use crate::calls::builder::Builder;
 use crate::tally::Tally;
@@ -55,7 +56,8 @@ fn calls(tally: &mut Tally, areas: &Areas, more: Block, key: &[u8], room: isize)
     let builder = Builder::raw(areas.clone());
     builder.clone().add(tally, more, key);
     builder.clone().shorten(tally, key);
-    builder.clone().finish(tally, &[room]);
+    builder.clone().finish(tally, V3, &[room]);
+    builder.clone().finish(tally, V4, &[room]);
 }
 
 /// Three blocks that are right, with room for one more.

@@ -2,13 +2,12 @@
 
 use model::blocks::{random, touching};
 use model::faults::faults;
-use model::files::{
-    File as Parts, keys_of_one_byte, rising, smallest, two_group_file, worked_file,
-};
+use model::files::{File as Parts, rising, short_keys, smallest, two_group_file, worked_file};
 use model::foreign::{self, Group};
 use model::numbers::Numbers;
 use model::opening::{self, Opened};
-use model::settings::{GROUP_LEN, LIMIT, WIDEST};
+use model::settings::{LIMIT, WIDEST};
+use model::version::{VERSIONS, Version};
 
 use super::lookups;
 use crate::asked::quietly;
@@ -16,15 +15,18 @@ use crate::calls::intervals::Pattern;
 use crate::calls::opened::{self, File};
 use crate::tally::Tally;
 
+/// Files of up to 128 blocks are the same in all versions: of them version 4 gets a part of the damage.
 pub fn run(tally: &mut Tally) {
-    every_byte(tally);
-    some_bytes(tally);
-    cut(tally);
-    numbers(tally);
-    pairs(tally);
-    by_row(tally);
-    places(tally);
-    random_ones(tally, 20_000);
+    for version in VERSIONS {
+        every_byte(tally, version);
+        some_bytes(tally, version);
+        cut(tally, version);
+        numbers(tally, version);
+        pairs(tally, version);
+        by_row(tally, version);
+        places(tally, version);
+        random_ones(tally, version, version.pick(20_000, 8_000));
+    }
 }
 
 /// Numbers at which a sum or a test can go wrong.
@@ -46,16 +48,17 @@ const EDGES: [u64; 15] = [
     u64::MAX,
 ];
 
-/// A file, and the record that it has while it is whole.
+/// A file of a version, and the record that it has while it is whole.
 struct Whole {
+    version: Version,
     bytes: Vec<u8>,
     record: Opened,
     pattern: Pattern,
 }
 
 impl Whole {
-    fn new(bytes: Vec<u8>) -> Whole {
-        let opening = opening::open(&bytes);
+    fn new(version: Version, bytes: Vec<u8>) -> Whole {
+        let opening = opening::open(version, &bytes);
         assert_eq!(opening.no(), 0);
         let words: Vec<&[u8]> = opening
             .keys
@@ -64,6 +67,7 @@ impl Whole {
             .map(|key| &key[..key.len().min(8)])
             .collect();
         Whole {
+            version,
             bytes,
             record: opening.record,
             pattern: Pattern::of(&model::automaton::Table::words(&words)),
@@ -73,11 +77,11 @@ impl Whole {
     /// Opens other bytes; lookups with the record that they have, and with the whole file's. The number of terms goes by the bytes:
     /// ordinals are searched for below it alone.
     fn with(&self, tally: &mut Tally, bytes: &[u8]) {
-        let mut file = opened::open(tally, bytes);
-        if file.opening.no() == 0 {
+        let mut file = opened::open(tally, self.version, bytes);
+        if file.opening().no() == 0 {
             self.look_up(tally, &file);
         }
-        if !file.opening.is_but_for_terms(self.record) {
+        if !file.opening().is_but_for_terms(self.record) {
             let terms = file.by_turns(&[u64::MAX, u64::MAX, self.record.terms, 6, 0]);
             file.set_record(self.record.with_terms(terms));
             self.look_up(tally, &file);
@@ -92,7 +96,7 @@ impl Whole {
 }
 
 /// Files of few bytes.
-fn short() -> Vec<Whole> {
+fn short(version: Version) -> Vec<Whole> {
     let wide = |blocks: &[_], range_width, ord_width, offset| {
         let group = Group {
             blocks,
@@ -111,33 +115,37 @@ fn short() -> Vec<Whole> {
         smallest(),
         Parts::new(&keys, &wide(&top, 56, 50, 2)),
         Parts::new(&keys[..2], &wide(&top[..2], 4, 9, 0)),
-        Parts::written(&top, &keys),
+        Parts::written(version, &top, &keys),
     ]
     .into_iter()
-    .map(|parts| Whole::new(parts.bytes()))
+    .map(|parts| Whole::new(version, parts.bytes()))
     .collect()
 }
 
 /// Files of two groups.
-fn longer(rng: &mut Numbers) -> Vec<Whole> {
-    let blocks = random(rng, 140, 12, 6, 20, 20);
-    let keys = rising(rng, 140, 4);
+fn longer(version: Version, rng: &mut Numbers) -> Vec<Whole> {
+    let count = version.group_len() as u64 + 12;
+    let blocks = random(rng, count, 12, 6, 20, 20);
+    let keys = rising(rng, count, 4);
     [
-        two_group_file(2),
-        two_group_file(1),
-        Parts::written(&blocks, &keys),
+        two_group_file(version, 2),
+        two_group_file(version, 1),
+        Parts::written(version, &blocks, &keys),
     ]
     .into_iter()
-    .map(|parts| Whole::new(parts.bytes()))
+    .map(|parts| Whole::new(version, parts.bytes()))
     .collect()
 }
 
 /// Every byte of the short files with every value.
-fn every_byte(tally: &mut Tally) {
-    tally.section("damage: every byte of short files with every value");
-    for whole in short() {
+fn every_byte(tally: &mut Tally, version: Version) {
+    tally.section_of(
+        version,
+        "damage: every byte of short files with every value",
+    );
+    for whole in short(version) {
         for at in 0..whole.bytes.len() {
-            for value in 0..=255 {
+            for value in (0..=255).step_by(version.pick(1, 3)) {
                 let mut bytes = whole.bytes.clone();
                 bytes[at] = value;
                 whole.with(tally, &bytes);
@@ -147,9 +155,12 @@ fn every_byte(tally: &mut Tally) {
 }
 
 /// Every byte of longer files with some values.
-fn some_bytes(tally: &mut Tally) {
-    tally.section("damage: every byte of files of two groups with some values");
-    for whole in longer(&mut Numbers::from_seed(109)) {
+fn some_bytes(tally: &mut Tally, version: Version) {
+    tally.section_of(
+        version,
+        "damage: every byte of files of two groups with some values",
+    );
+    for whole in longer(version, &mut Numbers::from_seed(109)) {
         for at in 0..whole.bytes.len() {
             let old = whole.bytes[at];
             for value in [old ^ 1, old ^ 0x80, 0, 0xff, old.wrapping_add(2)] {
@@ -162,14 +173,17 @@ fn some_bytes(tally: &mut Tally) {
 }
 
 /// Every front, every end; every byte left out, and one put in at every place.
-fn cut(tally: &mut Tally) {
-    tally.section("damage: every front, every end, a byte less or more at every place");
+fn cut(tally: &mut Tally, version: Version) {
+    tally.section_of(
+        version,
+        "damage: every front, every end, a byte less or more at every place",
+    );
     let mut rng = Numbers::from_seed(110);
-    let mut all = short();
-    all.extend(longer(&mut rng));
+    let mut all = short(version);
+    all.extend(longer(version, &mut rng));
     for whole in all {
         let bytes = &whole.bytes;
-        for at in 0..bytes.len() {
+        for at in (0..bytes.len()).step_by(version.pick(1, 2)) {
             whole.with(tally, &bytes[..at]);
             whole.with(tally, &bytes[at..]);
             whole.with(tally, &[&bytes[..at], &bytes[at + 1..]].concat());
@@ -182,10 +196,13 @@ fn cut(tally: &mut Tally) {
 }
 
 /// A number of 1, 2, 4 or 8 bytes at every place of the short files.
-fn numbers(tally: &mut Tally) {
-    tally.section("damage: edge numbers of 2, 4 and 8 bytes at every place");
-    for whole in short() {
-        for width in [2, 4, 8] {
+fn numbers(tally: &mut Tally, version: Version) {
+    tally.section_of(
+        version,
+        "damage: edge numbers of 2, 4 and 8 bytes at every place",
+    );
+    for whole in short(version) {
+        for &width in version.pick(&[2, 4, 8][..], &[4]) {
             for at in 0..=whole.bytes.len() - width {
                 for edge in EDGES {
                     let mut bytes = whole.bytes.clone();
@@ -198,11 +215,14 @@ fn numbers(tally: &mut Tally) {
 }
 
 /// Two bytes at once, in the smallest file: every two places.
-fn pairs(tally: &mut Tally) {
-    tally.section("damage: every two bytes of the smallest file with some values");
-    let whole = Whole::new(smallest().bytes());
+fn pairs(tally: &mut Tally, version: Version) {
+    tally.section_of(
+        version,
+        "damage: every two bytes of the smallest file with some values",
+    );
+    let whole = Whole::new(version, smallest().bytes());
     for one in 0..whole.bytes.len() {
-        for other in one + 1..whole.bytes.len() {
+        for other in (one + 1..whole.bytes.len()).step_by(version.pick(1, 5)) {
             for first in [
                 0,
                 whole.bytes[one] ^ 1,
@@ -213,7 +233,7 @@ fn pairs(tally: &mut Tally) {
                     let mut bytes = whole.bytes.clone();
                     bytes[one] = first;
                     bytes[other] = second;
-                    opened::open(tally, &bytes);
+                    opened::open(tally, version, &bytes);
                 }
             }
         }
@@ -221,17 +241,17 @@ fn pairs(tally: &mut Tally) {
 }
 
 /// Faults by their rows, alone and every two.
-fn by_row(tally: &mut Tally) {
-    tally.section("damage: faults by their rows, every two");
+fn by_row(tally: &mut Tally, version: Version) {
+    tally.section_of(version, "damage: faults by their rows, every two");
     let file = smallest();
     let faults = faults();
     for &(_, one) in &faults {
         let broken = file.with(one);
-        opened::open(tally, &broken.bytes());
+        opened::open(tally, version, &broken.bytes());
         for &(_, other) in &faults {
             // a fault may ask for bytes that another took away
             if let Some(bytes) = quietly(|| broken.with(other).bytes()) {
-                opened::open(tally, &bytes);
+                opened::open(tally, version, &bytes);
             }
         }
     }
@@ -239,9 +259,13 @@ fn by_row(tally: &mut Tally) {
 
 /// A full group with every two widths and with other block counts, and address bytes for the widest: where the fields end decides
 /// nothing, so that widths and count alone are to be seen.
-fn places(tally: &mut Tally) {
-    tally.section("damage: a full group with every two widths, and other block counts");
-    let blocks = touching(0, &[2; GROUP_LEN], 0, &[1; GROUP_LEN - 1]);
+fn places(tally: &mut Tally, version: Version) {
+    tally.section_of(
+        version,
+        "damage: a full group with every two widths, and other block counts",
+    );
+    let full = version.group_len();
+    let blocks = touching(0, &vec![2; full], 0, &vec![1; full - 1]);
     let widest = Group {
         blocks: &blocks,
         offset: 0,
@@ -250,14 +274,17 @@ fn places(tally: &mut Tally) {
         range_width: WIDEST,
         ord_width: WIDEST,
     };
-    let store = foreign::store(&[widest], vec![0; 8 * 1_024]);
-    let file = Parts::new(&keys_of_one_byte(GROUP_LEN), &store);
-    let whole = Whole::new(file.bytes());
+    let store = foreign::store(&[widest], vec![0; 64 * full]);
+    let file = Parts::new(&short_keys(full), &store);
+    let whole = Whole::new(version, file.bytes());
     let mut part = file.clone();
+    let every = version.pick(1, 7);
     for range in 0..=255 {
-        for ord in 0..=255 {
+        // other widths by turns, and the ends of their range with each
+        let ends = AROUND_WIDTHS.into_iter().filter(|_| every > 1);
+        for ord in (range % every..=255).step_by(every.into()).chain(ends) {
             part.widths(0, ord, range);
-            opened::open(tally, &part.bytes());
+            opened::open(tally, version, &part.bytes());
         }
     }
     for range in AROUND_WIDTHS {
@@ -281,11 +308,11 @@ fn places(tally: &mut Tally) {
 const AROUND_WIDTHS: [u8; 12] = [0, 1, 2, 55, 56, 57, 58, 63, 64, 127, 128, 255];
 
 /// Many bytes at once, by chance; or no file at all.
-fn random_ones(tally: &mut Tally, count: u64) {
-    tally.section("damage: by chance, up to six bytes");
+fn random_ones(tally: &mut Tally, version: Version, count: u64) {
+    tally.section_of(version, "damage: by chance, up to six bytes");
     let mut rng = Numbers::from_seed(111);
-    let mut all = short();
-    all.extend(longer(&mut rng));
+    let mut all = short(version);
+    all.extend(longer(version, &mut rng));
     for _ in 0..count {
         let at = rng.below(all.len() as u64) as usize;
         let whole = &all[at];

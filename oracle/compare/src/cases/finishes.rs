@@ -3,8 +3,9 @@
 use model::areas::{Areas, Entry};
 use model::blocks::{by_rule, random, touching};
 use model::numbers::Numbers;
-use model::settings::{GROUP_LEN, LIMIT, MOST_BLOCKS, STRIDE};
-use tantivy_sstable::access::Block;
+use model::rust::Block;
+use model::settings::{LIMIT, MOST_BLOCKS, STRIDE};
+use model::version::{V3, V4, VERSIONS, Version};
 
 use super::lookups;
 use crate::calls::builder::Builder;
@@ -12,12 +13,21 @@ use crate::calls::opened;
 use crate::tally::Tally;
 
 /// Sizes at the groups' ends and around multiples of two groups, and some between.
-fn sizes() -> Vec<usize> {
-    let mut sizes = vec![258, 300, 1000, 5000, 10_000, 20_000, 40_000, 50_000, 65_534];
-    for groups in [
-        3, 4, 5, 6, 7, 8, 12, 16, 31, 32, 64, 127, 128, 255, 256, 257, 500, 510, 511,
-    ] {
-        let end = groups * GROUP_LEN;
+fn sizes(version: Version) -> Vec<usize> {
+    let (mut sizes, groups): (Vec<usize>, &[usize]) = match version {
+        V3 => (
+            vec![258, 300, 1000, 5000, 10_000, 20_000, 40_000, 50_000, 65_534],
+            &[
+                3, 4, 5, 6, 7, 8, 12, 16, 31, 32, 64, 127, 128, 255, 256, 257, 500, 510, 511,
+            ],
+        ),
+        V4 => (
+            vec![258, 300, 384, 385, 639, 640, 1000, 20_000, 65_408, 65_534],
+            &[3, 4, 5, 8, 16, 33, 64, 127, 255],
+        ),
+    };
+    for count in groups {
+        let end = count * version.group_len();
         sizes.extend([end - 1, end, end + 1]);
     }
     sizes.sort();
@@ -25,12 +35,18 @@ fn sizes() -> Vec<usize> {
 }
 
 pub fn run(tally: &mut Tally) {
-    tally.section("finishes: 258 to 65,534 blocks, opened and looked up");
-    let mut rng = Numbers::from_seed(132);
-    for n in sizes() {
-        for shape in 0..3 {
-            let (blocks, keys) = (blocks(&mut rng, n, shape), keys(&mut rng, n, shape));
-            finish(tally, &mut rng, blocks.into_iter().zip(keys).collect());
+    for version in VERSIONS {
+        tally.section_of(
+            version,
+            "finishes: 258 to 65,534 blocks, opened and looked up",
+        );
+        let mut rng = Numbers::from_seed(132);
+        for n in sizes(version) {
+            for shape in 0..3 {
+                let (blocks, keys) = (blocks(&mut rng, n, shape), keys(&mut rng, n, shape));
+                let entries = blocks.into_iter().zip(keys).collect();
+                finish(tally, version, &mut rng, entries);
+            }
         }
     }
 }
@@ -88,23 +104,23 @@ fn areas(entries: &[Entry]) -> Areas {
     areas
 }
 
-fn finish(tally: &mut Tally, rng: &mut Numbers, entries: Vec<Entry>) {
+fn finish(tally: &mut Tally, version: Version, rng: &mut Numbers, entries: Vec<Entry>) {
     let n = entries.len();
     assert!(n < MOST_BLOCKS);
     let mut builder = Builder::raw(areas(&entries));
-    let index = builder.finish(tally, &[0, -1, 10]);
-    let mut file = opened::open(tally, &index);
-    assert_eq!((file.opening.no(), file.n()), (0, n as u64));
+    let index = builder.finish(tally, version, &[0, -1, 10]);
+    let mut file = opened::open(tally, version, &index);
+    assert_eq!((file.opening().no(), file.n()), (0, n as u64));
     lookups::around(tally, rng, &mut file, 6);
-    broken_late(tally, rng, &builder);
+    broken_late(tally, version, rng, &builder);
 }
 
 /// Row 8 in one of the last records, or in the middle.
-fn broken_late(tally: &mut Tally, rng: &mut Numbers, builder: &Builder) {
+fn broken_late(tally: &mut Tally, version: Version, rng: &mut Numbers, builder: &Builder) {
     let numbers = STRIDE * builder.areas.n as usize;
     for at in [numbers - 1 - rng.below(10) as usize, numbers / 2] {
         let mut areas = builder.areas.clone();
         areas.blocks[at] = areas.blocks[at].wrapping_add(rng.pick(&[1, u64::MAX, LIMIT]));
-        Builder::raw(areas).finish(tally, &[0]);
+        Builder::raw(areas).finish(tally, version, &[0]);
     }
 }

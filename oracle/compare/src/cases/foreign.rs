@@ -4,33 +4,43 @@ use model::blocks::{random, touching};
 use model::files::{File as Parts, rising};
 use model::foreign::{self, Group, group, near};
 use model::numbers::Numbers;
-use model::settings::{GROUP_LEN, LIMIT, WIDEST};
-use tantivy_sstable::access::Block;
+use model::rust::Block;
+use model::settings::{LIMIT, WIDEST};
+use model::version::{VERSIONS, Version};
 
 use super::lookups;
 use crate::calls::opened;
 use crate::tally::Tally;
 
+/// Files of up to 128 blocks are the same in all versions: version 4 gets fewer of them.
 pub fn run(tally: &mut Tally) {
-    widths(tally);
-    wide(tally);
-    ends(tally);
-    slopes(tally, 3_000);
-    gaps(tally, 300);
-    overlaps(tally);
+    for version in VERSIONS {
+        widths(tally, version);
+        wide(tally, version);
+        ends(tally, version);
+        slopes(tally, version, version.pick(3_000, 1_000));
+        gaps(tally, version, version.pick(300, 200));
+        overlaps(tally, version);
+    }
 }
 
 /// Opens the file of these groups, which must hold their blocks, and looks everything up.
-fn open(tally: &mut Tally, rng: &mut Numbers, groups: &[Group], addresses: Vec<u8>) {
+fn open(
+    tally: &mut Tally,
+    version: Version,
+    rng: &mut Numbers,
+    groups: &[Group],
+    addresses: Vec<u8>,
+) {
     let blocks: Vec<Block> = groups
         .iter()
         .flat_map(|group| group.blocks.to_vec())
         .collect();
     let keys = rising(rng, blocks.len() as u64, 4);
     let bytes = Parts::new(&keys, &foreign::store(groups, addresses)).bytes();
-    let mut file = opened::open(tally, &bytes);
-    assert_eq!(file.opening.no(), 0);
-    assert_eq!(file.opening.blocks, blocks);
+    let mut file = opened::open(tally, version, &bytes);
+    assert_eq!(file.opening().no(), 0);
+    assert_eq!(file.opening().blocks, blocks);
     lookups::around(tally, rng, &mut file, 8);
 }
 
@@ -47,11 +57,12 @@ fn near_slopes(rng: &mut Numbers, count: usize, slopes: [u32; 2], widths: [u8; 2
 }
 
 /// Every two widths from 1 to 56; a gap before the fields, none or some bytes after them.
-fn widths(tally: &mut Tally) {
-    tally.section("foreign: every two widths from 1 to 56");
+fn widths(tally: &mut Tally, version: Version) {
+    tally.section_of(version, "foreign: every two widths from 1 to 56");
     let mut rng = Numbers::from_seed(112);
+    let every = version.pick(1, 3);
     for range_width in 1..=WIDEST {
-        for ord_width in 1..=WIDEST {
+        for ord_width in (1 + range_width % every..=WIDEST).step_by(every.into()) {
             let slopes = [rng.bits(30) as u32, 1 + rng.bits(20) as u32];
             let count = rng.within(2, 5) as usize;
             let blocks = near_slopes(&mut rng, count, slopes, [range_width, ord_width]);
@@ -65,40 +76,42 @@ fn widths(tally: &mut Tally) {
             };
             let behind = rng.pick(&[0, 0, 1, 8, 9]);
             let junk = rng.bytes((one.offset + one.length()) as u64 + behind);
-            open(tally, &mut rng, &[one], junk);
+            open(tally, version, &mut rng, &[one], junk);
         }
     }
 }
 
 /// Widths of 50 to 56 in full groups, the last one with no byte to spare.
-fn wide(tally: &mut Tally) {
-    tally.section("foreign: widths of 50 to 56 in full groups");
+fn wide(tally: &mut Tally, version: Version) {
+    tally.section_of(version, "foreign: widths of 50 to 56 in full groups");
+    let full = version.group_len() as u64;
     let mut rng = Numbers::from_seed(113);
     for range_width in 50..=WIDEST {
         for ord_width in 50..=WIDEST {
-            let count = rng.within(126, 260) as usize;
+            let count = rng.within(full - 2, 2 * full + 4) as usize;
             let slopes = [
                 rng.pick(&[0, 9, 1 << 31, u32::MAX]),
                 rng.pick(&[0, 1, 1 << 30]),
             ];
             let blocks = near_slopes(&mut rng, count, slopes, [range_width, ord_width]);
             let offset = rng.below(3) as usize;
-            let (groups, end) = touching_groups(&blocks, offset, slopes, [range_width, ord_width]);
+            let parts = blocks.chunks(version.group_len());
+            let (groups, end) = touching_groups(parts, offset, slopes, [range_width, ord_width]);
             let junk = rng.bytes(end as u64);
-            open(tally, &mut rng, &groups, junk);
+            open(tally, version, &mut rng, &groups, junk);
         }
     }
 }
 
-/// The groups of these blocks from an offset on, no byte between them, and where the last one's fields end.
-fn touching_groups(
-    blocks: &[Block],
+/// Groups of these blocks from an offset on, no byte between them, and where the last one's fields end.
+fn touching_groups<'a>(
+    parts: impl Iterator<Item = &'a [Block]>,
     mut offset: usize,
     slopes: [u32; 2],
     widths: [u8; 2],
-) -> (Vec<Group<'_>>, usize) {
+) -> (Vec<Group<'a>>, usize) {
     let mut groups = Vec::new();
-    for blocks in blocks.chunks(GROUP_LEN) {
+    for blocks in parts {
         let next = Group {
             blocks,
             offset,
@@ -113,21 +126,25 @@ fn touching_groups(
     (groups, offset)
 }
 
-/// Widths at their ends in full groups, where the last field ends at bit 14,280 at most: every id, and the ordinals around every
-/// block's. No byte is to spare.
-fn ends(tally: &mut Tally) {
-    tally.section("foreign: full groups of the widest fields, every id and every ordinal");
+/// Widths at their ends in full groups, where the last field ends at bit 14,280 at most, in version 4 at bit 28,616: every id, and the
+/// ordinals around every block's. No byte is to spare.
+fn ends(tally: &mut Tally, version: Version) {
+    tally.section_of(
+        version,
+        "foreign: full groups of the widest fields, every id and every ordinal",
+    );
+    let full = version.group_len();
     let mut rng = Numbers::from_seed(117);
     let widths = [1, 2, 49, 55, WIDEST];
     for widths in widths.map(|range| widths.map(|ord| [range, ord])).concat() {
-        for n in [GROUP_LEN - 1, GROUP_LEN, GROUP_LEN + 1, 2 * GROUP_LEN] {
+        for n in [full - 1, full, full + 1, 2 * full] {
             let slopes = [rng.pick(&[3, 1 << 31]), rng.pick(&[1, 1 << 30])];
             let blocks = near_slopes(&mut rng, n, slopes, widths);
-            let (groups, end) = touching_groups(&blocks, 0, slopes, widths);
+            let (groups, end) = touching_groups(blocks.chunks(full), 0, slopes, widths);
             let keys = rising(&mut rng, n as u64, 4);
             let store = foreign::store(&groups, rng.bytes(end as u64));
-            let file = opened::open(tally, &Parts::new(&keys, &store).bytes());
-            assert_eq!(file.opening.blocks, blocks);
+            let file = opened::open(tally, version, &Parts::new(&keys, &store).bytes());
+            assert_eq!(file.opening().blocks, blocks);
             for (id, block) in (0..).zip(&blocks) {
                 file.id(tally, id);
                 for ord in [block.ord.saturating_sub(1), block.ord, block.ord + 1] {
@@ -139,8 +156,8 @@ fn ends(tally: &mut Tally) {
 }
 
 /// Any slopes, few blocks, numbers up to 2^48 - 1.
-fn slopes(tally: &mut Tally, count: u64) {
-    tally.section("foreign: any slopes, few blocks");
+fn slopes(tally: &mut Tally, version: Version, count: u64) {
+    tally.section_of(version, "foreign: any slopes, few blocks");
     let mut rng = Numbers::from_seed(114);
     for round in 0..count {
         let n = rng.within(2, 7);
@@ -159,19 +176,23 @@ fn slopes(tally: &mut Tally, count: u64) {
         let one = group(&mut rng, &blocks, offset, round % 3 == 0);
         let behind = rng.pick(&[0, 0, 1, 9]);
         let junk = rng.bytes((offset + one.length()) as u64 + behind);
-        open(tally, &mut rng, &[one], junk);
+        open(tally, version, &mut rng, &[one], junk);
     }
 }
 
 /// More groups: gaps between them, in any order.
-fn gaps(tally: &mut Tally, count: u64) {
-    tally.section("foreign: more groups, gaps, any order");
+fn gaps(tally: &mut Tally, version: Version, count: u64) {
+    tally.section_of(version, "foreign: more groups, gaps, any order");
     let mut rng = Numbers::from_seed(115);
     for _ in 0..count {
-        let n = rng.pick(&[129, 130, 140, 256, 257, 300, 385]);
+        let n = rng.pick(version.pick(
+            &[129, 130, 140, 256, 257, 300, 385],
+            &[257, 258, 270, 385, 512, 513, 769],
+        ));
         let (length_bits, step_bits) = (rng.pick(&[0, 2, 5, 20, 38]), rng.pick(&[0, 1, 5, 38]));
         let blocks = random(&mut rng, n, length_bits, step_bits, 20, 20);
-        let mut parts: Vec<(usize, &[Block])> = blocks.chunks(GROUP_LEN).enumerate().collect();
+        let parts = blocks.chunks(version.group_len());
+        let mut parts: Vec<(usize, &[Block])> = parts.enumerate().collect();
         if rng.one_in(2) {
             parts.reverse();
         }
@@ -191,67 +212,77 @@ fn gaps(tally: &mut Tally, count: u64) {
         let groups: Vec<Group> = groups.into_iter().map(|(_, group)| group).collect();
         let junk_len = offset as u64 + rng.below(4);
         let junk = rng.bytes(junk_len);
-        open(tally, &mut rng, &groups, junk);
+        open(tally, version, &mut rng, &groups, junk);
     }
 }
 
-/// Groups that share their fields or lie inside each other's; every offset of the second, most of them refused.
-fn overlaps(tally: &mut Tally) {
-    tally.section("foreign: groups that overlap, the second at every offset");
+/// Groups that share their fields or lie inside each other's; every offset of the second, most of them refused. In version 4 every
+/// fifth: the widths are no multiples of five.
+fn overlaps(tally: &mut Tally, version: Version) {
+    tally.section_of(
+        version,
+        "foreign: groups that overlap, the second at every offset",
+    );
+    let full = version.group_len();
     let mut rng = Numbers::from_seed(116);
     for (width, more) in [
         (4, 12),
-        (4, GROUP_LEN),
+        (4, full),
         (8, 3),
         (1, 100),
         (52, 5),
-        (WIDEST, GROUP_LEN),
+        (WIDEST, full),
     ] {
-        let n = GROUP_LEN + more;
+        let n = full + more;
         let blocks = touching(9, &vec![6; n], 3, &vec![2; n - 1]);
         let first = Group {
-            blocks: &blocks[..GROUP_LEN],
+            blocks: &blocks[..full],
             offset: 0,
             range_slope: 6,
             ord_slope: 2,
             range_width: width,
             ord_width: width,
         };
-        for offset in 0..=first.length() {
+        for offset in (0..=first.length()).step_by(version.pick(1, 5)) {
             let second = Group {
-                blocks: &blocks[GROUP_LEN..],
+                blocks: &blocks[full..],
                 offset,
                 ..first
             };
-            overlapping(tally, &mut rng, first, second);
+            overlapping(tally, version, &mut rng, first, second);
         }
     }
 }
 
 /// All fields of both groups are equal, so the second one fits wherever a field begins.
-fn overlapping(tally: &mut Tally, rng: &mut Numbers, first: Group, second: Group) {
+fn overlapping(
+    tally: &mut Tally,
+    version: Version,
+    rng: &mut Numbers,
+    first: Group,
+    second: Group,
+) {
     let (room, offset) = (first.length(), second.offset);
     let inside = offset + second.length() <= room;
     if inside && offset * 8 % usize::from(first.range_width) == 0 {
-        open(tally, rng, &[first, second], vec![0; room]);
+        open(tally, version, rng, &[first, second], vec![0; room]);
     } else {
-        at_any_offset(
-            tally,
-            rng,
-            [
-                first,
-                Group {
-                    offset: 0,
-                    ..second
-                },
-            ],
-            offset,
-        );
+        let second = Group {
+            offset: 0,
+            ..second
+        };
+        at_any_offset(tally, version, rng, [first, second], offset);
     }
 }
 
 /// The second group's offset is replaced in its record: its fields are what lies there, or nothing.
-fn at_any_offset(tally: &mut Tally, rng: &mut Numbers, groups: [Group; 2], offset: usize) {
+fn at_any_offset(
+    tally: &mut Tally,
+    version: Version,
+    rng: &mut Numbers,
+    groups: [Group; 2],
+    offset: usize,
+) {
     let keys = rising(
         rng,
         groups.iter().map(|group| group.blocks.len() as u64).sum(),
@@ -260,8 +291,8 @@ fn at_any_offset(tally: &mut Tally, rng: &mut Numbers, groups: [Group; 2], offse
     let store = foreign::store(&groups, vec![0; groups[0].length()]);
     let mut parts = Parts::new(&keys, &store);
     parts.offset(1, offset as u64);
-    let mut file = opened::open(tally, &parts.bytes());
-    if file.opening.no() == 0 {
+    let mut file = opened::open(tally, version, &parts.bytes());
+    if file.opening().no() == 0 {
         lookups::around(tally, rng, &mut file, 8);
     } else {
         lookups::some(tally, &file);

@@ -3,11 +3,12 @@
 use model::around::beside;
 use model::automaton::Table;
 use model::blocks::random;
-use model::faults::others;
+use model::faults::{other_versions, others};
 use model::files::{File as Parts, rising, smallest, two_group_file, worked_file};
 use model::numbers::Numbers;
 use model::opening::Opened;
-use model::settings::{GROUP_LEN, GROUP_RECORD, OPENED_LEN};
+use model::settings::{GROUP_RECORD, OPENED_LEN};
+use model::version::{NO_VERSIONS, VERSIONS, Version};
 
 use super::lookups;
 use crate::calls::intervals::Pattern;
@@ -15,9 +16,11 @@ use crate::calls::opened::{self, File};
 use crate::tally::Tally;
 
 pub fn run(tally: &mut Tally) {
-    listed(tally);
-    changed(tally);
-    random_ones(tally, 1_000);
+    for version in VERSIONS {
+        listed(tally, version);
+        changed(tally, version);
+        random_ones(tally, version, version.pick(1_000, 500));
+    }
 }
 
 /// Every lookup, and listings into three buffers.
@@ -59,16 +62,18 @@ fn patterns() -> Vec<Pattern> {
         .collect()
 }
 
-fn files() -> Vec<Vec<u8>> {
+/// The first of them are the same in all versions.
+fn files(version: Version) -> Vec<Vec<u8>> {
     let mut rng = Numbers::from_seed(117);
-    let blocks = random(&mut rng, 260, 9, 4, 20, 20);
-    let long = Parts::written(&blocks, &rising(&mut rng, 260, 4));
+    let count = 2 * version.group_len() as u64 + 4;
+    let blocks = random(&mut rng, count, 9, 4, 20, 20);
+    let long = Parts::written(version, &blocks, &rising(&mut rng, count, 4));
     let refused = smallest().with(|file| file.widths(0, 57, 0));
-    let late = two_group_file(2).with(|file| file.widths(1, 57, 0));
+    let late = two_group_file(version, 2).with(|file| file.widths(1, 57, 0));
     let files = [
         worked_file(),
         smallest(),
-        two_group_file(2),
+        two_group_file(version, 2),
         long,
         refused,
         late,
@@ -79,14 +84,16 @@ fn files() -> Vec<Vec<u8>> {
 }
 
 /// The records beside that of the 85 bytes, with each file.
-fn listed(tally: &mut Tally) {
-    tally.section("free: records beside the right one");
+fn listed(tally: &mut Tally, version: Version) {
+    tally.section_of(version, "free: records beside the right one");
     let patterns = patterns();
-    let right = opened::open(tally, &worked_file().bytes()).opening.record;
-    for bytes in files() {
-        let mut file = opened::open(tally, &bytes);
-        let own = file.opening.record;
-        for record in others(right).into_iter().chain(others(own)) {
+    let worked = opened::open(tally, version, &worked_file().bytes());
+    let right = worked.opening().record;
+    for bytes in files(version) {
+        let mut file = opened::open(tally, version, &bytes);
+        let own = file.opening().record;
+        let beside = [others(right), others(own), other_versions(own)];
+        for record in beside.into_iter().flatten() {
             file.set_record(record);
             all(tally, &file, &patterns);
             ordinals(tally, &mut file);
@@ -95,12 +102,15 @@ fn listed(tally: &mut Tally) {
 }
 
 /// One number of the record replaced, or two.
-fn changed(tally: &mut Tally) {
-    tally.section("free: each number of a record replaced, and each two");
+fn changed(tally: &mut Tally, version: Version) {
+    tally.section_of(
+        version,
+        "free: each number of a record replaced, and each two",
+    );
     let patterns = patterns();
-    for bytes in files() {
-        let mut file = opened::open(tally, &bytes);
-        let own = file.opening.record.numbers();
+    for bytes in files(version) {
+        let mut file = opened::open(tally, version, &bytes);
+        let own = file.opening().record.numbers();
         let len = bytes.len() as u64;
         for at in 0..OPENED_LEN {
             let old = own[at];
@@ -137,17 +147,18 @@ fn changed(tally: &mut Tally) {
 }
 
 /// Records by chance, some of whose places fit the bytes.
-fn random_ones(tally: &mut Tally, count: u64) {
-    tally.section("free: records by chance");
+fn random_ones(tally: &mut Tally, version: Version, count: u64) {
+    tally.section_of(version, "free: records by chance");
     let mut rng = Numbers::from_seed(118);
     let patterns = patterns();
-    let files = files();
+    let files = files(version);
     for _ in 0..count {
         let at = rng.below(files.len() as u64) as usize;
         let bytes = &files[at];
-        let mut file = opened::open(tally, bytes);
+        let mut file = opened::open(tally, version, bytes);
+        let own = file.opening().record;
         for _ in 0..20 {
-            let record = record(&mut rng, bytes.len() as u64, file.opening.record);
+            let record = record(&mut rng, version, bytes.len() as u64, own);
             file.set_record(record);
             lookups::some(tally, &file);
             let at = rng.below(patterns.len() as u64) as usize;
@@ -157,7 +168,7 @@ fn random_ones(tally: &mut Tally, count: u64) {
     }
 }
 
-fn record(rng: &mut Numbers, len: u64, own: Opened) -> Opened {
+fn record(rng: &mut Numbers, version: Version, len: u64, own: Opened) -> Opened {
     let mut place = |own: (u64, u64), unit: u64| {
         if rng.one_in(3) {
             return own;
@@ -180,16 +191,23 @@ fn record(rng: &mut Numbers, len: u64, own: Opened) -> Opened {
     let addresses = place(own.addresses, 1);
     let n = match rng.below(4) {
         0 => own.n,
-        1 => records.1 / GROUP_RECORD as u64 * GROUP_LEN as u64,
+        1 => records.1 / GROUP_RECORD as u64 * version.group_len() as u64,
         2 => rng.within(1, 300),
         _ => rng.pick(&[0, 1, 65_536, 65_537, u64::MAX]),
     };
     let terms = rng.pick(&[u64::MAX, u64::MAX, own.terms, 6, 1, 0, 1 << 55]);
+    // seldom another version: what else is wrong is seen with the right one
+    let version = match rng.below(12) {
+        0 => version.other().number(),
+        1 => rng.pick(&NO_VERSIONS),
+        _ => version.number(),
+    };
     Opened {
         n,
         directory,
         records,
         addresses,
         terms,
+        version,
     }
 }

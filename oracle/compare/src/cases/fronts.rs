@@ -6,6 +6,7 @@ use model::files::File as Parts;
 use model::numbers::Numbers;
 use model::patterns::{drawn, nearby, ring, small};
 use model::settings::{LONGEST_KEY, MOST_STATES, STRIDE};
+use model::version::{V3, VERSIONS, Version};
 use tantivy_sstable::access;
 
 use super::lookups;
@@ -15,9 +16,12 @@ use crate::calls::keys::common_prefix_len;
 use crate::calls::opened::{self, File};
 use crate::tally::Tally;
 
+/// Keys are the same in all versions: version 4 gets some kinds of fronts.
 pub fn run(tally: &mut Tally) {
-    lists(tally);
-    listings(tally);
+    for version in VERSIONS {
+        lists(tally, version);
+        listings(tally, version);
+    }
 }
 
 /// Lengths from 9 to 1,022, most of them around the steps of a search that goes by words or by runs.
@@ -116,20 +120,23 @@ fn front(rng: &mut Numbers, length: usize, kind: usize) -> Front {
 }
 
 /// Every length with every kind of front, added and shortened by turns, with calls between that are refused.
-fn lists(tally: &mut Tally) {
-    tally.section("fronts: lists over keys of 9 to 1,022 bytes, finished and looked up");
+fn lists(tally: &mut Tally, version: Version) {
+    tally.section_of(
+        version,
+        "fronts: lists over keys of 9 to 1,022 bytes, finished and looked up",
+    );
     let mut rng = Numbers::from_seed(130);
     for length in LENGTHS {
-        for kind in 0..12 {
+        for kind in 0..version.pick(12, 4) {
             let front = front(&mut rng, length, kind);
             let count = rng.pick(&[2, 3, 5, 9, 17, 30]);
             let keys = keys(&mut rng, &front, count, length);
-            list(tally, &mut rng, &keys);
+            list(tally, version, &mut rng, &keys);
         }
     }
 }
 
-fn list(tally: &mut Tally, rng: &mut Numbers, keys: &[Vec<u8>]) {
+fn list(tally: &mut Tally, version: Version, rng: &mut Numbers, keys: &[Vec<u8>]) {
     let count = keys.len();
     let taken: usize = keys.iter().map(Vec::len).sum();
     let mut builder = Builder::fresh(STRIDE * count + 2, taken + 3);
@@ -144,9 +151,9 @@ fn list(tally: &mut Tally, rng: &mut Numbers, keys: &[Vec<u8>]) {
         }
         assert_eq!(builder.add(tally, block, key), 0);
     }
-    let index = builder.finish(tally, &[0, -1, 3]);
+    let index = builder.finish(tally, version, &[0, -1, 3]);
     if count > 1 {
-        let mut file = opened::open(tally, &index);
+        let mut file = opened::open(tally, version, &index);
         lookups::around(tally, rng, &mut file, 10);
         changed(tally, rng, &file);
     }
@@ -170,8 +177,8 @@ fn refused(tally: &mut Tally, rng: &mut Numbers, builder: &mut Builder) {
 /// Separators with one byte changed, at places around words of 8 bytes and runs of 64, or cut there.
 fn changed(tally: &mut Tally, rng: &mut Numbers, file: &File) {
     for _ in 0..12 {
-        let id = rng.below(file.opening.keys.len() as u64) as usize;
-        let mut key = file.opening.keys[id].clone();
+        let id = rng.below(file.opening().keys.len() as u64) as usize;
+        let mut key = file.opening().keys[id].clone();
         if key.is_empty() {
             continue;
         }
@@ -234,28 +241,38 @@ fn pattern(rng: &mut Numbers, front: &Front, keys: &[Vec<u8>]) -> Pattern {
 }
 
 /// Every length with every kind of front: files of keys and of separators, 24 automata each, and the same intervals by themselves.
-fn listings(tally: &mut Tally) {
-    tally.section("fronts: listings over separators of 9 to 1,022 bytes");
+fn listings(tally: &mut Tally, version: Version) {
+    tally.section_of(
+        version,
+        "fronts: listings over separators of 9 to 1,022 bytes",
+    );
     let mut rng = Numbers::from_seed(131);
     for length in LENGTHS {
-        for kind in 0..8 {
+        for kind in 0..version.pick(8, 2) {
             let front = front(&mut rng, length, kind);
-            let count = rng.pick(&[3, 7, 20, 60, 140]);
+            let count = rng.pick(version.pick(&[3, 7, 20, 60, 140], &[3, 20, 140, 257, 300]));
             let mut names = keys(&mut rng, &front, count, length.min(LONGEST_KEY));
             if kind % 2 == 1 {
                 names = separators(&names);
             }
             if names.len() > 1 {
-                listing(tally, &mut rng, &front, &names);
+                listing(tally, version, &mut rng, &front, &names);
             }
         }
     }
 }
 
-fn listing(tally: &mut Tally, rng: &mut Numbers, front: &Front, names: &[Vec<u8>]) {
+fn listing(
+    tally: &mut Tally,
+    version: Version,
+    rng: &mut Numbers,
+    front: &Front,
+    names: &[Vec<u8>],
+) {
     let blocks = random(rng, names.len() as u64, 8, 4, 10, 10);
-    let file = opened::open(tally, &Parts::written(&blocks, names).bytes());
-    assert_eq!(file.opening.no(), 0);
+    let parts = Parts::written(version, &blocks, names);
+    let file = opened::open(tally, version, &parts.bytes());
+    assert_eq!(file.opening().no(), 0);
     for _ in 0..24 {
         let pattern = pattern(rng, front, names);
         let room = names
@@ -264,6 +281,9 @@ fn listing(tally: &mut Tally, rng: &mut Numbers, front: &Front, names: &[Vec<u8>
         file.list(tally, &pattern, room);
         let at = rng.below(names.len() as u64) as usize;
         let start = at.checked_sub(1).map(|before| &names[before][..]);
-        pattern.all(tally, start, &names[at]);
+        // an interval has no version
+        if version == V3 {
+            pattern.all(tally, start, &names[at]);
+        }
     }
 }

@@ -2,8 +2,9 @@
 
 use model::blocks::block;
 use model::numbers::Numbers;
+use model::rust::Block;
 use model::settings::{LIMIT, STRIDE};
-use tantivy_sstable::access::Block;
+use model::version::{V3, V4};
 
 use crate::calls::builder::Builder;
 use crate::tally::Tally;
@@ -49,7 +50,9 @@ fn grow(tally: &mut Tally, steps: &[Step], builder: &Builder, most: usize) {
     for step in steps {
         let mut next = builder.clone();
         step.run(tally, &mut next);
-        next.finish(tally, &[if most == 2 { -1 } else { 0 }]);
+        let room = if most == 2 { -1 } else { 0 };
+        next.finish(tally, V3, &[room]);
+        next.finish(tally, V4, &[room]);
         if most > 1 {
             grow(tally, steps, &next, most - 1);
         }
@@ -124,6 +127,7 @@ fn random(tally: &mut Tally, count: u64) {
             step(&mut rng, &builder).run(tally, &mut builder);
         }
         let room = rng.pick(&[0, 0, -1, 1, 40, -1000]);
-        builder.finish(tally, &[room]);
+        builder.finish(tally, V3, &[room]);
+        builder.finish(tally, V4, &[room]);
     }
 }

@@ -5,7 +5,7 @@ use std::collections::BTreeSet;
 use model::around::{self, beside, ids, keys, ords};
 use model::key_lists::Layout;
 use model::numbers::Numbers;
-use model::settings::{GROUP_LEN, LIMIT};
+use model::settings::LIMIT;
 
 use super::batches;
 use crate::calls::opened::File;
@@ -15,11 +15,11 @@ use crate::tally::Tally;
 /// at the ends of groups and `some` others. Then ordinals with other numbers of terms.
 pub fn around(tally: &mut Tally, rng: &mut Numbers, file: &mut File, some: usize) {
     let n = file.n();
-    let ids = ids(rng, n, some);
+    let ids = ids(file.version, rng, n, some);
     for &id in ids.iter().chain(&[
         n,
         n + 1,
-        n.next_multiple_of(GROUP_LEN as u64),
+        n.next_multiple_of(file.version.group_len() as u64),
         1 << 32,
         u64::MAX,
     ]) {
@@ -27,11 +27,11 @@ pub fn around(tally: &mut Tally, rng: &mut Numbers, file: &mut File, some: usize
         file.separator(tally, id);
     }
     let far = [LIMIT / 2, LIMIT, 1 << 63];
-    let ords = ords(&file.opening.blocks, &ids, file.terms());
+    let ords = ords(&file.opening().blocks, &ids, file.terms());
     for ord in ords.into_iter().chain(far) {
         file.ord(tally, ord);
     }
-    let mut pool: Vec<Vec<u8>> = keys(&file.opening.keys, &ids).into_iter().collect();
+    let mut pool: Vec<Vec<u8>> = keys(&file.opening().keys, &ids).into_iter().collect();
     pool.push(vec![0xff; 1030]);
     for key in &pool {
         file.key(tally, key);
@@ -45,7 +45,7 @@ pub fn around(tally: &mut Tally, rng: &mut Numbers, file: &mut File, some: usize
 /// numbers the file doesn't open; its record may have them all the same.
 pub fn with_other_terms(tally: &mut Tally, file: &mut File) {
     let own = file.terms();
-    let blocks = &file.opening.blocks;
+    let blocks = &file.opening().blocks;
     let (first, last) = (blocks[0].ord, blocks[blocks.len() - 1].ord);
     for terms in around::terms(last) {
         file.set_terms(terms);

@@ -17,6 +17,7 @@ mod lookups;
 mod sizes;
 mod stores;
 mod terms;
+mod versions;
 
 use crate::tally::Tally;
 
@@ -38,4 +39,5 @@ pub const TOPICS: &[(&str, fn(&mut Tally))] = &[
     ("batches", batches::run),
     ("canonical", canonical::run),
     ("terms", terms::run),
+    ("versions", versions::run),
 ];

@@ -3,8 +3,9 @@
 use model::areas::{Areas, by_rule};
 use model::blocks::{block, random, touching};
 use model::numbers::Numbers;
-use model::settings::{GROUP_LEN, LIMIT, LONGEST_KEY, MOST_BLOCKS, STRIDE};
-use tantivy_sstable::access::Block;
+use model::rust::Block;
+use model::settings::{LIMIT, LONGEST_KEY, MOST_BLOCKS, STRIDE};
+use model::version::{V3, VERSIONS, Version};
 
 use super::lookups;
 use crate::calls::builder::Builder;
@@ -13,13 +14,21 @@ use crate::memory::lent::junk;
 use crate::tally::Tally;
 
 pub fn run(tally: &mut Tally) {
-    named(tally, 12);
+    for version in VERSIONS {
+        named(tally, version, 12);
+    }
     too_long(tally);
     most(tally);
 }
 
 /// Adds the blocks, shortens each key before the next one, finishes, opens and looks up.
-fn build(tally: &mut Tally, rng: &mut Numbers, blocks: &[Block], keys: &[Vec<u8>]) {
+fn build(
+    tally: &mut Tally,
+    version: Version,
+    rng: &mut Numbers,
+    blocks: &[Block],
+    keys: &[Vec<u8>],
+) {
     let taken: usize = keys.iter().map(Vec::len).sum();
     let mut builder = Builder::fresh(STRIDE * blocks.len() + 3, taken + 2);
     let shortens = rng.one_in(2);
@@ -29,9 +38,9 @@ fn build(tally: &mut Tally, rng: &mut Numbers, blocks: &[Block], keys: &[Vec<u8>
         }
         assert_eq!(builder.add(tally, block, key), 0);
     }
-    let index = builder.finish(tally, &[0, -1, 10]);
+    let index = builder.finish(tally, version, &[0, -1, 10]);
     if blocks.len() > 1 {
-        let mut file = opened::open(tally, &index);
+        let mut file = opened::open(tally, version, &index);
         assert_eq!(file.n(), blocks.len() as u64);
         lookups::around(tally, rng, &mut file, 12);
     }
@@ -50,11 +59,14 @@ fn keys(rng: &mut Numbers, count: u64, front: u64, after: u64) -> Vec<Vec<u8>> {
     (0..count).map(|i| key(i, rng)).collect()
 }
 
-/// 2, 127 to 129, 255 to 257 blocks and between; keys of 0 and of 1,024 bytes among them.
-fn named(tally: &mut Tally, rounds: u64) {
-    tally.section("builders: 2, 3, 127 to 129, 255 to 257 blocks, finished, opened and looked up");
+/// 2, 127 to 129, 255 to 257, 511 to 513 blocks and between; keys of 0 and of 1,024 bytes among them.
+fn named(tally: &mut Tally, version: Version, rounds: u64) {
+    tally.section_of(
+        version,
+        "builders: 2, 3, 127 to 129, 255 to 257, 511 to 513 blocks, finished, opened and looked up",
+    );
     let mut rng = Numbers::from_seed(107);
-    for n in [2, 3, 127, 128, 129, 255, 256, 257] {
+    for n in [2, 3, 127, 128, 129, 255, 256, 257, 511, 512, 513] {
         for round in 0..rounds {
             let bits = rng.pick(&[0, 4, 16, 38]);
             let blocks = random(&mut rng, n, bits, bits, 30, 30);
@@ -66,24 +78,24 @@ fn named(tally: &mut Tally, rounds: u64) {
             if round % 2 == 0 {
                 names[0] = vec![];
             }
-            build(tally, &mut rng, &blocks, &names);
+            build(tally, version, &mut rng, &blocks, &names);
         }
-        long_keys(tally, &mut rng, n);
-        top(tally, &mut rng, n);
+        long_keys(tally, version, &mut rng, n);
+        top(tally, version, &mut rng, n);
     }
 }
 
 /// Keys of 1,024 bytes that differ near their ends, and an empty one.
-fn long_keys(tally: &mut Tally, rng: &mut Numbers, n: u64) {
+fn long_keys(tally: &mut Tally, version: Version, rng: &mut Numbers, n: u64) {
     let blocks = random(rng, n, 10, 5, 10, 10);
     let mut names = keys(rng, n, LONGEST_KEY as u64 - 2, 0);
-    build(tally, rng, &blocks, &names);
+    build(tally, version, rng, &blocks, &names);
     names[0] = vec![];
-    build(tally, rng, &blocks, &names);
+    build(tally, version, rng, &blocks, &names);
 }
 
 /// Numbers up to 2^48 - 1.
-fn top(tally: &mut Tally, rng: &mut Numbers, n: u64) {
+fn top(tally: &mut Tally, version: Version, rng: &mut Numbers, n: u64) {
     let (top, count) = (LIMIT - 1, n as usize);
     for at in [0, count - 1] {
         let mut lengths = vec![0; count];
@@ -91,11 +103,17 @@ fn top(tally: &mut Tally, rng: &mut Numbers, n: u64) {
         let mut steps = vec![1; count - 1];
         steps[at.min(count - 2)] = top - (n - 2);
         let names = keys(rng, n, 0, 1);
-        build(tally, rng, &touching(0, &lengths, 0, &steps), &names);
+        build(
+            tally,
+            version,
+            rng,
+            &touching(0, &lengths, 0, &steps),
+            &names,
+        );
     }
     let names = keys(rng, n, 0, 1);
     let flat = touching(top, &vec![0; count], top - (n - 1), &vec![1; count - 1]);
-    build(tally, rng, &flat, &names);
+    build(tally, version, rng, &flat, &names);
 }
 
 /// Keys of 1,025 bytes are refused, by an add and by a shorten.
@@ -113,7 +131,7 @@ fn too_long(tally: &mut Tally) {
             builder.add(tally, block(1, 2, 1), b"a");
             builder.shorten(tally, &key);
             builder.add(tally, block(2, 3, 2), &key);
-            builder.finish(tally, &[0]);
+            builder.finish(tally, V3, &[0]);
         }
     }
 }
@@ -129,7 +147,7 @@ fn most(tally: &mut Tally) {
     });
     for i in 0..MOST_BLOCKS as u32 {
         let (block, key) = by_rule(i);
-        let last = i as usize % GROUP_LEN == GROUP_LEN - 1;
+        let last = i as usize % V3.group_len() == V3.group_len() - 1;
         if last || [0, 1, 128, 65_408, 65_534].contains(&i) {
             assert_eq!(builder.add(tally, block, &key), 0);
             builder.shorten(tally, &(i + 1).to_be_bytes());
@@ -142,19 +160,21 @@ fn most(tally: &mut Tally) {
     builder.add(tally, block(after.start, after.end, 0), &key);
     builder.add(tally, after, b"");
     builder.shorten(tally, &key);
-    let index = builder.finish(tally, &[0, -1, 100]);
-    let mut file = opened::open(tally, &index);
-    assert_eq!(file.n(), MOST_BLOCKS as u64);
-    lookups::around(tally, &mut rng, &mut file, 500);
-    broken_late(tally, &builder);
+    for version in VERSIONS {
+        let index = builder.finish(tally, version, &[0, -1, 100]);
+        let mut file = opened::open(tally, version, &index);
+        assert_eq!(file.n(), MOST_BLOCKS as u64);
+        lookups::around(tally, &mut rng, &mut file, 500);
+        broken_late(tally, version, &builder);
+    }
 }
 
 /// Row 8 in the last records of many.
-fn broken_late(tally: &mut Tally, builder: &Builder) {
+fn broken_late(tally: &mut Tally, version: Version, builder: &Builder) {
     for back in 1..=10 {
         let mut areas = builder.areas.clone();
         let at = STRIDE * MOST_BLOCKS - back;
         areas.blocks[at] += 1;
-        Builder::raw(areas).finish(tally, &[0]);
+        Builder::raw(areas).finish(tally, version, &[0]);
     }
 }

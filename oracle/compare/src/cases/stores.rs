@@ -2,42 +2,51 @@
 
 use model::blocks::{block, by_rule, random, touching};
 use model::numbers::Numbers;
+use model::rust::Block;
 use model::settings::{LIMIT, MOST_BLOCKS};
-use tantivy_sstable::access::Block;
+use model::version::{VERSIONS, Version};
 
 use crate::calls::stores::store;
 use crate::tally::Tally;
 
 pub fn run(tally: &mut Tally) {
-    small(tally);
-    powers(tally);
-    random_ones(tally, 100_000);
-    sizes(tally);
-    most(tally);
+    for version in VERSIONS {
+        small(tally, version);
+        powers(tally, version);
+        random_ones(tally, version);
+        sizes(tally, version);
+        most(tally, version);
+    }
 }
 
 /// Every slice of up to three blocks over few numbers.
-fn small(tally: &mut Tally) {
-    tally.section("stores: every slice of up to three blocks over few numbers");
+fn small(tally: &mut Tally, version: Version) {
+    tally.section_of(
+        version,
+        "stores: every slice of up to three blocks over few numbers",
+    );
     let mut all = Vec::new();
     for (start, end) in [(0, 0), (0, 1), (1, 1), (1, 3), (3, 3), (1, 0), (3, LIMIT)] {
         all.extend([0, 1, 2, LIMIT].map(|ord| block(start, end, ord)));
     }
-    store(tally, &[], &[0, -1, 1, 9]);
+    store(tally, version, &[], &[0, -1, 1, 9]);
     for &one in &all {
-        store(tally, &[one], &[0, -1, 1]);
+        store(tally, version, &[one], &[0, -1, 1]);
         for &two in &all {
-            store(tally, &[one, two], &[0, -1]);
+            store(tally, version, &[one, two], &[0, -1]);
             for &three in &all {
-                store(tally, &[one, two, three], &[0]);
+                store(tally, version, &[one, two, three], &[0]);
             }
         }
     }
 }
 
 /// Legal slices of two and three blocks whose lengths and steps are powers of two and beside them.
-fn powers(tally: &mut Tally) {
-    tally.section("stores: lengths and steps around every power of two");
+fn powers(tally: &mut Tally, version: Version) {
+    tally.section_of(
+        version,
+        "stores: lengths and steps around every power of two",
+    );
     let mut values = vec![0];
     for k in 0..48 {
         let power: u64 = 1 << k;
@@ -45,29 +54,38 @@ fn powers(tally: &mut Tally) {
     }
     values.retain(|&value| value < LIMIT);
     let top = LIMIT - 1;
-    for &length in &values {
-        for &step in values.iter().filter(|&&step| step > 0) {
+    // up to three blocks are the same in all versions: fewer of them in version 4
+    let every = version.pick(1, 5);
+    for (at, &length) in values.iter().enumerate() {
+        let steps = values.iter().skip(at % every).step_by(every);
+        for &step in steps.filter(|&&step| step > 0) {
             let rest = (top - length).min(step);
-            store(tally, &touching(0, &[length, rest], 0, &[step]), &[0]);
             store(
                 tally,
+                version,
+                &touching(0, &[length, rest], 0, &[step]),
+                &[0],
+            );
+            store(
+                tally,
+                version,
                 &touching(top - length, &[length], top - step, &[]),
                 &[0],
             );
             let half = [length / 2, length - length / 2, rest / 2];
             let steps = [step.div_ceil(2), (step / 2).max(1)];
             if steps[0] + steps[1] <= top {
-                store(tally, &touching(0, &half, 0, &steps), &[0]);
+                store(tally, version, &touching(0, &half, 0, &steps), &[0]);
             }
         }
     }
 }
 
 /// Random slices of up to 20 blocks.
-fn random_ones(tally: &mut Tally, count: u64) {
-    tally.section("stores: by chance, up to 20 blocks");
+fn random_ones(tally: &mut Tally, version: Version) {
+    tally.section_of(version, "stores: by chance, up to 20 blocks");
     let mut rng = Numbers::from_seed(105);
-    for _ in 0..count {
+    for _ in 0..version.pick(100_000, 30_000) {
         let n = rng.within(1, 20);
         let (length_bits, step_bits) = (rng.within(0, 43), rng.within(0, 42));
         let (start_bits, ord_bits) = (rng.pick(&[0, 8, 20, 46]), rng.pick(&[0, 8, 20, 46]));
@@ -79,7 +97,7 @@ fn random_ones(tally: &mut Tally, count: u64) {
             2 | 3 => spoil(&mut rng, &mut blocks),
             _ => {}
         }
-        store(tally, &blocks, &[room]);
+        store(tally, version, &blocks, &[room]);
     }
 }
 
@@ -105,12 +123,16 @@ fn spoil(rng: &mut Numbers, blocks: &mut [Block]) {
     ]);
 }
 
-/// The sizes around one and two groups.
-fn sizes(tally: &mut Tally) {
-    tally.section("stores: 2, 127 to 129, 255 to 257 and more blocks");
+/// The sizes around one, two and more groups of either length.
+fn sizes(tally: &mut Tally, version: Version) {
+    tally.section_of(
+        version,
+        "stores: 2, 127 to 129, 255 to 257, 511 to 513 and more blocks",
+    );
     let mut rng = Numbers::from_seed(106);
     for n in [
-        1, 2, 126, 127, 128, 129, 130, 255, 256, 257, 384, 385, 1023, 1024, 1025, 1026,
+        1, 2, 126, 127, 128, 129, 130, 255, 256, 257, 384, 385, 1023, 1024, 1025, 1026, 254, 258,
+        511, 512, 513, 768, 769,
     ] {
         for round in 0..60 {
             let bits = 46 - u64::from(u64::ilog2(n));
@@ -122,20 +144,20 @@ fn sizes(tally: &mut Tally) {
                 ),
                 _ => random(&mut rng, n, length_bits, step_bits, 40, 40),
             };
-            store(tally, &blocks, &[0, -1, 1]);
+            store(tally, version, &blocks, &[0, -1, 1]);
         }
-        at_the_top(tally, n);
+        at_the_top(tally, version, n);
     }
 }
 
 /// Blocks that end at 2^48 - 1, with the greatest steps that fit.
-fn at_the_top(tally: &mut Tally, n: u64) {
+fn at_the_top(tally: &mut Tally, version: Version, n: u64) {
     let top = LIMIT - 1;
     let count = n as usize;
     let mut lengths = vec![top / n; count];
     lengths[count - 1] = top - (n - 1) * (top / n);
     let steps = vec![top / n; count - 1];
-    store(tally, &touching(0, &lengths, 0, &steps), &[0, -1]);
+    store(tally, version, &touching(0, &lengths, 0, &steps), &[0, -1]);
     for at in [0, count / 2, count - 1] {
         let mut one = vec![0; count];
         one[at] = top;
@@ -143,19 +165,19 @@ fn at_the_top(tally: &mut Tally, n: u64) {
         if let Some(step) = jump.get_mut(at) {
             *step = top - (n - 2);
         }
-        store(tally, &touching(0, &one, 0, &jump), &[0, -1]);
+        store(tally, version, &touching(0, &one, 0, &jump), &[0, -1]);
         let flat = touching(top, &vec![0; count], top - (n - 1), &vec![1; count - 1]);
-        store(tally, &flat, &[0]);
+        store(tally, version, &flat, &[0]);
     }
 }
 
 /// 65,536 blocks, and more; rows 3 to 5 in the last block come before 7.
-fn most(tally: &mut Tally) {
-    tally.section("stores: 65,535 to 65,537 blocks");
+fn most(tally: &mut Tally, version: Version) {
+    tally.section_of(version, "stores: 65,535 to 65,537 blocks");
     for seed in [7, 529 * 3 + 23 * 5 + 9, 529 * 1000 + 23 * 16 + 16] {
         let blocks = by_rule(seed, MOST_BLOCKS as u64 + 2);
         for n in MOST_BLOCKS - 1..=MOST_BLOCKS + 2 {
-            store(tally, &blocks[..n], &[0, -1, 1]);
+            store(tally, version, &blocks[..n], &[0, -1, 1]);
         }
         for n in [MOST_BLOCKS, MOST_BLOCKS + 1] {
             for at in [0, 1, 40_000, n - 1] {
@@ -167,10 +189,10 @@ fn most(tally: &mut Tally) {
                 ] {
                     let mut spoiled = blocks[..n].to_vec();
                     fault(&mut spoiled[at]);
-                    store(tally, &spoiled, &[0]);
+                    store(tally, version, &spoiled, &[0]);
                 }
             }
         }
     }
-    at_the_top(tally, MOST_BLOCKS as u64);
+    at_the_top(tally, version, MOST_BLOCKS as u64);
 }

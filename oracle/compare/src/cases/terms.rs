@@ -11,8 +11,9 @@ use model::files::{
 };
 use model::numbers::Numbers;
 use model::opening::TERMS_BAD;
-use model::settings::{GROUP_LEN, LIMIT};
-use tantivy_sstable::access::Block;
+use model::rust::Block;
+use model::settings::LIMIT;
+use model::version::{VERSIONS, Version};
 
 use super::lookups;
 use crate::calls::intervals::Pattern;
@@ -20,30 +21,36 @@ use crate::calls::opened::{self, File};
 use crate::tally::Tally;
 
 pub fn run(tally: &mut Tally) {
-    every(tally);
-    worked(tally);
-    powers(tally);
-    blocks(tally);
-    rows(tally);
-    records(tally);
+    for version in VERSIONS {
+        every(tally, version);
+        worked(tally, version);
+        powers(tally, version);
+        blocks(tally, version);
+        rows(tally, version);
+        records(tally, version);
+    }
 }
 
 /// The file of these blocks, with keys of one byte.
-fn open(tally: &mut Tally, blocks: &[Block]) -> File {
+fn open(tally: &mut Tally, version: Version, blocks: &[Block]) -> File {
     let keys = keys_of_one_byte(blocks.len());
-    opened::open(tally, &Parts::written(blocks, &keys).bytes())
+    let parts = Parts::written(version, blocks, &keys);
+    opened::open(tally, version, &parts.bytes())
 }
 
 /// Every number of terms and every ordinal up to some above the last, in every list of few blocks with ordinals up to 3 apart.
-fn every(tally: &mut Tally) {
-    tally.section("terms: every list of up to four blocks, every number of terms, every ordinal");
-    for n in 2..=4u32 {
+fn every(tally: &mut Tally, version: Version) {
+    tally.section_of(
+        version,
+        "terms: every list of up to four blocks, every number of terms, every ordinal",
+    );
+    for n in 2..=version.pick(4u32, 3) {
         for which in 0..3 * 3u64.pow(n - 1) {
             let steps: Vec<u64> = (1..n).map(|k| 1 + which / 3u64.pow(k) % 3).collect();
             let list = touching(5, &vec![2; n as usize], which % 3, &steps);
             let last = list[list.len() - 1].ord;
-            let mut file = open(tally, &list);
-            let own = file.opening.record;
+            let mut file = open(tally, version, &list);
+            let own = file.opening().record;
             for terms in 0..=last + 3 {
                 file.reopen(tally, terms);
                 // with too few terms it doesn't open: the record may have that number all the same
@@ -57,9 +64,9 @@ fn every(tally: &mut Tally) {
 }
 
 /// The worked case: 12 terms.
-fn worked(tally: &mut Tally) {
-    tally.section("terms: the worked case");
-    let mut file = opened::open(tally, &worked_file().bytes());
+fn worked(tally: &mut Tally, version: Version) {
+    tally.section_of(version, "terms: the worked case");
+    let mut file = opened::open(tally, version, &worked_file().bytes());
     file.reopen(tally, 12);
     for (ord, due) in [
         (3, (0, 0)),
@@ -69,7 +76,7 @@ fn worked(tally: &mut Tally) {
         (1_000_000, (29, 0)),
     ] {
         assert_eq!(
-            file.opening
+            file.opening()
                 .by_ord(12, ord)
                 .map(|found| (0, found.0))
                 .unwrap_or_else(|no| (no, 0)),
@@ -79,14 +86,14 @@ fn worked(tally: &mut Tally) {
     }
     file.reopen(tally, 9);
     assert_eq!(
-        (file.opening.number(9), file.opening.number(10)),
+        (file.opening().number(9), file.opening().number(10)),
         (TERMS_BAD, 0)
     );
 }
 
 /// Around each power of two, in files whose last ordinal is near one or at the limit.
-fn powers(tally: &mut Tally) {
-    tally.section("terms: around each power of two");
+fn powers(tally: &mut Tally, version: Version) {
+    tally.section_of(version, "terms: around each power of two");
     let mut all: BTreeSet<u64> = (0..64).flat_map(|k| beside(1 << k)).collect();
     all.extend([u64::MAX - 1, u64::MAX]);
     for last in [
@@ -99,10 +106,11 @@ fn powers(tally: &mut Tally) {
         LIMIT - 2,
         LIMIT - 1,
     ] {
-        let mut file = open(tally, &touching(0, &[3, 4], last / 2, &[last - last / 2]));
+        let list = touching(0, &[3, 4], last / 2, &[last - last / 2]);
+        let mut file = open(tally, version, &list);
         for &terms in &all {
             file.reopen(tally, terms);
-            file.set_record(file.opening.record.with_terms(terms));
+            file.set_record(file.opening().record.with_terms(terms));
             for ord in [0, last / 2, last, u64::MAX]
                 .into_iter()
                 .chain(beside(terms))
@@ -114,29 +122,28 @@ fn powers(tally: &mut Tally) {
 }
 
 /// Around the first ordinals of blocks in files of more groups: the last block's alone decides, not its group's.
-fn blocks(tally: &mut Tally) {
-    tally.section("terms: around first ordinals in files of one group and more");
+fn blocks(tally: &mut Tally, version: Version) {
+    tally.section_of(
+        version,
+        "terms: around first ordinals in files of one group and more",
+    );
     let mut rng = Numbers::from_seed(161);
-    for n in [
-        2,
-        3,
-        GROUP_LEN - 1,
-        GROUP_LEN,
-        GROUP_LEN + 1,
-        2 * GROUP_LEN - 1,
-        2 * GROUP_LEN,
-        2 * GROUP_LEN + 1,
-        1000,
-    ] {
+    let full = version.group_len();
+    let around_two = [2 * full - 1, 2 * full, 2 * full + 1];
+    for n in [2, 3, full - 1, full, full + 1]
+        .into_iter()
+        .chain(around_two)
+        .chain([1000])
+    {
         for step_bits in [0, 5, 30] {
             let list = random(&mut rng, n as u64, 9, step_bits, 20, 20);
-            let parts = Parts::written(&list, &rising(&mut rng, n as u64, 4));
-            let mut file = opened::open(tally, &parts.bytes());
-            let ids = around::ids(&mut rng, n as u64, 4);
+            let parts = Parts::written(version, &list, &rising(&mut rng, n as u64, 4));
+            let mut file = opened::open(tally, version, &parts.bytes());
+            let ids = around::ids(version, &mut rng, n as u64, 4);
             for &id in &ids {
                 for terms in beside(list[id as usize].ord) {
                     file.reopen(tally, terms);
-                    file.set_record(file.opening.record.with_terms(terms));
+                    file.set_record(file.opening().record.with_terms(terms));
                     for ord in around::ords(&list, &ids, terms) {
                         file.ord(tally, ord);
                     }
@@ -147,23 +154,19 @@ fn blocks(tally: &mut Tally) {
 }
 
 /// Files that break each of rows 10 to 16, with numbers of terms that would get 28 too: the file's row comes first.
-fn rows(tally: &mut Tally) {
-    tally.section("terms: 28 together with each of rows 10 to 16");
+fn rows(tally: &mut Tally, version: Version) {
+    tally.section_of(version, "terms: 28 together with each of rows 10 to 16");
     let mut seen = BTreeSet::new();
-    for bytes in broken() {
-        let mut file = opened::open(tally, &bytes);
-        let last = file.opening.last_ord().unwrap_or(1);
+    for bytes in broken(version) {
+        let mut file = opened::open(tally, version, &bytes);
+        let last = file.opening().last_ord().unwrap_or(1);
         for terms in around::terms(last).into_iter().chain([1]) {
             file.reopen(tally, terms);
-            let rows: BTreeSet<u64> = file
-                .opening
-                .hits_with(terms)
-                .iter()
-                .map(|hit| hit.0)
-                .collect();
+            let hits = file.opening().hits_with(terms);
+            let rows: BTreeSet<u64> = hits.iter().map(|hit| hit.0).collect();
             seen.extend(
                 rows.contains(&TERMS_BAD)
-                    .then(|| (file.opening.number(terms), last > 0 && terms > 0)),
+                    .then(|| (file.opening().number(terms), last > 0 && terms > 0)),
             );
         }
     }
@@ -176,7 +179,7 @@ fn rows(tally: &mut Tally) {
     }
 }
 
-fn broken() -> Vec<Vec<u8>> {
+fn broken(version: Version) -> Vec<Vec<u8>> {
     let short = smallest();
     let mut all = vec![vec![], vec![0; 7], vec![0; 8], vec![0; 16], vec![1; 8]];
     for directory_len in [0, 60, 68, 1 << 63, u64::MAX] {
@@ -186,10 +189,14 @@ fn broken() -> Vec<Vec<u8>> {
     }
     all.extend(faults().iter().map(|&(_, fault)| short.with(fault).bytes()));
     // the last block's ordinal is read, and something else is broken
-    let groups = two_group_file(2);
+    let groups = two_group_file(version, 2);
     for fault in [
         |parts: &mut Parts| parts.pair(0, 1, 1),
-        |parts: &mut Parts| parts.directory[4 + 8 * 130] = 0xff,
+        // the last key, no longer above the one before
+        |parts: &mut Parts| {
+            let last = parts.directory.len() - 1;
+            parts.directory[last] = 0
+        },
         |parts: &mut Parts| parts.record(0, 34, &[1, 0]),
         |parts: &mut Parts| parts.first_start(1, 0),
         |parts: &mut Parts| parts.first_ord(0, LIMIT),
@@ -203,19 +210,22 @@ fn broken() -> Vec<Vec<u8>> {
 }
 
 /// Any number of terms in the record, with which the file opens or not: no lookup but the one by ordinal may see a difference.
-fn records(tally: &mut Tally) {
-    tally.section("terms: any number of terms in the record, every lookup");
+fn records(tally: &mut Tally, version: Version) {
+    tally.section_of(
+        version,
+        "terms: any number of terms in the record, every lookup",
+    );
     let mut rng = Numbers::from_seed(162);
     let pattern = Pattern::of(&Table::words(&[b"c", b"f", &[130]]));
     for parts in [
         worked_file(),
         smallest(),
-        two_group_file(1),
-        two_group_file(2),
+        two_group_file(version, 1),
+        two_group_file(version, 2),
     ] {
-        let mut file = opened::open(tally, &parts.bytes());
+        let mut file = opened::open(tally, version, &parts.bytes());
         let (n, len) = (file.n(), file.bytes.len() as u64);
-        let last = file.opening.last_ord().expect("a file that opens");
+        let last = file.opening().last_ord().expect("a file that opens");
         let far = [1, n - 1, n, n + 1, len, LIMIT, 1 << 63];
         for terms in around::terms(last).into_iter().chain(far) {
             file.set_terms(terms);

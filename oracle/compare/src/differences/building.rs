@@ -1,9 +1,11 @@
 //! Blocks and keys that are handed over, and automata.
 
 use model::blocks::{block, touching};
+use model::rust::{self, Block, Store};
 use model::settings::LIMIT;
+use model::version::V3;
 use tantivy_fst::Automaton;
-use tantivy_sstable::access::{self, Block, Store};
+use tantivy_sstable::access;
 
 use super::{Difference, difference};
 use crate::asked::{overflow_checks, quietly};
@@ -14,10 +16,10 @@ use crate::memory::out::{Out, values};
 
 /// What the Rust does with a slice of blocks.
 pub fn writes(blocks: &[Block]) -> String {
-    let Some(bytes) = quietly(|| access::write_store(blocks)) else {
+    let Some(bytes) = quietly(|| rust::write_store(V3, blocks)) else {
         return "panics".to_string();
     };
-    let store = Store::open(&bytes);
+    let store = Store::open(V3, &bytes);
     let other = (0..blocks.len()).find(|&id| store.get(id as u64) != Some(blocks[id]));
     match other {
         None => "writes a store that gives them back".to_string(),
@@ -32,7 +34,12 @@ pub fn writes(blocks: &[Block]) -> String {
 fn store(blocks: &[Block]) -> String {
     let mut out = Lent::buffer(2_000_000);
     let mut len = Out::new();
-    let no = stores::call(&Lent::new(&stores::flat(blocks)), &mut out, &mut len);
+    let no = stores::call(
+        V3.number(),
+        &Lent::new(&stores::flat(blocks)),
+        &mut out,
+        &mut len,
+    );
     let more = if no == 0 || len.is(0) {
         ""
     } else {
@@ -43,7 +50,7 @@ fn store(blocks: &[Block]) -> String {
 
 /// What the Rust's builder does with blocks and keys.
 pub fn builds(blocks: &[(Block, &[u8])]) -> String {
-    match quietly(|| access::write_index(blocks)) {
+    match quietly(|| rust::write_index(V3, blocks)) {
         None => "takes them, and fails when it writes".to_string(),
         Some(bytes) => format!("takes them and writes {} bytes", bytes.len()),
     }
@@ -60,7 +67,14 @@ pub fn adds(blocks: &[(Block, &[u8])], room: usize, key_room: usize, out: usize)
         }
     }
     let (mut written, mut lengths) = (Lent::buffer(out), Out::some());
-    let no = building::finish(n.value(), &places, &keys, &mut written, &mut lengths);
+    let no = building::finish(
+        V3.number(),
+        n.value(),
+        &places,
+        &keys,
+        &mut written,
+        &mut lengths,
+    );
     match no {
         0 => format!("writes {} bytes", values(&lengths).0[0]),
         no => format!("gets {no}"),

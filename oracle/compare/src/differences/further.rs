@@ -1,8 +1,10 @@
 //! Further differences, D37 to D50: fields that give values out of range, records too many, and single calls of the builder.
 
 use model::blocks::block;
+use model::rust::{self, Block};
 use model::settings::{LIMIT, LONGEST_KEY, MOST_BLOCKS, STRIDE};
-use tantivy_sstable::access::{self, Block};
+use model::version::V3;
+use tantivy_sstable::access;
 
 use super::building::{adds, builds, with_keys};
 use super::opening::{gives, number, smallest};
@@ -198,11 +200,16 @@ fn shorten() -> Difference {
 }
 
 fn store() -> Difference {
-    let answer = match quietly(|| access::write_store(&[])) {
+    let answer = match quietly(|| rust::write_store(V3, &[])) {
         None => "panics".to_string(),
         Some(bytes) => format!("writes {} bytes", bytes.len()),
     };
-    let no = stores::call(&Lent::new(&[]), &mut Lent::new(&[]), &mut Out::new());
+    let no = stores::call(
+        V3.number(),
+        &Lent::new(&[]),
+        &mut Lent::new(&[]),
+        &mut Out::new(),
+    );
     let here = (format!("gets {no}"), "gets 9");
     difference(
         "D50",

@@ -26,7 +26,7 @@ const MET: &[(&str, u64, Outside, &[&str])] = &[
     ("open", 11, Answers, &["D2"]),
     ("open", 12, Answers, &["D5", "D6", "D7", "D8"]),
     ("open", 14, Panics, &["D10"]),
-    ("open", 14, Answers, &["D9", "D41"]),
+    ("open", 14, Answers, &["D9", "D41", "D52", "D53", "D54"]),
     (
         "open",
         15,

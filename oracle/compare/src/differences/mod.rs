@@ -4,6 +4,7 @@ mod building;
 mod further;
 mod met;
 mod opening;
+mod versions;
 
 use std::collections::BTreeSet;
 use std::fs;
@@ -39,6 +40,7 @@ pub fn run(tally: &mut Tally, root: &Path) {
     let listed = listed(root);
     let mut all: Vec<Difference> = opening::all().into_iter().chain(building::all()).collect();
     all.extend(further::all());
+    all.extend(versions::all());
     let shown: BTreeSet<String> = all
         .iter()
         .map(|difference| difference.id.to_string())

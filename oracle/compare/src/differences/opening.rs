@@ -2,8 +2,9 @@
 
 use model::blocks::touching;
 use model::files::{File as Parts, keys_of_one_byte, worked_file};
+use model::rust::{self, Block, Index};
 use model::settings::{LIMIT, OPENED_LEN};
-use tantivy_sstable::access::{self, Block, Index};
+use model::version::{V3, Version};
 
 use super::{Difference, difference};
 use crate::asked::{overflow_checks, quietly};
@@ -13,7 +14,7 @@ use crate::memory::out::Out;
 
 /// What the Rust does with a file.
 fn opens(bytes: &[u8]) -> String {
-    match quietly(|| Index::try_open(bytes).is_ok()) {
+    match quietly(|| Index::try_open(V3, bytes).is_ok()) {
         None => "panics",
         Some(true) => "opens it",
         Some(false) => "refuses it",
@@ -23,20 +24,29 @@ fn opens(bytes: &[u8]) -> String {
 
 /// The Rust's answer for an id, in a file that it opens.
 pub fn gives(bytes: &[u8], id: u64) -> String {
-    let index = Index::open(bytes);
+    format!("opens it and {}", by_id(&Index::open(V3, bytes), id))
+}
+
+/// The same alone.
+pub fn by_id(index: &Index, id: u64) -> String {
     match quietly(|| index.get_block(id)) {
-        None => format!("opens it and panics at id {id}"),
-        Some(None) => format!("opens it and finds no id {id}"),
+        None => format!("panics at id {id}"),
+        Some(None) => format!("finds no id {id}"),
         Some(Some(Block { start, end, ord })) => {
-            format!("opens it and gives id {id} as {start}..{end} from {ord}")
+            format!("gives id {id} as {start}..{end} from {ord}")
         }
     }
 }
 
 /// The library's number for a file, with as many terms as there can be.
 pub fn number(bytes: &[u8]) -> String {
+    number_in(V3, bytes)
+}
+
+/// The same in either version.
+pub fn number_in(version: Version, bytes: &[u8]) -> String {
     let mut record = Lent::buffer(OPENED_LEN);
-    let no = opened::call(u64::MAX, &Lent::new(bytes), &mut record);
+    let no = opened::call(version.number(), u64::MAX, &Lent::new(bytes), &mut record);
     let more = if no == 0 || record.holds(&[0; OPENED_LEN]) {
         ""
     } else {
@@ -46,12 +56,12 @@ pub fn number(bytes: &[u8]) -> String {
 }
 
 fn file(blocks: &[Block], keys: &[Vec<u8>]) -> Vec<u8> {
-    Parts::new(keys, &access::write_store(blocks)).bytes()
+    Parts::new(keys, &rust::write_store(V3, blocks)).bytes()
 }
 
 /// A file of two blocks, 0..1 and 1..2 from ordinals 0 and 1 on, with the keys of fewest bytes.
 pub fn smallest() -> Parts {
-    let parts = Parts::written(&touching(0, &[1, 1], 0, &[1]), &[vec![], vec![0]]);
+    let parts = Parts::written(V3, &touching(0, &[1, 1], 0, &[1]), &[vec![], vec![0]]);
     assert_eq!(
         (parts.bytes().len(), number(&parts.bytes())),
         (74, "gets 0".to_string())
@@ -252,7 +262,7 @@ fn falling() -> Vec<u8> {
 /// 129 empty blocks at 0, the last one at 1.
 fn gap() -> Vec<u8> {
     let blocks = touching(0, &[0; 129], 0, &[1; 128]);
-    let parts = Parts::new(&keys_of_one_byte(129), &access::write_store(&blocks));
+    let parts = Parts::new(&keys_of_one_byte(129), &rust::write_store(V3, &blocks));
     parts.with(|file| file.first_start(1, 1)).bytes()
 }
 
@@ -286,13 +296,13 @@ fn orders() -> Vec<Difference> {
 
 /// What the Rust does with an ordinal in a file, and what the library does with it, opened with so many terms.
 fn ordinal(bytes: &[u8], terms: u64, ord: u64) -> [String; 2] {
-    let index = Index::open(bytes);
+    let index = Index::open(V3, bytes);
     let answer = match quietly(|| index.get_and_locate_with_ord(ord)) {
         None => "panics".to_string(),
         Some((id, _)) => format!("gives id {id}"),
     };
     let (lent, mut record) = (Lent::new(bytes), Lent::buffer(OPENED_LEN));
-    assert_eq!(opened::call(terms, &lent, &mut record), 0);
+    assert_eq!(opened::call(V3.number(), terms, &lent, &mut record), 0);
     let no = lookups::locate_with_ord(&lent, &record, ord, &mut Out::some());
     [answer, format!("gets {no}")]
 }

@@ -55,8 +55,8 @@ fn call(tally: &mut Tally, builder: &mut Builder, letter: &str, words: &mut Word
             words.hold(tally, &SHORTEN, (entries.len() as u64, joined), (n, keys));
         }
         "f" => {
-            let [room, no, total, directory] = words.numbers();
-            let (got, bytes, len) = builder.finish_room(tally, room as usize);
+            let [version, room, no, total, directory] = words.numbers();
+            let (got, bytes, len) = builder.finish_room(tally, version, room as usize);
             let got = (got, bytes.len() as u64, len, bytes);
             let due = (no, total, directory, words.bytes());
             words.hold(tally, &FINISH, got, due);
@@ -67,6 +67,7 @@ fn call(tally: &mut Tally, builder: &mut Builder, letter: &str, words: &mut Word
 
 /// Many adds by the rule, then one more add or a finish.
 fn large(tally: &mut Tally, letter: &str, words: &mut Words) {
+    let version = if letter == "h" { words.number() } else { 0 };
     let count = words.number();
     let mut builder = Builder::raw(Areas {
         n: 0,
@@ -86,7 +87,7 @@ fn large(tally: &mut Tally, letter: &str, words: &mut Words) {
         return words.hold(tally, &ADD, got, due);
     }
     let [room, no, total, directory, rest] = words.numbers();
-    let (got, bytes, len) = builder.finish_room(tally, room as usize);
+    let (got, bytes, len) = builder.finish_room(tally, version, room as usize);
     let got = [got, bytes.len() as u64, len, remainder(&bytes)];
     words.hold(tally, &FINISH, got, [no, total, directory, rest]);
 }

@@ -3,6 +3,7 @@
 use model::batch::KeyList;
 use model::files::by_rule;
 use model::opening::Opened;
+use model::version::{V3, Version};
 
 use super::Words;
 use crate::calls::batches::LOCATE_WITH_KEYS;
@@ -13,42 +14,47 @@ use crate::calls::opened::{self, File, OPEN};
 use crate::tally::Tally;
 
 pub fn run(tally: &mut Tally, lines: &[&str]) {
-    let mut file = opened::open(tally, &[]);
+    let mut file = opened::open(tally, V3, &[]);
     for line in lines {
         let (letter, mut words) = Words::new(line);
         match letter {
             "f" => {
-                let bytes = words.bytes();
-                file = open(tally, &mut words, &bytes);
+                let (version, bytes) = (words.number(), words.bytes());
+                file = open(tally, &mut words, version, &bytes);
             }
             "g" => {
-                let bytes = by_rule(words.number()).bytes();
-                file = open(tally, &mut words, &bytes);
+                let (version, number) = words.version();
+                let bytes = by_rule(version, words.number()).bytes();
+                file = open(tally, &mut words, number, &bytes);
             }
             "c" => {
-                let (at, part) = (words.number() as usize, words.bytes());
+                let [version, at] = words.numbers();
+                let (at, part) = (at as usize, words.bytes());
                 let mut bytes = file.bytes.clone();
                 bytes[at..at + part.len()].copy_from_slice(&part);
-                open(tally, &mut words, &bytes);
+                open(tally, &mut words, version, &bytes);
             }
-            "t" => reopen(tally, &mut words, &mut file),
+            "t" => {
+                let version = words.number();
+                reopen(tally, &mut words, version, &mut file)
+            }
             "m" => file.set_record(Opened::of(words.numbers())),
             _ => look_up(tally, &file, letter, &mut words),
         }
     }
 }
 
-fn open(tally: &mut Tally, words: &mut Words, bytes: &[u8]) -> File {
-    let mut file = opened::open(tally, bytes);
-    reopen(tally, words, &mut file);
+fn open(tally: &mut Tally, words: &mut Words, version: u64, bytes: &[u8]) -> File {
+    let known = Version::of(version).unwrap_or(V3);
+    let mut file = opened::open(tally, known, bytes);
+    reopen(tally, words, version, &mut file);
     file
 }
 
-/// With the line's number of terms.
-fn reopen(tally: &mut Tally, words: &mut Words, file: &mut File) {
+/// With the line's version and number of terms.
+fn reopen(tally: &mut Tally, words: &mut Words, version: u64, file: &mut File) {
     let terms = words.number();
-    file.reopen(tally, terms);
-    let got = (file.opening.number(terms), file.numbers());
+    let got = (file.reopen_as(tally, version, terms), file.numbers());
     let due = (words.number(), words.numbers());
     words.hold(tally, &OPEN, got, due);
 }

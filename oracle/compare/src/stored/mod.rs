@@ -10,6 +10,8 @@ mod stores;
 use std::fs;
 use std::path::Path;
 
+use model::version::{V3, Version};
+
 use crate::calls::Call;
 use crate::tally::Tally;
 
@@ -38,10 +40,11 @@ pub fn run(tally: &mut Tally, root: &Path) {
     files::run(tally, root);
 }
 
-/// The parts of a line after its letter.
+/// The parts of a line after its letter: its numbers and its byte strings, each in turn.
 struct Words<'a> {
     line: &'a str,
-    words: std::str::Split<'a, char>,
+    numbers: std::vec::IntoIter<&'a str>,
+    strings: std::vec::IntoIter<&'a str>,
 }
 
 impl<'a> Words<'a> {
@@ -49,18 +52,19 @@ impl<'a> Words<'a> {
     fn new(line: &'a str) -> (&'a str, Words<'a>) {
         let mut words = line.split(' ');
         let letter = words.next().expect("a letter");
-        (letter, Words { line, words })
-    }
-
-    fn word(&mut self) -> &'a str {
-        self.words
-            .next()
-            .unwrap_or_else(|| panic!("{} is too short", self.line))
+        let (strings, numbers): (Vec<_>, Vec<_>) = words.partition(|word| word.starts_with('x'));
+        let words = Words {
+            line,
+            numbers: numbers.into_iter(),
+            strings: strings.into_iter(),
+        };
+        (letter, words)
     }
 
     fn number(&mut self) -> u64 {
-        self.word()
-            .parse()
+        let word = self.numbers.next();
+        let word = word.unwrap_or_else(|| panic!("{} is too short", self.line));
+        word.parse()
             .unwrap_or_else(|_| panic!("no number in {}", self.line))
     }
 
@@ -68,14 +72,22 @@ impl<'a> Words<'a> {
         std::array::from_fn(|_| self.number())
     }
 
+    /// A version: 3 where there is no such one.
+    fn version(&mut self) -> (Version, u64) {
+        let number = self.number();
+        (Version::of(number).unwrap_or(V3), number)
+    }
+
     /// The numbers up to the line's end.
     fn rest(&mut self) -> Vec<u64> {
-        let left = self.words.clone().count();
+        let left = self.numbers.len();
         (0..left).map(|_| self.number()).collect()
     }
 
     fn bytes(&mut self) -> Vec<u8> {
-        let digits = self.word().strip_prefix('x').expect("x and hex");
+        let word = self.strings.next();
+        let word = word.unwrap_or_else(|| panic!("{} has no bytes", self.line));
+        let digits = &word[1..];
         let byte = |i: usize| u8::from_str_radix(&digits[2 * i..2 * i + 2], 16).expect("hex");
         (0..digits.len() / 2).map(byte).collect()
     }

@@ -1,6 +1,7 @@
 //! Automata, and the calls that take one.
 
 use model::opening::Opened;
+use model::version::V3;
 
 use super::Words;
 use crate::calls::intervals::{CAN_BLOCK_MATCH, EXAMPLE, Pattern};
@@ -10,7 +11,7 @@ use crate::tally::Tally;
 
 pub fn run(tally: &mut Tally, lines: &[&str]) {
     let mut pattern = Pattern::new(&[]);
-    let mut file = opened::open(tally, &[]);
+    let mut file = opened::open(tally, V3, &[]);
     for line in lines {
         let (letter, mut words) = Words::new(line);
         match letter {
@@ -18,7 +19,9 @@ pub fn run(tally: &mut Tally, lines: &[&str]) {
                 pattern = Pattern::new(&automaton(letter, &mut words, &pattern.bytes));
             }
             "f" => {
-                file = opened::open(tally, &words.bytes());
+                let (version, number) = words.version();
+                file = opened::open(tally, version, &words.bytes());
+                file.reopen_as(tally, number, u64::MAX);
                 let (got, due) = (file.n(), words.number());
                 words.hold(tally, &OPEN, got, due);
             }

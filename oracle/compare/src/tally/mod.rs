@@ -7,6 +7,8 @@ use std::process;
 use std::sync::Mutex;
 use std::time::Instant;
 
+use model::version::{V3, V4, Version};
+
 use crate::asked::Outside;
 use crate::calls::{Call, FAMILIES};
 use crate::print::{Print, Prints};
@@ -89,8 +91,12 @@ impl Count {
 /// The part of the run that is on. Static, for the moment when a call touches what it must not.
 static SECTION: Mutex<&str> = Mutex::new("");
 
-pub fn section() -> &'static str {
-    SECTION.lock().map_or("", |name| *name)
+/// The version that it is about, if it is about one.
+static VERSION: Mutex<&str> = Mutex::new("");
+
+pub fn section() -> String {
+    let said = |part: &Mutex<&'static str>| part.lock().map_or("", |said| *said);
+    format!("{}{}", said(&SECTION), said(&VERSION))
 }
 
 /// The counts so far.
@@ -208,8 +214,22 @@ impl Tally {
 
     /// Begins a part of the run, and says how long the last one took.
     pub fn section(&mut self, name: &'static str) {
+        self.begin(name, "");
+    }
+
+    /// A part of the run in one version.
+    pub fn section_of(&mut self, version: Version, name: &'static str) {
+        let said = match version {
+            V3 => " (version 3)",
+            V4 => " (version 4)",
+        };
+        self.begin(name, said);
+    }
+
+    fn begin(&mut self, name: &'static str, version: &'static str) {
         self.end_section();
         *SECTION.lock().expect("one thread") = name;
+        *VERSION.lock().expect("one thread") = version;
         self.began = Some((Instant::now(), self.calls(), self.again()));
     }
 

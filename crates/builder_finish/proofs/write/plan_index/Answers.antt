@@ -6,13 +6,13 @@ use Rattle.store.proofs.Plans.{plans-stand}
 use Rattle.builder.specs.Index.{settings_of}
 use Rattle.builder.specs.declared.SSTableIndexBuilder.{SSTableIndexBuilder}
 use Rattle.builder.proofs.Row8.{ListOk, list-ok}
-use Rattle.builder.proofs.IndexWritten.{settings-ok, directory_of, store_of, index-none, index-length, index-small}
+use Rattle.builder.proofs.IndexWritten.{settings-of-ok, directory_of, store_of, index-none, index-length, index-small}
 use Rattle.builder_finish.proofs.write.plan_index.Goals as goal
 
 -- the sum doesn't wrap
 small : (group_len : ℕ) (b : SSTableIndexBuilder) (B K : List ℕ) → GroupLenOk group_len → ListOk b.n B K
     → length (directory_of b B K) + length (store_of (settings_of group_len) b B K) + 8 ≤ 400000000
-small group_len b B K group ok = index-small (settings_of group_len) b B K (settings-ok group_len group) ok
+small group_len b B K group ok = index-small (settings_of group_len) b B K (settings-of-ok group_len group) ok
 
 pub returns-then-n-lt2 : goal.returns-then-n-lt2
 returns-then-n-lt2 c =

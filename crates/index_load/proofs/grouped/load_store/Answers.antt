@@ -75,7 +75,7 @@ records_bad-requires c =
 pub returns-then-records_bad : goal.returns-then-records_bad
 returns-then-records_bad c =
     let f = c.args.«data».now in
-    least-refused c.args.group_len f _ (file-records c.args.group_len f c.requires.1 c.requires.3
+    least-refused c.args.group_len c.args.version f c.requires.4 _ (file-records c.args.group_len f c.requires.1 c.requires.3
     (sym c.records_bad.ensures ∙ c.if-records_bad.true))
 
 pub deserialize_u64-metas_len-requires : goal.deserialize_u64-metas_len-requires
@@ -130,7 +130,7 @@ invariant_of-check c =
 pub returns-in_err-last : goal.returns-in_err-last
 returns-in_err-last c =
     let p = err_from_is_err_and c.from_residual.result c.from_residual.ensures.1 in
-    rw (p.1, p.2) (least-refused _ _ _ (c.in_err-last.ensures.number
+    rw (p.1, p.2) (least-refused c.args.group_len c.args.version c.args.«data».now c.requires.4 _ (c.in_err-last.ensures.number
     ∙ number _ _ _ _ _ c.requires.1 c.requires.2 c.requires.3 c.deserialize_u32-n.ensures c.deserialize_u64-metas_len.ensures
     (sym c.records_bad.ensures ∙ c.if-records_bad.false)))
 
@@ -161,6 +161,7 @@ returns c =
     let foot = footer-ok f c.requires.1 in
     let good = sym c.records_bad.ensures ∙ c.if-records_bad.false in
     ap Ok (opened-is c.args.group_len f c.args.directory_len _ foot c.requires.2
-    (records-ok _ f good) c.deserialize_u64-metas_len.ensures _ (c.deserialize_u32-n.ensures ∙ count-front f foot c.requires.3) _)
-    ∙ ap (λ (t : ℕ). Ok (opened_of (t + 1) f)) (ordinal c)
-    ∙ least-taken c.args.group_len f (passed c)
+    (records-ok _ f good) c.deserialize_u64-metas_len.ensures _ (c.deserialize_u32-n.ensures ∙ count-front f foot c.requires.3)
+    c.args.version _)
+    ∙ ap (λ (t : ℕ). Ok (opened_of c.args.version (t + 1) f)) (ordinal c)
+    ∙ least-taken c.args.group_len c.args.version f c.requires.4 (passed c)

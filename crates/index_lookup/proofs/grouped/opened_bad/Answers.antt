@@ -11,6 +11,10 @@ use Rattle.index_lookup.proofs.grouped.opened_bad.Goals.{then-ends_beyond-via-el
 outside : (len end : ℕ) (t : Bool) → t ≡ ltb len end → t ≡ true → end ≤ len → ⊥
 outside len end t e h fits = true≢false (sym h ∙ e ∙ le-ltb len end fits)
 
+pub returns-then-version_bad : goal.returns-then-version_bad
+returns-then-version_bad c =
+    sym (unfit-bad _ _ _ (λ fits. true≢false (sym c.if-version_bad.true ∙ c.version_bad.ensures ∙ fits.version)))
+
 pub returns-then-not-contains : goal.returns-then-not-contains
 returns-then-not-contains c = sym (unfit-bad _ _ _ (λ fits. search (rules, tests, arith, fits)))
 
@@ -28,7 +32,8 @@ pub returns : goal.returns
 returns c =
     let a = c.args in
     ap (λ (x : ℕ). ltb a.opened.metas_len (36 * x)) c.group_count.ensures
-    ∙ sym (last-test a.group_len a.opened a.len (search (rules, tests, arith)) (search (rules, tests, arith))
+    ∙ sym (last-test a.group_len a.opened a.len (sym c.version_bad.ensures ∙ c.if-version_bad.false)
+    (search (rules, tests, arith)) (search (rules, tests, arith))
     (ltb-false _ _ (sym c.ends_beyond.ensures ∙ c.if-ends_beyond.false))
     (ltb-false _ _ (sym c.ends_beyond-else-ends_beyond.ensures ∙ c.if-ends_beyond-2.false))
     (ltb-false _ _ (sym c.ends_beyond-else-ends_beyond-2.ensures ∙ c.if-ends_beyond-3.false)))

@@ -26,4 +26,4 @@ pub returns : goal.returns
 returns c =
     let told = finished c.finish.result c.map_err-written.result c.map_or-len.result c.finish.new.out _ _ c.map_err-written.ensures.cases
     c.map_or-len.ensures (λ e p. search rules) (λ w q. search rules) _ (rw c.new-builder.ensures at c.finish.ensures.finishes) in
-    rw c.number.ensures (finish_with _ _ c.args.n _ _ told.0 _ _ _ _ told.1)
+    rw c.number.ensures (finish_with c.args.version _ c.args.n _ _ told.0 _ _ _ _ told.1)

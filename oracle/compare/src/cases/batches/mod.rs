@@ -8,15 +8,19 @@ mod words;
 use model::key_lists::{LAYOUTS, Order};
 use model::numbers::Numbers;
 use model::settings::MOST_KEYS;
+use model::version::VERSIONS;
 
 use crate::calls::opened::File;
 use crate::tally::Tally;
 
+/// A version tells nothing but which records are refused: version 4 gets fewer lists.
 pub fn run(tally: &mut Tally) {
-    words::run(tally);
-    refused::run(tally);
-    orders::run(tally);
-    others::run(tally);
+    for version in VERSIONS {
+        words::run(tally, version);
+        refused::run(tally, version);
+        orders::run(tally, version);
+        others::run(tally, version);
+    }
 }
 
 /// Keys that were looked for one by one, in two lists.

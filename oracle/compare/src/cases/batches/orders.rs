@@ -3,25 +3,27 @@
 use model::around;
 use model::batch::KeyList;
 use model::blocks::{random, touching};
-use model::files::{File as Parts, keys_of_one_byte, rising};
+use model::files::{File as Parts, rising, short_keys};
 use model::key_lists::{LAYOUTS, Layout, ORDERS};
 use model::numbers::Numbers;
 use model::settings::{LONGEST_KEY, MOST_BLOCKS, MOST_KEYS};
+use model::version::Version;
 
 use crate::calls::opened::{self, File};
 use crate::tally::Tally;
 
-pub fn run(tally: &mut Tally) {
-    small(tally);
-    large(tally);
-    by_chance(tally, 1_500);
+pub fn run(tally: &mut Tally, version: Version) {
+    small(tally, version);
+    large(tally, version);
+    by_chance(tally, version, version.pick(1_500, 400));
 }
 
-fn open(tally: &mut Tally, separators: &[Vec<u8>]) -> File {
+fn open(tally: &mut Tally, version: Version, separators: &[Vec<u8>]) -> File {
     let count = separators.len();
     let blocks = touching(7, &vec![3; count], 5, &vec![2; count - 1]);
-    let file = opened::open(tally, &Parts::written(&blocks, separators).bytes());
-    assert_eq!(file.opening.no(), 0);
+    let parts = Parts::written(version, &blocks, separators);
+    let file = opened::open(tally, version, &parts.bytes());
+    assert_eq!(file.opening().no(), 0);
     file
 }
 
@@ -40,7 +42,9 @@ fn orders(tally: &mut Tally, rng: &mut Numbers, file: &File, pool: &[Vec<u8>], c
 /// Each separator and the keys around it, in lists of so many: high, low and middle ones by turns.
 fn around_all(tally: &mut Tally, file: &File, count: usize) {
     let ids = (0..file.n()).collect();
-    let keys: Vec<Vec<u8>> = around::keys(&file.opening.keys, &ids).into_iter().collect();
+    let keys: Vec<Vec<u8>> = around::keys(&file.opening().keys, &ids)
+        .into_iter()
+        .collect();
     let third = keys.len().div_ceil(3);
     let turns = (0..third).flat_map(|i| [i + 2 * third, i, i + third]);
     let turned: Vec<&Vec<u8>> = turns.filter_map(|i| keys.get(i)).collect();
@@ -52,17 +56,17 @@ fn around_all(tally: &mut Tally, file: &File, count: usize) {
 
 const COUNTS: [usize; 9] = [1, 2, 3, 7, 8, 9, 32, MOST_KEYS - 1, MOST_KEYS];
 
-fn small(tally: &mut Tally) {
-    tally.section("batches: keys in every order, files of 2 to 200 blocks");
+fn small(tally: &mut Tally, version: Version) {
+    tally.section_of(
+        version,
+        "batches: keys in every order, files of 2 to 257 blocks",
+    );
     let mut rng = Numbers::from_seed(140);
-    for n in [2, 3, 4, 5, 8, 31, 64, 127, 128, 129, 200] {
-        for separators in [
-            keys_of_one_byte(n),
-            rising(&mut rng, n as u64, 4),
-            long(n, 1_000),
-        ] {
-            let file = open(tally, &separators);
-            let ids = around::ids(&mut rng, n as u64, 12);
+    let all = &[2, 3, 4, 5, 8, 31, 64, 127, 128, 129, 200][..];
+    for &n in version.pick(all, &[2, 129, 257]) {
+        for separators in [short_keys(n), rising(&mut rng, n as u64, 4), long(n, 1_000)] {
+            let file = open(tally, version, &separators);
+            let ids = around::ids(version, &mut rng, n as u64, 12);
             let pool: Vec<Vec<u8>> = around::keys(&separators, &ids).into_iter().collect();
             orders(tally, &mut rng, &file, &pool, &COUNTS);
             around_all(tally, &file, MOST_KEYS);
@@ -122,33 +126,34 @@ fn growing(n: usize) -> Vec<Vec<u8>> {
 }
 
 /// Sizes at which searches begin to go side by side, and the largest.
-fn large(tally: &mut Tally) {
-    tally.section("batches: files of 1,023 to 65,536 blocks");
+fn large(tally: &mut Tally, version: Version) {
+    tally.section_of(version, "batches: files of 1,023 to 65,536 blocks");
     let mut rng = Numbers::from_seed(141);
-    for n in [
+    let all = [
         1_023, 1_024, 2_047, 2_049, 4_094, 4_095, 4_096, 4_097, 4_098, 8_191, 8_192, 8_193,
-    ] {
+    ];
+    for &n in version.pick(&all[..], &[1_023, 4_097]) {
         for separators in [
             long(n, 0),
             long(n, 30),
             growing(n),
             rising(&mut rng, n as u64, 6),
         ] {
-            let file = open(tally, &separators);
+            let file = open(tally, version, &separators);
             many(tally, &mut rng, &file, &separators);
             around_all(tally, &file, if n % 2 == 0 { MOST_KEYS } else { 9 });
         }
     }
-    for n in [MOST_BLOCKS - 1, MOST_BLOCKS] {
+    for &n in version.pick(&[MOST_BLOCKS - 1, MOST_BLOCKS][..], &[MOST_BLOCKS]) {
         for separators in [long(n, 0), long(n, 9)] {
-            let file = open(tally, &separators);
+            let file = open(tally, version, &separators);
             many(tally, &mut rng, &file, &separators);
         }
     }
 }
 
 fn many(tally: &mut Tally, rng: &mut Numbers, file: &File, separators: &[Vec<u8>]) {
-    let ids = around::ids(rng, separators.len() as u64, 60);
+    let ids = around::ids(file.version, rng, separators.len() as u64, 60);
     let pool: Vec<Vec<u8>> = around::keys(separators, &ids).into_iter().collect();
     orders(tally, rng, file, &pool, &COUNTS);
     let above = vec![vec![0xff; 3], vec![0xff; 2_000]];
@@ -156,8 +161,8 @@ fn many(tally: &mut Tally, rng: &mut Numbers, file: &File, separators: &[Vec<u8>
 }
 
 /// Lists by chance over files by chance: any keys over few bytes, some words replaced.
-fn by_chance(tally: &mut Tally, files: u64) {
-    tally.section("batches: lists by chance over files by chance");
+fn by_chance(tally: &mut Tally, version: Version, files: u64) {
+    tally.section_of(version, "batches: lists by chance over files by chance");
     let mut rng = Numbers::from_seed(142);
     for round in 0..files {
         let n = if round % 100 == 0 {
@@ -167,7 +172,8 @@ fn by_chance(tally: &mut Tally, files: u64) {
         };
         let separators = rising(&mut rng, n, 5);
         let blocks = random(&mut rng, n, 9, 4, 20, 20);
-        let file = opened::open(tally, &Parts::written(&blocks, &separators).bytes());
+        let parts = Parts::written(version, &blocks, &separators);
+        let file = opened::open(tally, version, &parts.bytes());
         for _ in 0..30 {
             let (list, room) = list(&mut rng);
             file.batch(tally, &list, room);

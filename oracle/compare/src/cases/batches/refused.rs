@@ -4,30 +4,31 @@ use std::collections::BTreeSet;
 
 use model::batch::{Cause, KeyList};
 use model::blocks::touching;
-use model::faults::others;
+use model::faults::{other_versions, others};
 use model::files::{File as Parts, two_group_file, worked_file};
 use model::key_lists::{Layout, WAYS, refused};
 use model::opening::Opened;
 use model::settings::MOST_KEYS;
+use model::version::Version;
 
 use crate::calls::opened::{self, File};
 use crate::tally::Tally;
 
-pub fn run(tally: &mut Tally) {
-    counts(tally);
-    let lists = all();
-    tally.section("batches: the causes of 26, alone and together");
-    for bytes in files() {
-        let file = opened::open(tally, &bytes);
+pub fn run(tally: &mut Tally, version: Version) {
+    counts(tally, version);
+    let lists: Vec<(KeyList, usize)> = all().into_iter().step_by(version.pick(1, 5)).collect();
+    tally.section_of(version, "batches: the causes of 26, alone and together");
+    for bytes in files(version) {
+        let file = opened::open(tally, version, &bytes);
         for (list, room) in &lists {
             file.batch(tally, list, *room);
         }
     }
-    with_other_records(tally, &lists);
+    with_other_records(tally, version, &lists);
 }
 
 /// One group, two groups, and enough blocks for searches side by side.
-fn files() -> Vec<Vec<u8>> {
+fn files(version: Version) -> Vec<Vec<u8>> {
     let large = 4_096;
     let keys: Vec<Vec<u8>> = (0..large as u32)
         .map(|i| i.to_be_bytes()[1..].to_vec())
@@ -35,8 +36,8 @@ fn files() -> Vec<Vec<u8>> {
     let blocks = touching(0, &vec![1; large], 0, &vec![1; large - 1]);
     let files = [
         worked_file(),
-        two_group_file(2),
-        Parts::written(&blocks, &keys),
+        two_group_file(version, 2),
+        Parts::written(version, &blocks, &keys),
     ];
     files.iter().map(Parts::bytes).collect()
 }
@@ -65,11 +66,13 @@ fn all() -> Vec<(KeyList, usize)> {
 }
 
 /// Around the most keys, and around whole pairs.
-fn counts(tally: &mut Tally) {
-    tally
-        .section("batches: 0 to 66 keys and many more, odd areas, ids one short, exact and longer");
-    for bytes in files() {
-        let file = opened::open(tally, &bytes);
+fn counts(tally: &mut Tally, version: Version) {
+    tally.section_of(
+        version,
+        "batches: 0 to 66 keys and many more, odd areas, ids one short, exact and longer",
+    );
+    for bytes in files(version) {
+        let file = opened::open(tally, version, &bytes);
         for count in (0..=MOST_KEYS + 2).chain([100, 127, 128, 129, 1_000, 65_536]) {
             let keys: Vec<[u8; 1]> = (0..count).map(|i| [b'h' - (i % 8) as u8]).collect();
             let list = Layout::Touching.list(&keys);
@@ -97,12 +100,15 @@ fn odd(tally: &mut Tally, file: &File, list: &KeyList) {
 }
 
 /// Records that fail by themselves come before the list; with others the list comes before the search.
-fn with_other_records(tally: &mut Tally, lists: &[(KeyList, usize)]) {
-    tally.section("batches: the causes of 26 with records that aren't the file's");
+fn with_other_records(tally: &mut Tally, version: Version, lists: &[(KeyList, usize)]) {
+    tally.section_of(
+        version,
+        "batches: the causes of 26 with records that aren't the file's",
+    );
     let bytes = worked_file().bytes();
-    let mut file = opened::open(tally, &bytes);
-    let own = file.opening.record;
-    let records: Vec<Opened> = others(own);
+    let mut file = opened::open(tally, version, &bytes);
+    let own = file.opening().record;
+    let records: Vec<Opened> = [others(own), other_versions(own)].concat();
     assert!(records.iter().any(|record| record.unfit(bytes.len())));
     assert!(records.iter().any(|record| !record.unfit(bytes.len())));
     for (i, record) in records.into_iter().enumerate() {

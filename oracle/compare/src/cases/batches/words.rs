@@ -2,20 +2,21 @@
 
 use model::batch::KeyList;
 use model::files::{smallest, worked_file};
+use model::version::Version;
 
 use crate::calls::opened::{self, File};
 use crate::tally::Tally;
 
-/// The most words of a list.
-const LONGEST: u32 = 6;
-
-pub fn run(tally: &mut Tally) {
-    tally.section("batches: every list of up to six words over areas of up to three bytes");
+pub fn run(tally: &mut Tally, version: Version) {
+    tally.section_of(
+        version,
+        "batches: every list of up to six words over areas of up to three bytes",
+    );
     for (index, areas) in [
         (worked_file(), [&b""[..], b"c", b"gb", b"fbd"]),
         (smallest(), [&b""[..], b"b", b"ca", b"b\0a"]),
     ] {
-        let file = opened::open(tally, &index.bytes());
+        let file = opened::open(tally, version, &index.bytes());
         for area in areas {
             every(tally, &file, area);
         }
@@ -25,7 +26,9 @@ pub fn run(tally: &mut Tally) {
 /// Words up to one byte beyond the area, and the greatest one.
 fn every(tally: &mut Tally, file: &File, area: &[u8]) {
     let words: Vec<u64> = (0..=area.len() as u64 + 1).chain([u64::MAX]).collect();
-    for length in 0..=LONGEST {
+    // the most words of a list
+    let longest = file.version.pick(6, 4);
+    for length in 0..=longest {
         for which in 0..words.len().pow(length) {
             let digit = |k| which / words.len().pow(k) % words.len();
             let list = KeyList {

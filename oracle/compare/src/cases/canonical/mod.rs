@@ -8,34 +8,41 @@ mod written;
 use model::blocks::{random, touching};
 use model::files::File as Parts;
 use model::numbers::Numbers;
-use model::settings::{GROUP_LEN, LIMIT};
-use tantivy_sstable::access::Block;
+use model::rust::Block;
+use model::settings::LIMIT;
+use model::version::{VERSIONS, Version};
 
 use crate::calls::opened::{self, File};
 use crate::tally::Tally;
 
 pub fn run(tally: &mut Tally) {
-    bytes::run(tally);
-    foreign::run(tally);
-    moved::run(tally);
-    written::run(tally);
+    for version in VERSIONS {
+        bytes::run(tally, version);
+        foreign::run(tally, version);
+        moved::run(tally, version);
+        written::run(tally, version);
+    }
 }
 
 /// Around one, two and three full groups, and more.
-const SIZES: [usize; 12] = [
-    2,
-    3,
-    17,
-    GROUP_LEN - 1,
-    GROUP_LEN,
-    GROUP_LEN + 1,
-    2 * GROUP_LEN - 1,
-    2 * GROUP_LEN,
-    2 * GROUP_LEN + 1,
-    3 * GROUP_LEN,
-    3 * GROUP_LEN + 1,
-    1000,
-];
+fn sizes(version: Version) -> [usize; 12] {
+    let full = version.group_len();
+    let [one, two, three] = [full, 2 * full, 3 * full];
+    [
+        2,
+        3,
+        17,
+        one - 1,
+        one,
+        one + 1,
+        two - 1,
+        two,
+        two + 1,
+        three,
+        three + 1,
+        1000,
+    ]
+}
 
 /// How many kinds of lists there are.
 const SHAPES: usize = 6;
@@ -76,9 +83,15 @@ fn keys(rng: &mut Numbers, n: usize) -> Vec<Vec<u8>> {
 }
 
 /// Opens and checks a file that must hold these blocks and keys.
-fn holding(tally: &mut Tally, blocks: &[Block], keys: &[Vec<u8>], store: &[u8]) -> File {
-    let file = opened::open(tally, &Parts::new(keys, store).bytes());
-    assert_eq!(file.opening.no(), 0);
-    assert!(file.opening.blocks == blocks && file.opening.keys == keys);
+fn holding(
+    tally: &mut Tally,
+    version: Version,
+    blocks: &[Block],
+    keys: &[Vec<u8>],
+    store: &[u8],
+) -> File {
+    let file = opened::open(tally, version, &Parts::new(keys, store).bytes());
+    assert_eq!(file.opening().no(), 0);
+    assert!(file.opening().blocks == blocks && file.opening().keys == keys);
     file
 }

@@ -123,7 +123,7 @@ pub fn orders(tally: &mut Tally, whole: &Whole) {
     for at in whole.places(whole.keys.len()) {
         for fault in faults {
             let parts = whole.with_keys(|keys| fault(keys, at));
-            let row = model::opening::open(&parts.bytes()).no();
+            let row = whole.row(&parts);
             assert!(row == 13 || row == 0);
             whole.open(tally, row, &parts);
         }

@@ -9,16 +9,23 @@ use model::blocks::{by_rule, random};
 use model::files::File as Parts;
 use model::foreign::{self, near};
 use model::numbers::Numbers;
-use model::settings::{GROUP_LEN, LIMIT, MOST_BLOCKS};
-use tantivy_sstable::access::{self, Block};
+use model::rust::{self, Block};
+use model::settings::{LIMIT, MOST_BLOCKS};
+use model::version::{VERSIONS, Version};
 
 use crate::calls::intervals::Pattern;
 use crate::calls::opened;
 use crate::tally::Tally;
 
 pub fn run(tally: &mut Tally) {
+    for version in VERSIONS {
+        in_version(tally, version);
+    }
+}
+
+fn in_version(tally: &mut Tally, version: Version) {
     let mut rng = Numbers::from_seed(133);
-    let files = files(&mut rng);
+    let files = files(version, &mut rng);
     for (section, run) in [
         (
             "late: rows 10 and 11, 20,000 bytes to 4 megabytes",
@@ -31,7 +38,7 @@ pub fn run(tally: &mut Tally) {
         ("late: row 16", stores::values),
         ("late: two rows, the later one early", two_rows),
     ] {
-        tally.section(section);
+        tally.section_of(version, section);
         for whole in &files {
             run(tally, whole);
         }
@@ -40,6 +47,7 @@ pub fn run(tally: &mut Tally) {
 
 /// A file that opens, in parts.
 struct Whole {
+    version: Version,
     keys: Vec<Vec<u8>>,
     store: Vec<u8>,
     parts: Parts,
@@ -52,12 +60,13 @@ struct Whole {
 type Fault = fn(&mut Parts, usize);
 
 impl Whole {
-    fn new(keys: Vec<Vec<u8>>, store: Vec<u8>, blocks: Vec<Block>) -> Whole {
+    fn new(version: Version, keys: Vec<Vec<u8>>, store: Vec<u8>, blocks: Vec<Block>) -> Whole {
         let parts = Parts::new(&keys, &store);
         assert!((20_000..8_000_000).contains(&parts.bytes().len()));
         let last = keys.last().expect("a key");
         let pattern = Pattern::of(&Table::beginning(&last[..last.len().min(40)]));
         Whole {
+            version,
             keys,
             store,
             parts,
@@ -72,7 +81,7 @@ impl Whole {
     }
 
     fn groups(&self) -> usize {
-        self.keys.len().div_ceil(GROUP_LEN)
+        self.keys.len().div_ceil(self.version.group_len())
     }
 
     /// The file with another list of keys.
@@ -84,8 +93,8 @@ impl Whole {
 
     /// Opens a broken file, which must get this row; then lookups in it with the whole file's record, at its end.
     fn open(&self, tally: &mut Tally, row: u64, parts: &Parts) {
-        let mut file = opened::open(tally, &parts.bytes());
-        assert_eq!(file.opening.no(), row, "a fault of another row");
+        let mut file = opened::open(tally, self.version, &parts.bytes());
+        assert_eq!(file.opening().no(), row, "a fault of another row");
         let whole = self.record();
         file.set_record(whole);
         let last = self.keys.len() - 1;
@@ -101,9 +110,14 @@ impl Whole {
 
     /// Opens a file that gets 16, or may open too.
     fn any(&self, tally: &mut Tally, parts: &Parts, certain: bool) {
-        let row = model::opening::open(&parts.bytes()).no();
+        let row = self.row(parts);
         assert!(row == 16 || row == 0 && !certain);
         self.open(tally, row, parts);
+    }
+
+    /// The row that the model gives.
+    fn row(&self, parts: &Parts) -> u64 {
+        model::opening::open(self.version, &parts.bytes()).no()
     }
 
     fn record(&self) -> model::opening::Opened {
@@ -124,6 +138,7 @@ impl Whole {
             records: (d + 8, r),
             addresses: (d + 8 + r, a),
             terms: self.blocks[self.blocks.len() - 1].ord + 1,
+            version: self.version.number(),
         }
     }
 }
@@ -138,45 +153,55 @@ fn keys(rng: &mut Numbers, count: usize, front: u64, after: u64) -> Vec<Vec<u8>>
     (0..count).map(key).collect()
 }
 
-fn files(rng: &mut Numbers) -> Vec<Whole> {
+/// Blocks, bytes in front of a key's number and behind it.
+const OF_3: [(usize, u64, u64); 6] = [
+    (600, 20, 20),
+    (900, 14, 3),
+    (3000, 2, 40),
+    (4001, 997, 20),
+    (20_000, 3, 7),
+    (MOST_BLOCKS, 1, 4),
+];
+
+const OF_4: [(usize, u64, u64); 4] = [
+    (1500, 14, 3),
+    (3000, 2, 40),
+    (7701, 60, 9),
+    (MOST_BLOCKS, 1, 4),
+];
+
+fn files(version: Version, rng: &mut Numbers) -> Vec<Whole> {
     let mut files = Vec::new();
-    for (count, front, after) in [
-        (600, 20, 20),
-        (900, 14, 3),
-        (3000, 2, 40),
-        (4001, 997, 20),
-        (20_000, 3, 7),
-        (MOST_BLOCKS, 1, 4),
-    ] {
+    for &(count, front, after) in version.pick(&OF_3[..], &OF_4) {
         let blocks = match count % 2 {
             0 => random(rng, count as u64, 12, 7, 20, 20),
             _ => by_rule(529 * 77 + 23 * 9 + 11, count as u64),
         };
         let keys = keys(rng, count, front, after);
-        files.push(Whole::new(keys, access::write_store(&blocks), blocks));
+        let store = rust::write_store(version, &blocks);
+        files.push(Whole::new(version, keys, store, blocks));
     }
-    files.push(foreign(rng));
+    files.push(foreign(version, rng));
     for whole in &files {
-        assert_eq!(
-            model::opening::open(&whole.parts.bytes()).record,
-            whole.record()
-        );
+        let opening = model::opening::open(version, &whole.parts.bytes());
+        assert_eq!(opening.record, whole.record());
     }
     files
 }
 
 /// Groups that no writer would write so, with bytes between them.
-fn foreign(rng: &mut Numbers) -> Whole {
+fn foreign(version: Version, rng: &mut Numbers) -> Whole {
     let blocks = random(rng, 1700, 20, 9, 30, 30);
     let (mut groups, mut offset) = (Vec::new(), 3);
-    for part in blocks.chunks(GROUP_LEN) {
+    for part in blocks.chunks(version.group_len()) {
         let group = near(rng, part, offset);
         offset += group.length() + rng.below(5) as usize;
         groups.push(group);
     }
     let room = groups.last().map_or(0, |last| last.offset + last.length());
     let store = foreign::store(&groups, rng.bytes(room as u64));
-    Whole::new(keys(rng, blocks.len(), 5, 9), store, blocks.clone())
+    let keys = keys(rng, blocks.len(), 5, 9);
+    Whole::new(version, keys, store, blocks.clone())
 }
 
 /// A late fault of one row and an early one of a later row: the first row is given.

@@ -1,7 +1,7 @@
 //! Rows 14 to 16, broken late: the records' length, the last groups, the last fields.
 
 use model::files::File as Parts;
-use model::settings::{GROUP_LEN, GROUP_RECORD, LIMIT, WIDEST};
+use model::settings::{GROUP_RECORD, LIMIT, WIDEST};
 
 use super::{Fault, Whole};
 use crate::tally::Tally;
@@ -100,10 +100,8 @@ pub fn groups(tally: &mut Tally, whole: &Whole) {
 
 pub fn values(tally: &mut Tally, whole: &Whole) {
     for at in whole.places(whole.groups()) {
-        let (first, before) = (
-            whole.blocks[at * GROUP_LEN],
-            whole.blocks[at * GROUP_LEN - 1],
-        );
+        let id = at * whole.version.group_len();
+        let (first, before) = (whole.blocks[id], whole.blocks[id - 1]);
         for start in [
             first.start + 1,
             first.start.wrapping_sub(1),
