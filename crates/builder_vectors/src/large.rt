@@ -4,8 +4,8 @@ ghost use Rattle.std.specs.Prelude.{◌≤◌, ◌<◌};
 use crate::lent::Lent;
 use group::BlockAddr;
 use std::alloc::{AllocError, Global};
-use vectors::area::remainder;
-use vectors::told::is_told;
+use vector_parts::area::remainder;
+use vector_parts::told::is_told;
 
 const MOST_BLOCKS: u64 = 65536;
 

@@ -7,8 +7,8 @@ use group::BlockAddr;
 use layout::MAX_BLOCKS;
 use layout::refusals::Refusal;
 use std::alloc::{AllocError, Global};
-use vectors::area::front;
-use vectors::told::is_told;
+use vector_parts::area::front;
+use vector_parts::told::is_told;
 
 // No area of a line is longer.
 const MOST_NUMBERS: u64 = 1300;

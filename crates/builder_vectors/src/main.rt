@@ -6,11 +6,12 @@ mod areas;
 mod large;
 mod lent;
 
+use case_text::Case;
 use lent::Lent;
 use std::alloc::{AllocError, Global};
 use std::io;
+use vectors::driver;
 use vectors::driver::Letter;
-use vectors::{Case, driver};
 
 // What a line does or is about.
 #[derive(Clone, Copy)]

@@ -8,7 +8,7 @@ mod questions;
 
 use std::rt::Files;
 use std::{env, io};
-use vectors::tally::Tallies;
+use vector_parts::tally::Tallies;
 
 const ROWS: [&str; 3] = ["index files", "questions", "automata"];
 

@@ -1,12 +1,13 @@
 // Questions to an index file, one a line, with their answers.
 use crate::{ROW_OF_QUESTIONS, files};
+use case_text::Case;
 use index::SSTableIndexV3;
 use std::io;
 use std::rt::Files;
+use vector_parts::tally::Tallies;
+use vector_parts::told::is_told;
+use vectors::driver;
 use vectors::driver::Letter;
-use vectors::tally::Tallies;
-use vectors::told::is_told;
-use vectors::{Case, driver};
 
 const ROW: Option<usize> = Some(ROW_OF_QUESTIONS);
 

@@ -2,8 +2,8 @@
 use crate::lookup::Lookup;
 use layout::refusals::Refusal;
 use std::alloc::{AllocError, Global};
-use vectors::area::front;
-use vectors::told::is_told;
+use vector_parts::area::front;
+use vector_parts::told::is_told;
 
 // The longest id area of a line.
 const MOST_ROOM: u64 = 80;

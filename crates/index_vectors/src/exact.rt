@@ -1,7 +1,7 @@
 // Lookups in a file as it was opened: whether the answers are those of the list.
 use crate::lookup::Lookup;
 use store::Located;
-use vectors::told::is_told;
+use vector_parts::told::is_told;
 
 // A function: both types are other crates'.
 fn numbers(located: Located) -> [u64; 4] {

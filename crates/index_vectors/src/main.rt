@@ -9,12 +9,13 @@ mod lookup;
 mod opened;
 mod rule;
 
+use case_text::Case;
 use lookup::Lookup;
 use opened::Opened;
 use std::alloc::{AllocError, Global};
 use std::io;
+use vectors::driver;
 use vectors::driver::Letter;
-use vectors::{Case, driver};
 
 // What a line does or asks.
 #[derive(Clone, Copy)]

@@ -5,7 +5,7 @@ use index::SSTableIndexV3;
 use layout::refusals::Refusal;
 use std::alloc::{AllocError, Global};
 use store::Located;
-use vectors::told::is_told;
+use vector_parts::told::is_told;
 
 // Where a group record has its first ordinal.
 const FIRST_ORDINAL: usize = 16;

@@ -5,7 +5,7 @@ ghost use Rattle.slope.specs.Column.{ColumnOk};
 use crate::pack;
 use crate::pack::Widths;
 use slope::Column;
-use vectors::area::framed;
+use vector_parts::area::framed;
 
 pub const MARK: u8 = 0xa5;
 

@@ -4,10 +4,11 @@
 mod cases;
 mod pack;
 
+use case_text::Case;
 use cases::Area;
 use std::io;
+use vectors::driver;
 use vectors::driver::Letter;
-use vectors::{Case, driver};
 
 // What a line is about.
 #[derive(Clone, Copy)]

@@ -13,7 +13,7 @@ pub struct Area {
 impl Area {
     // The first n bytes, if all others are as they were.
     pub fn front(&self, n: usize) -> Option<&[u8]> {
-        vectors::area::front(&self.bytes, n, self.fill)
+        vector_parts::area::front(&self.bytes, n, self.fill)
     }
 }
 

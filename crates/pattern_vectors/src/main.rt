@@ -7,12 +7,13 @@ mod examples;
 mod subject;
 mod tables;
 
+use case_text::Case;
 use std::alloc::{AllocError, Global};
 use std::io;
 use subject::Subject;
 use tables::Table;
+use vectors::driver;
 use vectors::driver::Letter;
-use vectors::{Case, driver};
 
 // What a line does or asks.
 #[derive(Clone, Copy)]

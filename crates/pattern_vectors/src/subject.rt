@@ -3,11 +3,11 @@ use crate::areas;
 use crate::areas::holds_over_both;
 use crate::examples::is_example;
 use crate::tables::Table;
+use case_text::Case;
 use index::SSTableIndexV3;
 use layout::refusals::Refusal;
 use std::alloc::{AllocError, Global};
-use vectors::Case;
-use vectors::told::is_told;
+use vector_parts::told::is_told;
 
 #[derive(Drop)]
 pub struct Subject {

@@ -1,9 +1,9 @@
 // Automata as tables: the count of states, a flag for each, and the next states, row by row.
 ghost use Rattle.std.specs.Prelude.{◌<◌, IfOk, IfSome};
 
+use case_text::Case;
 use std::alloc::{AllocError, Global};
-use vectors::Case;
-use vectors::draws::Draws;
+use vector_parts::draws::Draws;
 
 // How a line makes a table.
 #[derive(Clone, Copy)]

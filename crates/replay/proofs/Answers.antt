@@ -24,7 +24,7 @@ use Rattle.index.specs.declared.SSTableIndexV3.{SSTableIndexV3}
 use Rattle.index.specs.Lookups.{GetBlock, LocateWithOrd, LocateWithKey, GetBlockWithKey}
 use Rattle.listing.specs.Listing.{Listing, GetBlockForAutomaton, listed_no, listed_count}
 use Rattle.demands.specs.Demand3.{entry_separator}
-use Rattle.replay.specs.Made.{cells}
+use Rattle.replay_cells.specs.Cells.{cells}
 use Rattle.replay.specs.Replay.{IdAnswer, OrdAnswer, KeyAnswer, AddrAnswer, MarkAnswer}
 use Rattle.replay.specs.Asked.{Indexed}
 

@@ -12,11 +12,11 @@ use Rattle.std.specs.Prelude.{Result, Ok, Err}
 use Rattle.layout.specs.declared.refusals.Refusal.{Refusal}
 use Rattle.layout.specs.Refusals.{no_of}
 use Rattle.index.specs.declared.SSTableIndexV3.{SSTableIndexV3}
-use Rattle.replay.specs.Format.{Question, question_len, question_at, items, behind}
-use Rattle.replay.specs.Made.{cells}
+use Rattle.replay_format.specs.Format.{Question, question_len, question_at, items, behind}
+use Rattle.replay_cells.specs.Cells.{cells}
 use Rattle.replay.specs.Replay.{AnswerIn, no_more, one_more}
 use Rattle.replay.specs.Asked.{OpenedAs, QuestionsAnswered, OpeningAnswered}
-use Rattle.replay.proofs.Items.{behind_next, behind_there}
+use Rattle.replay_format.proofs.Items.{behind_next, behind_there}
 use Rattle.replay.proofs.Turns.{cells-turn}
 
 -- one answer, then the rest

@@ -6,7 +6,7 @@ use Rattle.machine.specs.Plain.{plain_numbers}
 use Rattle.machine.specs.Runs.{rooms_of, run_numbers, finished_in}
 use Rattle.demands.specs.Demand3.{Demand3}
 use Rattle.demands.proofs.Demand3.{demand-3}
-use Rattle.replay.specs.Format.{calls, list_version}
+use Rattle.replay_format.specs.Format.{calls, list_version}
 use Rattle.replay.specs.Made.{fresh_of, finish_of_list}
 
 module _ (s B K out : List ℕ) where

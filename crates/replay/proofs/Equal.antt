@@ -5,7 +5,7 @@ use mathlib.Core.List.{List}
 use lib.ListN.{take}
 use Rattle.machine.specs.Plain.{SameLists}
 use Rattle.demands.specs.Demand3.{Finishes, index_of_calls}
-use Rattle.replay.specs.Format.{calls, list_version}
+use Rattle.replay_format.specs.Format.{calls, list_version}
 use Rattle.replay.specs.Made.{fresh_of, entries_of, finish_of_list}
 use Rattle.replay.specs.Replay.{Replayed}
 use Rattle.replay.proofs.Entries.{list-demand}

@@ -30,7 +30,7 @@ use Rattle.index.proofs.Terms.{unknown-refused}
 use Rattle.canonical.specs.Canonical.{canonical_no, check_no}
 use Rattle.canonical.proofs.Versions.{check-unknown, check-known}
 use Rattle.demands.specs.Demand3.{Finishes, last_first_of, index_of_calls}
-use Rattle.replay.specs.Format.{calls, list_terms, list_version}
+use Rattle.replay_format.specs.Format.{calls, list_terms, list_version}
 use Rattle.replay.specs.Made.{finish_settings, fresh_of, entries_of, finish_of_list, open_number, check_number}
 use Rattle.replay.specs.Asked.{OpenedAs, CheckedAs}
 use Rattle.replay.proofs.Entries.{list-demand, list-finish}

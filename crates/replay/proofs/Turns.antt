@@ -11,10 +11,11 @@ use Rattle.serialize.proofs.Stores.{sets-append}
 use Rattle.builder.specs.declared.SSTableIndexBuilder.{SSTableIndexBuilder}
 use Rattle.builder.specs.Calls.{Called as CallLeft, builder_of}
 use Rattle.machine.specs.Runs.{call_def, run_numbers, run_end}
-use Rattle.replay.specs.Format.{call_len, call_at, items, behind, calls, call_count, calls_from, questions_from, list_bad}
-use Rattle.replay.specs.Made.{cells, call_cells, fresh_of}
+use Rattle.replay_format.specs.Format.{call_len, call_at, items, behind, calls, call_count, calls_from, questions_from, list_bad}
+use Rattle.replay_cells.specs.Cells.{cells}
+use Rattle.replay.specs.Made.{call_cells, fresh_of}
 use Rattle.replay.specs.Steps.{state_of}
-use Rattle.replay.proofs.Items.{behind_next, behind_there, list_ok}
+use Rattle.replay_format.proofs.Items.{behind_next, behind_there, list_ok}
 
 -- five numbers written, then the rest
 pub cells-turn : (out out' w rest : List ℕ) (i : ℕ) → length w ≡ 5 → out' ≡ sets out (5 * i) w

@@ -11,15 +11,15 @@ use Rattle.builder.specs.Calls.{State}
 use Rattle.builder.specs.Finish.{Finish, finish_in}
 use Rattle.machine.specs.Plain.{Call}
 use Rattle.machine.specs.Runs.{run_numbers, run_end}
-use Rattle.replay.specs.Format.{call_len, call_at, question_len, question_at, behind, items, calls, questions}
-use Rattle.replay.specs.Format.{call_count, question_count, calls_from, questions_from, list_terms, list_version, head_bad, list_bad}
+use Rattle.replay_format.specs.Format.{call_len, call_at, question_len, question_at, behind, items, calls, questions}
+use Rattle.replay_format.specs.Format.{call_count, question_count, calls_from, questions_from, list_terms, list_version, head_bad, list_bad}
 use Rattle.replay.specs.Made.{call_cells, finish_cells, opening_cells, finish_settings, fresh_of, entries_of, finish_of_list}
 use Rattle.replay.specs.Made.{open_number, check_number}
 use Rattle.replay.specs.Steps.{state_of}
 use Rattle.replay.specs.Replay.{replay_no, Replayed}
 use Rattle.replay.specs.Asked.{CheckedAs, OpeningAnswered}
 use Rattle.builder.specs.declared.SSTableIndexBuilder.{SSTableIndexBuilder}
-use Rattle.replay.proofs.Items.{list_ok}
+use Rattle.replay_format.proofs.Items.{list_ok}
 use Rattle.std.proofs.lemmas.Bool.Decides.{nat_tests}
 use Rattle.replay.proofs.Turns.{cells-turn}
 use Rattle.replay.proofs.Entries.{numbers-plain, list-finish}

@@ -10,8 +10,8 @@ use Rattle.index.specs.declared.SSTableIndexV3.{SSTableIndexV3}
 use Rattle.index.specs.Opening.{load_def}
 use Rattle.canonical.specs.Canonical.{check_no}
 use Rattle.demands.specs.Demand3.{Finds}
-use Rattle.replay.specs.Format.{Question}
-use Rattle.replay.specs.Made.{cells}
+use Rattle.replay_format.specs.Format.{Question}
+use Rattle.replay_cells.specs.Cells.{cells}
 use Rattle.replay.specs.Replay.{Answered}
 
 -- f is the entries' index, opened with a number of terms: the blocks are found there

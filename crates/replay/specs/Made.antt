@@ -8,11 +8,8 @@ use Rattle.builder.specs.Finish.{Finish}
 use Rattle.machine.specs.Plain.{Entry}
 use Rattle.machine.specs.Finished.{plain_finish_in}
 use Rattle.demands.specs.Demand3.{entries_of_calls, last_first_of}
-use Rattle.replay.specs.Format.{calls, list_version}
-
--- an answer is five numbers
-abbrev pub cells : ℕ → ℕ → ℕ → ℕ → ℕ → List ℕ
-cells k a b c d = k ∷ a ∷ b ∷ c ∷ d ∷ []
+use Rattle.replay_format.specs.Format.{calls, list_version}
+use Rattle.replay_cells.specs.Cells.{cells}
 
 -- a call's is its number
 unfoldable pub call_cells : List ℕ → List ℕ

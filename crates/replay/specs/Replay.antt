@@ -10,7 +10,7 @@ use Rattle.index.specs.Answers.{part_at}
 use Rattle.index.specs.Lookups.{ByIdExact, ByOrdExact, ByKeyExact, AddrByKeyExact}
 use Rattle.listing.specs.Marks.{Marks, count_ones}
 use Rattle.demands.specs.Demand3.{entry_block, entry_separator, entry_place}
-use Rattle.replay.specs.Format.{
+use Rattle.replay_format.specs.Format.{
   Question,
   by_id,
   by_ordinal,
@@ -26,7 +26,8 @@ use Rattle.replay.specs.Format.{
   list_version,
   list_bad,
 }
-use Rattle.replay.specs.Made.{cells, call_cells, finish_cells, opening_cells, finish_settings, fresh_of, entries_of}
+use Rattle.replay_cells.specs.Cells.{cells}
+use Rattle.replay.specs.Made.{call_cells, finish_cells, opening_cells, finish_settings, fresh_of, entries_of}
 use Rattle.replay.specs.Made.{finish_of_list, open_number}
 
 -- by id: the entry's block, or 17

@@ -2,11 +2,6 @@
 use Rattle.std.specs.Prelude.{ℕ, List}
 use Rattle.builder.specs.declared.SSTableIndexBuilder.{SSTableIndexBuilder}
 use Rattle.builder.specs.Calls.{State, Called as Left}
-use Rattle.replay.specs.declared.cells.Cells.{Cells}
-
--- an answer's five numbers
-abbrev pub cells_of : Cells → List ℕ
-cells_of x = x.0
 
 -- the state that a call left, with its areas, and the call's number beside it
 abbrev pub state_of : SSTableIndexBuilder → List ℕ → List ℕ → State

@@ -2,14 +2,14 @@
 ghost use Rattle.std.specs.Prelude.{◌≡◌, List, ℕ, ◌+◌, ◌*◌, ◌≤◌, ◌<◌, length};
 ghost use Rattle.std.proofs.lemmas.List.Edits.{sets};
 ghost use Rattle.machine.specs.Runs.{call_def, run_numbers, run_end};
-ghost use Rattle.replay.specs.Format.{calls, call_count};
-ghost use Rattle.replay.specs.Read.{call_of};
+ghost use Rattle.replay_format.specs.Format.{calls, call_count};
+ghost use Rattle.replay_format.specs.Read.{call_of};
 ghost use Rattle.replay.specs.Made.{call_cells, fresh_of};
 ghost use Rattle.replay.specs.Steps.{state_of, leaves};
 
-use crate::cells::{Cells, WIDTH};
-use crate::format::{self, Call};
 use builder::SSTableIndexBuilder;
+use replay_cells::{Cells, WIDTH};
+use replay_format::Call;
 
 // Makes the call on the builder that the last one left. Returns its number and the builder that it leaves.
 #[tactic(auto, unfolding(machine::specs::Runs::call_def))]
@@ -34,7 +34,7 @@ fn make_call(
 // Makes the list's calls on a fresh builder, each on what the last one left, and writes their numbers. A loop,
 // since a call stands where the one before it ends.
 pub fn make_calls(
-    list: &format::List,
+    list: &replay_format::List,
     blocks: &mut [u64],
     keys: &mut [u8],
     answers: &mut [u64],
@@ -52,7 +52,7 @@ pub fn make_calls(
         let (number, left) = make_call(Call::at(bytes, at), builder, blocks, keys);
         Cells::number(number).write(answers, WIDTH * i);
         builder = left;
-        at += format::call_len(bytes, at).unwrap();
+        at += replay_format::call_len(bytes, at).unwrap();
     }
     builder
 }

@@ -4,8 +4,8 @@ ghost use Rattle.std.proofs.lemmas.List.Edits.{sets};
 ghost use Rattle.builder.specs.Finish.{finish_in};
 ghost use Rattle.replay.specs.Made.{finish_cells};
 
-use crate::cells::Cells;
 use builder::SSTableIndexBuilder;
+use replay_cells::Cells;
 
 // Finishes into `out`, with the list's version, and writes the answer at `at`: its number, the total and the directory's length. Returns
 // the total, 0 where it is refused: of such a finish the front of `out` that is opened is empty.

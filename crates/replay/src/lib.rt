@@ -2,17 +2,15 @@
 #![tactic(auto)]
 
 pub mod calls;
-pub mod cells;
 pub mod finish;
-pub mod format;
 pub mod questions;
 
 ghost use Rattle.std.specs.Prelude.{◌≡◌, length, MatchResult, OnOk, OnErr};
 ghost use Rattle.replay.specs.Replay.{replay_no, Replayed};
 ghost use Rattle.replay.specs.Refused.{error_no, answer_no};
 
-use cells::WIDTH;
-use format::List;
+use replay_cells::WIDTH;
+use replay_format::List;
 
 // Why a list isn't replayed.
 #[derive(Clone, Copy, Debug, PartialEq, Eq)]

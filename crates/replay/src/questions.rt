@@ -4,17 +4,17 @@ ghost use Rattle.layout.specs.declared.refusals.Refusal.{Refusal};
 ghost use Rattle.builder.specs.Index.{Settings};
 ghost use Rattle.machine.specs.Plain.{Entry};
 ghost use Rattle.index.specs.declared.SSTableIndexV3.{SSTableIndexV3};
-ghost use Rattle.replay.specs.Format.{question_len, question_at, items, behind, question_count, list_terms, list_version};
-ghost use Rattle.replay.specs.Read.{question_of};
-ghost use Rattle.replay.specs.Steps.{cells_of};
+ghost use Rattle.replay_format.specs.Format.{question_len, question_at, items, behind, question_count, list_terms, list_version};
+ghost use Rattle.replay_format.specs.Read.{question_of};
+ghost use Rattle.replay_cells.specs.Cells.{cells_of};
 ghost use Rattle.replay.specs.Replay.{MarkAnswer, AnswerTo, AnswerIn};
 ghost use Rattle.replay.specs.Asked.{Indexed, OpenedAs, CheckedAs, QuestionsAnswered, OpeningAnswered};
 
-use crate::cells::{Cells, WIDTH};
-use crate::format::{self, Head, Question};
 use index::SSTableIndexV3;
 use layout::MAX_BLOCKS;
 use layout::refusals::{self, Refusal};
+use replay_cells::{Cells, WIDTH};
+use replay_format::{Head, Question};
 
 // Mark i; 0 where there is none, since the answer has a number in its place.
 fn mark_at(marks: &[u8], i: u64) -> u64
@@ -101,7 +101,7 @@ fn ask_questions(
     let mut at = from;
     for i in 0..head.question_count() {
         answer_in(Question::at(list, at), loaded, data).write(answers, WIDTH * (first + i));
-        at += format::question_len(list, at).unwrap();
+        at += replay_format::question_len(list, at).unwrap();
     }
 }
 

@@ -2,7 +2,7 @@
 use replay::ReplayError;
 use std::alloc::{AllocError, Global};
 use std::fmt;
-use vectors::area::remainder;
+use vector_parts::area::remainder;
 
 // What they hold before.
 const MARK: u8 = 0xa5;

@@ -1,6 +1,6 @@
 // A list put together from the parts of a line.
+use case_text::Case;
 use std::alloc::{AllocError, Global};
-use vectors::Case;
 
 // One byte more than the longest list.
 const LIST_LEN: usize = 32768;

@@ -6,8 +6,9 @@ mod list;
 mod prints;
 
 use areas::{Areas, Lens};
+use case_text::{Case, Line, Room};
 use std::io;
-use vectors::{Case, Line, Room, driver};
+use vectors::driver;
 
 // What a line asks to be replayed: the parts of a list, how often each stands in it, and the lengths of the areas.
 #[derive(Clone, Copy)]

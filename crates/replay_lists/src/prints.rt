@@ -1,7 +1,7 @@
 // What is printed for a list.
 use crate::areas::Areas;
-use replay::cells::WIDTH;
-use replay::format::Head;
+use replay_cells::WIDTH;
+use replay_format::Head;
 use std::io;
 
 pub fn bad_line(rt: &impl Print) -> io::Result<()> {

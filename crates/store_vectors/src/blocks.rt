@@ -7,7 +7,7 @@ use group::area::block_at;
 use layout::{MAX_BLOCKS, versions};
 use std::alloc::{AllocError, Global};
 use store_write::AreaStore;
-use vectors::draws::Draws;
+use vector_parts::draws::Draws;
 
 pub const STRIDE: usize = 3;
 

@@ -6,10 +6,11 @@ mod cases;
 mod hash;
 mod stores;
 
+use case_text::Case;
 use std::alloc::{AllocError, Global};
 use std::io;
+use vectors::driver;
 use vectors::driver::Letter;
-use vectors::{Case, driver};
 
 // What a line is about.
 #[derive(Clone, Copy)]

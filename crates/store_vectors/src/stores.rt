@@ -11,8 +11,8 @@ use store::Located;
 use store::grouping::Grouping;
 use store_read::BlockAddrStore;
 use store_write::AreaStore;
-use vectors::area::{framed, front};
-use vectors::told::is_told;
+use vector_parts::area::{framed, front};
+use vector_parts::told::is_told;
 
 // What fills an area before a store is written into it.
 const MARK: u8 = 0xa5;

@@ -3,11 +3,11 @@ ghost use Rattle.std.specs.Prelude.{◌≡◌, ◌≤◌, ◌<◌, IfOk, IfSome,
 ghost use Rattle.std.specs.Io.{ReadsAtMost};
 ghost use Rattle.std.specs.Io.KnownBytes.{Consumes, IsAtEnd};
 
-use crate::tally::Tallies;
-use crate::{Case, Line, Room};
+use case_text::{Case, Line, Room};
 use std::alloc::{AllocError, Global};
 use std::io;
 use std::io::Read;
+use vector_parts::tally::Tallies;
 
 // One byte more than the longest text.
 pub const TEXT_LEN: usize = 655360;

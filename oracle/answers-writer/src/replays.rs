@@ -270,7 +270,7 @@ pub fn lists() -> (String, String) {
     for line in [
         "Lists of calls and questions, written by oracle/write-answers; what they answer and leave stands in stdout beside this file.",
         "l BLOCKS KEYS OUT ANSWERS COUNT BYTES COUNT BYTES ..: a list, its areas' lengths in front (numbers, bytes, bytes, numbers). The",
-        "list is its byte strings one behind the other, each as often as its COUNT says, in the format of crates/replay/specs/Format.antt.",
+        "list is its byte strings one behind the other, each as often as its COUNT says, in the format of crates/replay_format/specs/Format.antt.",
         "All areas are full of A5 before. Printed for each list: its place and number; if that is 0 each answer (five numbers) and the",
         "index; the remainder of each area when all is done, as digits to the base 65,599 modulo 2^32 - 5.",
     ] {

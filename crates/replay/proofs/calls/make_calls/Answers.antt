@@ -2,7 +2,7 @@
 use Rattle.std.proofs.Common.{◌*◌, ap, ◌∙◌, arith}
 use Rattle.std.proofs.lemmas.Grind.{common_steps}
 use Rattle.std.proofs.lemmas.List.Edits.{sets}
-use Rattle.replay.proofs.Items.{item_some}
+use Rattle.replay_format.proofs.Items.{item_some}
 use Rattle.replay.proofs.Turns.{left_start, next_there, left_turn, left_none}
 use Rattle.replay.proofs.calls.make_calls.Goals as goal
 

@@ -1,7 +1,7 @@
 -- A question is there while questions are left, and is answered.
 use Rattle.std.proofs.Common.{arith}
 use Rattle.std.proofs.lemmas.Grind.{common_steps}
-use Rattle.replay.proofs.Items.{item_some}
+use Rattle.replay_format.proofs.Items.{item_some}
 use Rattle.replay.proofs.Asking.{asking_start, question_left, asking_turn, asking_none}
 use Rattle.replay.proofs.questions.ask_questions.Goals as goal
 

@@ -1,6 +1,6 @@
 -- The opening's number and the check's, and behind them the questions' answers.
 use Rattle.std.proofs.Common.{◌∙◌}
-use Rattle.replay.specs.Format.{list_terms}
+use Rattle.replay_format.specs.Format.{list_terms}
 use Rattle.replay.specs.Asked.{OpenedAs}
 use Rattle.replay.proofs.Asking.{given-number, opened-asks}
 use Rattle.replay.proofs.questions.open_list.Goals as goal

@@ -1,3 +1,0 @@
-pub mod Cases
-pub mod Draws
-pub mod Told
