@@ -41,7 +41,7 @@ extern "C" {
 #define ROSMAREL_MAX_BATCH_KEYS 64
 #define ROSMAREL_NO_ID UINT64_MAX
 
-/* A block: start <= end, both and the first ordinal below 2^48. */
+/* A block: start <= end, both and the first ordinal below 2^55. */
 typedef struct rosmarel_block_addr {
     uint64_t start;
     uint64_t end;
@@ -59,7 +59,7 @@ enum rosmarel_no {
     ROSMAREL_OK = 0,
     ROSMAREL_AREAS = 1,          /* add, shorten, finish: n over 65,536, or n or the last key doesn't fit the areas */
     ROSMAREL_KEY_LONG = 2,       /* add, shorten: a key longer than 1,024 */
-    ROSMAREL_NUMBERS = 3,        /* add, store: end < start, or end or ordinal of 2^48 or more */
+    ROSMAREL_NUMBERS = 3,        /* add, store: end < start, or end or ordinal of 2^55 or more */
     ROSMAREL_JOIN = 4,           /* add, store: start isn't the end of the block before */
     ROSMAREL_ORDINAL = 5,        /* add, store: ordinal not above the one before */
     ROSMAREL_KEY_ORDER = 6,      /* add, shorten: key not above the last separator */
@@ -120,7 +120,7 @@ uint32_t rosmarel_finish_len(uint64_t version, uint64_t n, const uint64_t *block
                              const uint8_t *keys, size_t keys_len, uint64_t *total);
 
 /* Writes the store alone of the blocks, 0 and 1 included, to the front of out, in groups of this version; its length is
-   *len. An out of 8 + 36 * ((blocks_len + 127) / 128) + 13 * blocks_len bytes always has room, in both versions. */
+   *len. An out of 8 + 36 * ((blocks_len + 127) / 128) + 14 * blocks_len bytes always has room, in both versions. */
 uint32_t rosmarel_store(uint64_t version, const rosmarel_block_addr *blocks, size_t blocks_len, uint8_t *out,
                         size_t out_len, uint64_t *len);
 
@@ -153,7 +153,7 @@ uint64_t rosmarel_common_prefix_len(const uint8_t *left, size_t left_len, const 
            opened[7] = first_ordinal + 1;
        }
 
-   This no is never 28, since first ordinals lie below 2^48, and opened is the record that opening again with
+   This no is never 28, since first ordinals lie below 2^55, and opened is the record that opening again with
    first_ordinal + 1 gives. Of the last block's ordinals its first alone is found then. */
 uint32_t rosmarel_open(uint64_t version, uint64_t terms, const uint8_t *index, size_t index_len, uint64_t opened[9]);
 

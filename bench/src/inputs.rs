@@ -1,6 +1,6 @@
 //! What both sides get: blocks, keys, and the index of them.
 
-use rosmarel::BlockAddr;
+use rosmarel::{BlockAddr, MAX_NUMBER};
 use tantivy_sstable::{Block, Builder as _, Rust};
 
 use crate::ffi;
@@ -130,7 +130,7 @@ impl Steps {
             Steps::Equal => "4,096 bytes and 128 keys each: fields of one bit",
             Steps::Empty => "no bytes and one key each",
             Steps::Limit => {
-                "2^48 - 1 bytes and keys shared out among the blocks at random: steps around and above 2^32, wide fields"
+                "2^55 - 1 bytes and keys shared out among the blocks at random: steps around and above 2^39, wide fields"
             }
         }
     }
@@ -154,7 +154,6 @@ impl Steps {
 
     /// Where block i begins and with which ordinal, from those of the block before; block n is the end of the last.
     fn next(self, i: usize, n: usize, before: (u64, u64), numbers: &mut Numbers) -> (u64, u64) {
-        const MOST: u64 = (1 << 48) - 1;
         let (start, ordinal) = before;
         match self {
             Steps::Random => (
@@ -163,9 +162,9 @@ impl Steps {
             ),
             Steps::Equal => (start + 4_096, ordinal + 128),
             Steps::Empty => (start, ordinal + 1),
-            Steps::Limit if i == n => (MOST, MOST),
+            Steps::Limit if i == n => (MAX_NUMBER, MAX_NUMBER),
             Steps::Limit => {
-                let share = MOST as usize / n;
+                let share = MAX_NUMBER as usize / n;
                 let mut place = || (i * share + numbers.below(share)) as u64;
                 (place(), place())
             }

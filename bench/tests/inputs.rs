@@ -1,6 +1,6 @@
 //! The lists of blocks are legal, and what their names say.
 
-use rosmarel::{BlockAddr, Version};
+use rosmarel::{BlockAddr, MAX_NUMBER, Version};
 use rosmarel_bench::inputs::{Keys, Steps, our_builder, rust_builder};
 use tantivy_sstable::{Builder as _, Rust, V3, V4};
 
@@ -19,8 +19,8 @@ fn blocks_touch_and_ordinals_rise() {
                     .all(|two| two[0].first_ordinal < two[1].first_ordinal)
             );
             let last = blocks[n - 1];
-            assert!(last.end < 1 << 48 && last.first_ordinal < 1 << 48);
-            assert!(steps != Steps::Limit || last.end == (1 << 48) - 1);
+            assert!(last.end <= MAX_NUMBER && last.first_ordinal <= MAX_NUMBER);
+            assert!(steps != Steps::Limit || last.end == MAX_NUMBER);
             assert!(steps != Steps::Empty || last.end == 0);
         }
     }

@@ -7,8 +7,7 @@ static bool outside(uint64_t from, uint64_t len, uint64_t all) {
     return from > all || len > all - from;
 }
 
-/* Whether the record can't be one of so many bytes. */
-static bool record_bad(const uint64_t *opened, size_t len) {
+bool record_bad(const uint64_t *opened, size_t len) {
     if (!known(opened[VERSION]) || opened[0] < 1 || opened[0] > 65536) return true;
     if (opened[4] < GROUP_RECORD * groups_of(opened[VERSION], opened[0])) return true;
     return outside(opened[1], opened[2], len) || outside(opened[3], opened[4], len) || outside(opened[5], opened[6], len);

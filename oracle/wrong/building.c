@@ -22,7 +22,13 @@ uint64_t rosmarel_interface(void) {
 uint32_t rosmarel_add(uint64_t *n, uint64_t *blocks, size_t blocks_len, uint8_t *keys, size_t keys_len,
                       const uint8_t *key, size_t key_len, uint64_t start, uint64_t end, uint64_t first_ordinal) {
     uint64_t before = *n;
-    uint32_t no = right_add(n, blocks, blocks_len, keys, keys_len, key, key_len, start, end, first_ordinal);
+    bool end_taken = fault("add_end_2_55") && end == LIMIT && start < LIMIT;
+    bool ordinal_taken = fault("add_ordinal_2_55") && first_ordinal == LIMIT;
+    /* so that the right one says 3 after rows 1 and 2 */
+    if (fault("add_end_2_48") && end >= LIMIT_48) end = UINT64_MAX;
+    if (fault("add_ordinal_2_48") && first_ordinal >= LIMIT_48) first_ordinal = UINT64_MAX;
+    uint32_t no = right_add(n, blocks, blocks_len, keys, keys_len, key, key_len, start, end - end_taken, first_ordinal - ordinal_taken);
+    if (no == 0) blocks[STRIDE * before + 1] += end_taken, blocks[STRIDE * before + 2] += ordinal_taken;
     uint64_t *last = before > 0 && no != 1 ? blocks + STRIDE * (before - 1) : NULL;
     uint64_t after = no ? 0 : blocks[STRIDE * before + 3] + blocks[STRIDE * before + 4];
     if (fault("add_other_row") && no == 5) no = 6;
@@ -68,11 +74,15 @@ uint32_t rosmarel_shorten(uint64_t n, uint64_t *blocks, size_t blocks_len, uint8
     return no;
 }
 
-/* The index with the store of the plain writer in place of its own. */
-static uint32_t own_finish(uint64_t version, uint64_t n, const uint64_t *blocks, uint8_t *out, size_t out_len, uint64_t *total,
-                           uint64_t directory) {
-    rosmarel_block_addr *list = malloc(n * sizeof *list);
+rosmarel_block_addr *own_list(uint64_t n, const uint64_t *blocks) {
+    rosmarel_block_addr *list = malloc((n + 1) * sizeof *list);
     for (uint64_t i = 0; i < n; i++) memcpy(list + i, blocks + STRIDE * i, sizeof *list);
+    return list;
+}
+
+uint32_t own_finish(uint64_t version, uint64_t n, const uint64_t *blocks, uint8_t *out, size_t out_len, uint64_t *total,
+                    uint64_t directory) {
+    rosmarel_block_addr *list = own_list(n, blocks);
     uint8_t *store, footer[8];
     size_t len = own_store(version, list, n, &store);
     memcpy(footer, out + *total - 8, 8);
@@ -113,6 +123,8 @@ uint32_t rosmarel_finish(uint64_t version, uint64_t n, const uint64_t *blocks, s
                          size_t keys_len, uint8_t *out, size_t out_len, uint64_t *total, uint64_t *directory_len) {
     uint64_t before = *total, len;
     version = finish_version(version);
+    if (limited_finish())
+        return finish_to_limit(version, n, blocks, blocks_len, keys, keys_len, out, out_len, total, directory_len);
     uint32_t no = right_finish(version, n, blocks, blocks_len, keys, keys_len, out, out_len, total, directory_len);
     if (no == 30) {
         uint32_t other = right_finish_len(ROSMAREL_V3, n, blocks, blocks_len, keys, keys_len, &len);
@@ -140,6 +152,7 @@ uint32_t rosmarel_finish(uint64_t version, uint64_t n, const uint64_t *blocks, s
 uint32_t rosmarel_finish_len(uint64_t version, uint64_t n, const uint64_t *blocks, size_t blocks_len, const uint8_t *keys,
                              size_t keys_len, uint64_t *total) {
     uint64_t before = *total, len;
+    if (limited_finish_len()) return finish_len_to_limit(version, n, blocks, blocks_len, keys, keys_len, total);
     if (fault("finish_len_version_8_bits")) version = (uint8_t)version;
     if (fault("finish_len_4_as_3")) version = as_3(version);
     uint32_t no = right_finish_len(version, n, blocks, blocks_len, keys, keys_len, total);
@@ -160,7 +173,7 @@ uint32_t rosmarel_finish_len(uint64_t version, uint64_t n, const uint64_t *block
 
 /* Faults with a version that there isn't: the number in place of a store's 30. The scratch is for what isn't to be written. */
 static uint32_t store_not_30(const rosmarel_block_addr *blocks, size_t blocks_len, size_t out_len) {
-    size_t most = 8 + GROUP_RECORD * groups_of(ROSMAREL_V3, blocks_len) + 13 * blocks_len;
+    size_t most = 8 + GROUP_RECORD * groups_of(ROSMAREL_V3, blocks_len) + 14 * blocks_len;
     uint8_t *scratch = malloc(most);
     uint64_t len;
     uint32_t no = right_store(ROSMAREL_V3, blocks, blocks_len, scratch, most, &len);
@@ -175,6 +188,7 @@ static uint32_t store_not_30(const rosmarel_block_addr *blocks, size_t blocks_le
 uint32_t rosmarel_store(uint64_t version, const rosmarel_block_addr *blocks, size_t blocks_len, uint8_t *out,
                         size_t out_len, uint64_t *len) {
     uint64_t before = *len;
+    if (limited_store()) return store_to_limit(version, blocks, blocks_len, out, out_len, len);
     if (fault("store_version_8_bits")) version = (uint8_t)version;
     if (fault("store_version_32_bits")) version = (uint32_t)version;
     if (fault("store_4_as_3")) version = as_3(version);

@@ -67,7 +67,7 @@ static bool own_checks(void) {
         "own_check", "canonical_range_slope", "canonical_ordinal_slope", "canonical_unused_slope", "canonical_unused_width",
         "canonical_wider_range", "canonical_wider_ordinal", "canonical_padding", "canonical_padding_bit", "canonical_gap_before",
         "canonical_gap_between", "canonical_first_group", "canonical_last_group", "canonical_late_group", "canonical_offsets",
-        "canonical_length", "canonical_records_only"};
+        "canonical_length", "canonical_records_only", "canonical_widths_49"};
     for (size_t i = 0; i < sizeof names / sizeof *names; i++)
         if (fault(names[i])) return true;
     return false;
@@ -93,6 +93,10 @@ uint32_t rosmarel_check_canonical(uint64_t version, const uint8_t *index, size_t
     uint32_t no = right_check_canonical(version, index, index_len);
     bool opens = right_open(version, UINT64_MAX, index, index_len, opened) == 0;
     if (no == 30) no = other_than_30(index, index_len);
+    if (limited_check() && (no == 0 || no == 16 || no == 27)) {
+        fill(version, 0, index, index_len, opened);
+        no = !check_keeps_16(index, opened) ? 16 : own_check(index, opened) ? 0 : 27;
+    }
     if (fault("canonical_4_as_27") && version == ROSMAREL_V4 && opens) no = 27;
     if (opens && own_checks()) no = own_check(index, opened) ? 0 : 27;
     if (fault("canonical_lengths_only") && opens) no = same_length(index, opened) ? 0 : 27;

@@ -19,11 +19,10 @@ const uint64_t *with_a_version(const uint8_t *index, size_t index_len, const uin
     return opened;
 }
 
-/* The record that a file would have. */
-static void fill(uint64_t version, uint64_t terms, const uint8_t *index, size_t len, uint64_t opened[9]) {
-    uint64_t directory = number(index + len - 8, 8), records = number(index + directory, 8);
+void fill(uint64_t version, uint64_t terms, const uint8_t *index, size_t index_len, uint64_t opened[9]) {
+    uint64_t directory = number(index + index_len - 8, 8), records = number(index + directory, 8);
     uint64_t places[OPENED_LEN] = {number(index, 4), 0, directory, directory + 8, records, directory + 8 + records,
-                                   len - 8 - directory - 8 - records, terms, version};
+                                   index_len - 8 - directory - 8 - records, terms, version};
     memcpy(opened, places, sizeof places);
 }
 
@@ -59,18 +58,6 @@ static bool groups_before_last(const uint8_t *index, const uint64_t *opened, uin
     return true;
 }
 
-/* Whether the blocks of all groups but the last keep row 16. */
-static bool blocks_before_last(const uint8_t *index, const uint64_t *opened, uint64_t groups) {
-    rosmarel_block_addr last = {0, 0, 0};
-    for (uint64_t id = 0; id < group_len(opened[VERSION]) * (groups - 1); id++) {
-        rosmarel_block_addr block = own_block(index, opened, id);
-        if (block.start > block.end || block.end >= LIMIT || block.first_ordinal >= LIMIT) return false;
-        if (id > 0 && (block.start != last.end || block.first_ordinal <= last.first_ordinal)) return false;
-        last = block;
-    }
-    return true;
-}
-
 /* A large file that breaks this row at its end alone is taken. */
 static bool missed_late(uint64_t version, const uint8_t *index, size_t len, uint32_t no) {
     uint64_t opened[OPENED_LEN], n = number(index, 4), groups = groups_of(version, n);
@@ -80,7 +67,7 @@ static bool missed_late(uint64_t version, const uint8_t *index, size_t len, uint
     if (no == 13) return fault("open_late_13") && keys_before_last(index, opened);
     if (no == 14) return fault("open_late_14") && opened[4] == GROUP_RECORD * groups + 1;
     if (no == 15) return fault("open_late_15") && groups_before_last(index, opened, groups);
-    return fault("open_late_16") && blocks_before_last(index, opened, groups);
+    return fault("open_late_16") && keeps_16(index, opened, group_len(version) * (groups - 1));
 }
 
 /* Faults with the number of terms, in a file that opens with some: the number in place of the right one. */
@@ -163,6 +150,14 @@ static uint32_t wrong_versions(uint64_t version, uint64_t terms, const uint8_t *
     return no;
 }
 
+/* The number by the plain row 16, and the record, for a file that keeps rows 10 to 15. */
+static uint32_t open_to_limit(uint64_t version, uint64_t terms, const uint8_t *index, size_t index_len, uint64_t *opened) {
+    fill(version, terms, index, index_len, opened);
+    uint32_t no = !open_keeps_16(index, opened) ? 16 : terms <= own_block(index, opened, opened[0] - 1).first_ordinal ? 28 : 0;
+    if (no != 0) memset(opened, 0, OPENED_LEN * sizeof *opened);
+    return no;
+}
+
 uint32_t rosmarel_open(uint64_t version, uint64_t terms, const uint8_t *index, size_t index_len, uint64_t opened[9]) {
     uint64_t before[OPENED_LEN], asked = version;
     memcpy(before, opened, sizeof before);
@@ -170,6 +165,7 @@ uint32_t rosmarel_open(uint64_t version, uint64_t terms, const uint8_t *index, s
     uint32_t no = right_open(version, terms, index, index_len, opened);
     if (no == 0 && asked != version) opened[VERSION] = asked;
     no = wrong_versions(version, terms, index, index_len, opened, no, before);
+    if (limited_open() && (no == 0 || no == 16 || no == 28)) no = open_to_limit(version, terms, index, index_len, opened);
     if (index_len >= LARGE && no >= 12 && no <= 16 && missed_late(version, index, index_len, no))
         fill(version, terms, index, index_len, opened), no = 0;
     if (fault("open_late_10") && no == 10 && index_len >= LARGE && number(index + index_len - 8, 8) == index_len - 15) no = 14;
@@ -185,6 +181,20 @@ uint32_t rosmarel_open(uint64_t version, uint64_t terms, const uint8_t *index, s
     if (fault("open_reads_before_index") && index_len > 8) touch(index - 1);
     if (fault("open_writes_after_record")) opened[OPENED_LEN] = 0;
     return wrong_terms(version, terms, index, index_len, opened, no, before[TERMS]);
+}
+
+/* A refusal with 20 in place of an address. */
+static uint32_t refuse_20(uint64_t *start, uint64_t *end, uint64_t *first_ordinal) {
+    *start = *end = *first_ordinal = 0;
+    return 20;
+}
+
+/* Reads the address of a file whose record is its own again, with the plain reader. */
+static void read_again(const uint8_t *index, size_t index_len, const uint64_t *opened, uint64_t id, uint64_t *start, uint64_t *end,
+                       uint64_t *first_ordinal) {
+    if (!own_record(index, index_len, opened)) return;
+    rosmarel_block_addr block = own_block(index, opened, id);
+    *start = block.start, *end = block.end, *first_ordinal = block.first_ordinal;
 }
 
 uint32_t rosmarel_get_block(const uint8_t *index, size_t index_len, const uint64_t opened[9], uint64_t id,
@@ -206,6 +216,13 @@ uint32_t rosmarel_get_block(const uint8_t *index, size_t index_len, const uint64
         right_get_block(index, index_len, opened, id - group_len(opened[VERSION]), start, end, first_ordinal);
     if (fault("id_reads_after_index")) touch(index + index_len);
     if (fault("id_reads_after_record")) touch(opened + OPENED_LEN);
+    bool at_limit = fault("id_end_2_55") || fault("id_ordinal_2_55");
+    if (at_limit && no == 20 && id_at_limit(index, index_len, opened, id, start, end, first_ordinal)) no = 0;
+    if (fault("id_end_2_48") && no == 0 && *end >= LIMIT_48) no = refuse_20(start, end, first_ordinal);
+    if (fault("id_ordinal_2_48") && no == 0 && *first_ordinal >= LIMIT_48) no = refuse_20(start, end, first_ordinal);
+    if (fault("id_reads_8_bytes") && readable(index, index_len, opened, id)) own_block(index, opened, id);
+    if ((fault("id_7_bytes") || fault("id_bit_7") || fault_begins("id_tail_")) && no == 0)
+        read_again(index, index_len, opened, id, start, end, first_ordinal);
     bool swapped = fault("id_one_order"), by_128 = fault("id_splits_by_128");
     bool own_reads = swapped || by_128 || fault("own_reader") || fault("id_place_13_bits");
     if (own_reads && no == 0 && own_record(index, index_len, opened)) {
@@ -271,6 +288,11 @@ uint32_t rosmarel_locate_with_ord(const uint8_t *index, size_t index_len, const 
         right_get_block(index, index_len, opened, --*id, start, end, first_ordinal);
     if (fault("ord_last_group") && no == 0 && *id >= 65280) *id -= 1;
     if (fault("ord_id_by_128") && no == 0 && opened[VERSION] == ROSMAREL_V4) *id -= *id / 256 * 128;
+    bool at_limit = fault("ord_end_2_55") || fault("ord_ordinal_2_55");
+    if (at_limit && no == 20 && ord_at_limit(index, index_len, opened, ord, id, start, end, first_ordinal)) no = 0;
+    if (fault("ord_end_2_48") && no == 0 && *end >= LIMIT_48) *id = 0, no = refuse_20(start, end, first_ordinal);
+    if (fault("ord_ordinal_2_48") && no == 0 && *first_ordinal >= LIMIT_48) *id = 0, no = refuse_20(start, end, first_ordinal);
+    if (fault("ord_7_bytes") && no == 0) read_again(index, index_len, opened, *id, start, end, first_ordinal);
     if (fault("ord_reads_after_index")) touch(index + index_len);
     if (fault("ord_reads_after_record")) touch(opened + OPENED_LEN);
     return no;
@@ -326,6 +348,11 @@ uint32_t rosmarel_get_block_with_key(const uint8_t *index, size_t index_len, con
     if (fault("address_kept") && no == 19) *start = before;
     if (fault("address_of_next") && no == 0 && *id + 1 < opened[0])
         right_get_block(index, index_len, opened, *id + 1, start, end, first_ordinal);
+    bool at_limit = fault("address_end_2_55") || fault("address_ordinal_2_55");
+    if (at_limit && no == 20 && key_at_limit(index, index_len, opened, key, key_len, id, start, end, first_ordinal)) no = 0;
+    if (fault("address_end_2_48") && no == 0 && *end >= LIMIT_48) *id = 0, no = refuse_20(start, end, first_ordinal);
+    if (fault("address_ordinal_2_48") && no == 0 && *first_ordinal >= LIMIT_48) *id = 0, no = refuse_20(start, end, first_ordinal);
+    if (fault("address_7_bytes") && no == 0) read_again(index, index_len, opened, *id, start, end, first_ordinal);
     if (fault("address_by_128") && no == 0 && opened[VERSION] == ROSMAREL_V4 && *id % 256 >= 128)
         right_get_block(index, index_len, opened, *id - 128, start, end, first_ordinal);
     if (fault("address_reads_after_key")) touch(key + key_len);

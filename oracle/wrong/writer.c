@@ -1,9 +1,10 @@
-/* A plain store writer, after document 01's text, with three of the errors that it names. */
+/* A plain store writer, after document 01's text, with three of the errors that it names and some in wide fields. */
 #include "wrong.h"
 
 bool own_writer(void) {
     return fault("own_writer") || fault("one_order_record") || fault("one_order_bits") || fault("slope_tie_earlier") ||
-           fault("slope_capped");
+           fault("slope_capped") || fault("widths_49") || fault("widths_by_float") || fault("fields_49_bits") ||
+           fault("fields_7_bytes");
 }
 
 static uint32_t to_32_bits(uint64_t slope) {
@@ -32,8 +33,10 @@ static int best_width(const uint64_t *values, size_t count, uint32_t slope) {
         uint64_t size = away < 0 ? -(uint64_t)away : (uint64_t)away;
         if (size > most) most = size;
     }
+    if (fault("widths_by_float")) most = (uint64_t)(double)most;
     int bits = 0;
     while (bits < 64 && most >> bits) bits++;
+    if ((fault("widths_49") || fault("canonical_widths_49")) && bits > 48) bits = 48;
     return (bits <= 56 ? bits : 64) + 1;
 }
 
@@ -42,10 +45,18 @@ static uint8_t *put(uint8_t *at, uint64_t value, int bytes) {
     return at;
 }
 
+/* How many bits of a field get into the bytes, where it begins so many bits behind the first of its byte. */
+static int packed(int from, int width) {
+    if (fault("fields_49_bits") && width > 49) return 49;
+    if (fault("fields_7_bytes") && from + width > 56) return 56 - from;
+    return width;
+}
+
 /* Sets the bits of a field; the bytes were 0. */
 static size_t pack(uint8_t *bytes, size_t bit, uint64_t field, int width) {
-    for (int k = 0; k < width; k++, bit++) bytes[bit / 8] |= (uint8_t)((field >> k & 1) << bit % 8);
-    return bit;
+    size_t end = bit + width;
+    for (int k = 0, count = packed(bit % 8, width); k < count; k++, bit++) bytes[bit / 8] |= (uint8_t)((field >> k & 1) << bit % 8);
+    return end;
 }
 
 static uint64_t field(uint64_t value, uint32_t slope, size_t i, int width) {

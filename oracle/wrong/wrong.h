@@ -11,7 +11,8 @@
 #include <stdlib.h>
 #include <string.h>
 
-#define LIMIT ((uint64_t)1 << 48)
+#define LIMIT ((uint64_t)1 << 55)
+#define LIMIT_48 ((uint64_t)1 << 48)
 #define GROUP_RECORD 36
 #define STRIDE 5
 /* the record's numbers, and the places of the number of terms and the version among them */
@@ -65,16 +66,53 @@ size_t own_store(uint64_t version, const rosmarel_block_addr *blocks, size_t n, 
 /* Whether the writer is to be used in place of the right one. */
 bool own_writer(void);
 
+/* building.c: the blocks of the areas, allocated. */
+rosmarel_block_addr *own_list(uint64_t n, const uint64_t *blocks);
+/* The store of an index by the plain writer, in place of the right one's. Returns 9 where it has no room. */
+uint32_t own_finish(uint64_t version, uint64_t n, const uint64_t *blocks, uint8_t *out, size_t out_len, uint64_t *total,
+                    uint64_t directory);
+
 /* reader.c: the block by id of a file whose record is its own, with document 01's first error and with groups of 128 in version 4. */
 rosmarel_block_addr own_block(const uint8_t *index, const uint64_t *opened, uint64_t id);
 /* reading.c: whether opening the file gives this record, whatever its number of terms. */
 bool own_record(const uint8_t *index, size_t index_len, const uint64_t *opened);
+/* The record that a file would have, which keeps rows 10 to 14. */
+void fill(uint64_t version, uint64_t terms, const uint8_t *index, size_t index_len, uint64_t opened[9]);
 /* The record with the version with which the file opens, in `other`, where its own is none. */
 const uint64_t *with_a_version(const uint8_t *index, size_t index_len, const uint64_t *opened, uint64_t *other);
 /* The record with another version, in `other`. */
 const uint64_t *with_version(const uint64_t *opened, uint64_t version, uint64_t *other);
 /* A separator of such a file. */
 const uint8_t *own_separator(const uint8_t *index, const uint64_t *opened, uint64_t id, size_t *len);
+
+/* batches.c: whether the record can't be one of so many bytes. */
+bool record_bad(const uint64_t *opened, size_t index_len);
+
+/* limits.c: whether calls are made with limits of their own, and what they give then. */
+bool limited_store(void);
+uint32_t store_to_limit(uint64_t version, const rosmarel_block_addr *blocks, size_t blocks_len, uint8_t *out, size_t out_len,
+                        uint64_t *len);
+bool limited_finish(void);
+uint32_t finish_to_limit(uint64_t version, uint64_t n, const uint64_t *blocks, size_t blocks_len, const uint8_t *keys, size_t keys_len,
+                         uint8_t *out, size_t out_len, uint64_t *total, uint64_t *directory_len);
+bool limited_finish_len(void);
+uint32_t finish_len_to_limit(uint64_t version, uint64_t n, const uint64_t *blocks, size_t blocks_len, const uint8_t *keys,
+                             size_t keys_len, uint64_t *total);
+bool limited_open(void);
+bool open_keeps_16(const uint8_t *index, const uint64_t *opened);
+bool limited_check(void);
+bool check_keeps_16(const uint8_t *index, const uint64_t *opened);
+/* Whether so many blocks of a file that keeps row 15 keep row 16. */
+bool keeps_16(const uint8_t *index, const uint64_t *opened, uint64_t count);
+/* Whether a block's group can be read with this record, whosever it is. */
+bool readable(const uint8_t *index, size_t index_len, const uint64_t *opened, uint64_t id);
+/* An address at the limit that a fault gives, by id, by ordinal and by key; false where there is none. */
+bool id_at_limit(const uint8_t *index, size_t index_len, const uint64_t *opened, uint64_t id, uint64_t *start, uint64_t *end,
+                 uint64_t *first_ordinal);
+bool ord_at_limit(const uint8_t *index, size_t index_len, const uint64_t *opened, uint64_t ord, uint64_t *id, uint64_t *start,
+                  uint64_t *end, uint64_t *first_ordinal);
+bool key_at_limit(const uint8_t *index, size_t index_len, const uint64_t *opened, const uint8_t *key, size_t key_len, uint64_t *id,
+                  uint64_t *start, uint64_t *end, uint64_t *first_ordinal);
 
 uint32_t right_add(uint64_t *, uint64_t *, size_t, uint8_t *, size_t, const uint8_t *, size_t, uint64_t, uint64_t, uint64_t);
 uint32_t right_shorten(uint64_t, uint64_t *, size_t, uint8_t *, size_t, const uint8_t *, size_t);

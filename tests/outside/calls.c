@@ -28,6 +28,9 @@ static uint64_t other_version(void) { return version == ROSMAREL_V3 ? ROSMAREL_V
 static const uint64_t no_versions[] = {0, 1, 2, 5, 6, 7, 30, 128, 256, 259, UINT64_C(1) << 32 | 3, UINT64_C(1) << 63 | 4, UINT64_MAX};
 enum { NO_VERSIONS = sizeof no_versions / sizeof *no_versions };
 
+/* Ends and ordinals lie below it. */
+static const uint64_t limit = UINT64_C(1) << 55;
+
 /* ---- parts */
 
 typedef struct part {
@@ -151,7 +154,10 @@ static void adding(void) {
     WANT(add(&a, "b", 1, three[0]) == ROSMAREL_OK);
     WANT(add(&a, long_key, 1025, three[1]) == ROSMAREL_KEY_LONG);
     WANT(add(&a, "d", 1, (rosmarel_block_addr){10, 9, 4}) == ROSMAREL_NUMBERS);
-    WANT(add(&a, "d", 1, (rosmarel_block_addr){10, UINT64_C(1) << 48, 4}) == ROSMAREL_NUMBERS);
+    WANT(add(&a, "d", 1, (rosmarel_block_addr){10, limit, 4}) == ROSMAREL_NUMBERS);
+    WANT(add(&a, "d", 1, (rosmarel_block_addr){10, 25, limit}) == ROSMAREL_NUMBERS);
+    WANT(add(&a, "d", 1, (rosmarel_block_addr){10, UINT64_MAX, 4}) == ROSMAREL_NUMBERS);
+    WANT(add(&a, "d", 1, (rosmarel_block_addr){10, 25, UINT64_MAX}) == ROSMAREL_NUMBERS);
     WANT(add(&a, "d", 1, (rosmarel_block_addr){11, 25, 4}) == ROSMAREL_JOIN);
     WANT(add(&a, "d", 1, (rosmarel_block_addr){10, 25, 0}) == ROSMAREL_ORDINAL);
     WANT(add(&a, "a", 1, three[1]) == ROSMAREL_KEY_ORDER);
@@ -166,6 +172,12 @@ static void adding(void) {
     WANT(shorten(&a, a.n, "f", 1) == ROSMAREL_OK);
     WANT(numbers(a.blocks)[9] == 2 && memcmp(a.keys.at, "bded", 4) == 0);
     WANT(shorten(&a, 0, "", 0) == ROSMAREL_OK);
+    drop_areas(a);
+    a = areas_for(2, 2);
+    WANT(add(&a, "b", 1, (rosmarel_block_addr){0, limit - 1, limit - 2}) == ROSMAREL_OK);
+    WANT(add(&a, "d", 1, (rosmarel_block_addr){limit - 1, limit, limit - 1}) == ROSMAREL_NUMBERS);
+    WANT(add(&a, "d", 1, (rosmarel_block_addr){limit - 1, limit - 1, limit}) == ROSMAREL_NUMBERS);
+    WANT(add(&a, "d", 1, (rosmarel_block_addr){limit - 1, limit - 1, limit - 1}) == ROSMAREL_OK);
     drop_areas(a);
 }
 
@@ -184,6 +196,16 @@ static uint32_t finish_len(areas a, uint64_t *total) {
     WANT(stays(a.blocks) && stays(a.keys));
     if (no != ROSMAREL_OK) WANT(*total == 0);
     return no;
+}
+
+/* The index of the blocks in the areas, in the version that is set. */
+static part finished(areas a) {
+    uint64_t total, directory_len;
+    WANT(finish_len(a, &total) == ROSMAREL_OK);
+    part index = filled(0xcc, total);
+    WANT(finish(a, index, &total, &directory_len) == ROSMAREL_OK && total == index.len);
+    memcpy(index.kept, index.at, index.len);
+    return index;
 }
 
 static void finishing(void) {
@@ -217,7 +239,12 @@ static uint32_t store(const rosmarel_block_addr *blocks, size_t count, part out,
 }
 
 static void storing(void) {
-    part out = filled(0xcc, 46), tight = filled(0xcc, 45), eight = filled(0xcc, 8);
+    /* from the range slope on: slopes 2^32 - 1 and 0, widths 1 and 56, one block, and the field 2^56 - 2^32 */
+    static const uint8_t wide[19] = {255, 255, 255, 255, 0, 0, 0, 0, 1, 56, 0, 0, 0, 0, 0, 0, 255, 255, 255};
+    part out = filled(0xcc, 46), tight = filled(0xcc, 45), eight = filled(0xcc, 8), widest = filled(0xcc, 51);
+    WANT(store((rosmarel_block_addr[]){{0, limit - 1, 0}}, 1, widest, 51) == ROSMAREL_OK && memcmp(widest.at + 32, wide, 19) == 0);
+    WANT(store((rosmarel_block_addr[]){{0, limit, 0}}, 1, tight, 0) == ROSMAREL_NUMBERS);
+    WANT(store((rosmarel_block_addr[]){{0, 0, limit}}, 1, tight, 0) == ROSMAREL_NUMBERS);
     WANT(store(three, 3, out, 46) == ROSMAREL_OK && memcmp(out.at, worked + 31, 46) == 0);
     WANT(store(three, 3, tight, 0) == ROSMAREL_OUTPUT_SHORT);
     WANT(store(three, 0, eight, 8) == ROSMAREL_OK);
@@ -233,7 +260,24 @@ static void storing(void) {
     WANT(store(blocks, many, tight, 0) == ROSMAREL_NO_VERSION);
     version = known;
     free(blocks);
-    drop(out), drop(tight), drop(eight);
+    drop(out), drop(tight), drop(eight), drop(widest);
+}
+
+/* One group whose fields have 56 bits throughout: the room that the header names is enough. */
+static void widest_store(size_t n) {
+    size_t room = 8 + 36 * ((n + 127) / 128) + 14 * n, len = 8 + 36 + 14 * n - 7;
+    rosmarel_block_addr *blocks = fresh(n * sizeof *blocks);
+    part out = filled(0xcc, room), tight = filled(0xcc, len - 1);
+    for (size_t i = 0; i < n; i++) blocks[i] = (rosmarel_block_addr){i == 0 ? 0 : limit - 1, limit - 1, i == 0 ? 0 : limit - n + i};
+    WANT(store(blocks, n, out, len) == ROSMAREL_OK && store(blocks, n, tight, 0) == ROSMAREL_OUTPUT_SHORT);
+    drop(out), drop(tight);
+    free(blocks);
+}
+
+static void widest_stores(void) {
+    size_t group = version == ROSMAREL_V4 ? 256 : 128;
+    const size_t counts[] = {1, 2, 3, 10, group - 1, group};
+    for (size_t i = 0; i < sizeof counts / sizeof *counts; i++) widest_store(counts[i]);
 }
 
 /* ---- opening and lookups */
@@ -268,7 +312,7 @@ static void opening(void) {
     WANT(open_terms(12, index, opened) == ROSMAREL_OK && memcmp(opened, parts, sizeof parts) == 0);
     for (uint64_t terms = 0; terms < 20; terms++)
         WANT(open_terms(terms, index, opened) == (terms > 9 ? ROSMAREL_OK : ROSMAREL_TERMS));
-    WANT(open_terms(UINT64_C(1) << 55, index, opened) == ROSMAREL_OK && open_part(index, opened) == ROSMAREL_OK);
+    WANT(open_terms(limit, index, opened) == ROSMAREL_OK && open_part(index, opened) == ROSMAREL_OK);
     for (size_t len = 0; len < sizeof worked; len++) {
         part front = part_of(worked, len), rear = part_of(worked + sizeof worked - len, len);
         WANT(open_part(front, opened) >= ROSMAREL_FOOTER && open_part(rear, opened) >= ROSMAREL_FOOTER);
@@ -282,7 +326,10 @@ static void opening(void) {
     WANT(opened_with(31, 72, 8) == ROSMAREL_RECORDS);
     WANT(opened_with(71, 57, 1) == ROSMAREL_GROUPS);
     WANT(opened_with(39, UINT64_C(1) << 61, 8) == ROSMAREL_GROUPS);
-    WANT(opened_with(47, UINT64_MAX, 8) == ROSMAREL_VALUES);
+    WANT(opened_with(47, UINT64_MAX, 8) == ROSMAREL_VALUES && opened_with(55, UINT64_MAX, 8) == ROSMAREL_VALUES);
+    WANT(opened_with(47, limit, 8) == ROSMAREL_VALUES && opened_with(55, limit, 8) == ROSMAREL_VALUES);
+    /* the last end would be 2^55, or the last ordinal */
+    WANT(opened_with(47, limit - 30, 8) == ROSMAREL_VALUES && opened_with(55, limit - 9, 8) == ROSMAREL_VALUES);
     drop(index);
 }
 
@@ -445,6 +492,60 @@ static void terms_by_hand(void) {
     }
     WANT(stays(index));
     drop(index);
+}
+
+/* ---- numbers up to the limit */
+
+/* The worked index moved up, so that the last block ends at the highest number and has the highest ordinal; then by one more with
+   the same record. */
+static void at_the_limit(void) {
+    uint64_t opened[9], again[9];
+    found f;
+    part index = part_of(worked, sizeof worked);
+    put(index, 47, limit - 31, 8), put(index, 55, limit - 10, 8);
+    WANT(open_terms(limit - 1, index, opened) == ROSMAREL_TERMS && open_terms(limit, index, opened) == ROSMAREL_OK);
+    WANT(check(index) == ROSMAREL_OK);
+    WANT(by_id(index, opened, 2, &f) == ROSMAREL_OK && f.start == limit - 6 && f.end == limit - 1 && f.first_ordinal == limit - 1);
+    WANT(by_ordinal(index, opened, limit - 1, &f) == ROSMAREL_OK && f.id == 2 && f.end == limit - 1);
+    WANT(by_ordinal(index, opened, limit - 2, &f) == ROSMAREL_OK && f.id == 1 && f.end == limit - 6);
+    WANT(by_ordinal(index, opened, limit, &f) == ROSMAREL_NO_TERM && is_zero(f));
+    WANT(by_key(index, opened, "f", &f) == ROSMAREL_OK && f.id == 2 && f.first_ordinal == limit - 1);
+    put(index, 47, limit - 30, 8);
+    WANT(open_part(index, again) == ROSMAREL_VALUES && check(index) == ROSMAREL_VALUES);
+    WANT(by_id(index, opened, 2, &f) == ROSMAREL_OPENED && is_zero(f));
+    WANT(by_id(index, opened, 1, &f) == ROSMAREL_OK && f.end == limit - 5);
+    put(index, 47, 0, 8), put(index, 55, limit - 9, 8);
+    WANT(open_part(index, again) == ROSMAREL_VALUES && check(index) == ROSMAREL_VALUES);
+    WANT(by_id(index, opened, 2, &f) == ROSMAREL_OPENED && is_zero(f));
+    f = unset;
+    WANT(rosmarel_get_block_with_key(index.at, index.len, opened, three_keys + 2, 1, &f.id, &f.start, &f.end, &f.first_ordinal) ==
+             ROSMAREL_OPENED && is_zero(f));
+    WANT(by_id(index, opened, 1, &f) == ROSMAREL_OK && f.first_ordinal == limit - 5);
+    drop(index);
+}
+
+/* An index of n blocks, the first up to the limit and the others empty, with ordinals that rise by 1: its range fields of 56 bits
+   begin at bits 0, 57, 114 .., so that 8 of them meet each bit of a byte. Then its bytes up to the last field alone. */
+static void widest_fields(size_t n) {
+    uint64_t opened[9];
+    found f, same;
+    areas a = areas_for(n, n);
+    for (size_t i = 0; i < n; i++) {
+        uint8_t key = (uint8_t)i;
+        WANT(add(&a, &key, 1, (rosmarel_block_addr){i == 0 ? 0 : limit - 1, limit - 1, i}) == ROSMAREL_OK);
+    }
+    part index = finished(a);
+    WANT(open_terms(n, index, opened) == ROSMAREL_OK && check(index) == ROSMAREL_OK);
+    WANT(index.at[opened[3] + 33] == 56 && opened[6] == (57 * n + 6) / 8);
+    part fields = part_of(index.at, opened[5] + opened[6]);
+    for (size_t i = 0; i < n; i++) {
+        WANT(by_id(index, opened, i, &f) == ROSMAREL_OK && f.start == (i == 0 ? 0 : limit - 1) && f.end == limit - 1);
+        WANT(by_id(fields, opened, i, &same) == ROSMAREL_OK && memcmp(&f, &same, sizeof f) == 0);
+        WANT(by_ordinal(index, opened, i, &f) == ROSMAREL_OK && f.id == i && f.end == limit - 1 && f.first_ordinal == i);
+        WANT(by_ordinal(fields, opened, i, &same) == ROSMAREL_OK && memcmp(&f, &same, sizeof f) == 0);
+    }
+    drop(index), drop(fields);
+    drop_areas(a);
 }
 
 /* ---- batches */
@@ -680,16 +781,6 @@ static areas many_blocks(size_t n) {
     return a;
 }
 
-/* Their index in the version that is set. */
-static part finished(areas a) {
-    uint64_t total, directory_len;
-    WANT(finish_len(a, &total) == ROSMAREL_OK);
-    part index = filled(0xcc, total);
-    WANT(finish(a, index, &total, &directory_len) == ROSMAREL_OK && total == index.len);
-    memcpy(index.kept, index.at, index.len);
-    return index;
-}
-
 /* The same blocks, the fields of the first two of more groups in each other's place. */
 static void exchanged_groups(part index, const uint64_t opened[9]) {
     size_t in_second = (version == ROSMAREL_V4 ? 256 : 128) + 2;
@@ -816,11 +907,14 @@ static void both_versions(size_t n) {
 static void in_one_version(void) {
     finishing();
     storing();
+    widest_stores();
     opening();
     checking();
     lookups();
     least_terms_example();
     terms_by_hand();
+    at_the_limit();
+    for (size_t n = 2; n <= 10; n++) widest_fields(n);
     batch_example();
     batches();
     listings();

@@ -163,15 +163,32 @@ static void call_common_prefix_len(void) {
 
 /* ---- building and lookups, for n blocks with keys of one length */
 
-/* Blocks of equal steps, of random ones, or of ones that reach up to the limit. */
+/* The highest end and ordinal. */
+static const uint64_t highest = (UINT64_C(1) << 55) - 1;
+
+/* Blocks of equal steps; of random ones; of random ones and a last one up to the highest numbers, so that the last group has fields
+   of 56 bits; of the highest numbers shared out at random, so that all groups have wide ones. */
+enum { EQUAL, RANDOM, FAR, SHARED, KINDS };
+
+/* A number in the block's share of the highest one. */
+static uint64_t in_share(size_t i, uint64_t *state) {
+    uint64_t share = highest / n, high = random_step(state) << 31;
+    return i * share + (high | random_step(state)) % share;
+}
+
 static void plan_blocks(int kind) {
     uint64_t end = 0, ordinal = 0, state = 1;
     for (size_t i = 0; i < n; i++) {
-        uint64_t step = kind == 0 ? 4096 : random_step(&state) % (kind == 1 ? 65536 : UINT32_MAX);
-        if (kind == 2 && i + 1 == n) step = (UINT64_C(1) << 48) - 1 - end;
-        addrs[i] = (rosmarel_block_addr){end, end + step, ordinal};
-        end += step;
-        ordinal += 1 + (kind == 0 ? 127 : random_step(&state) % 60000);
+        uint64_t start = end;
+        if (kind >= FAR && i + 1 == n) {
+            end = ordinal = highest;
+        } else if (kind == SHARED) {
+            end = in_share(i, &state), ordinal = in_share(i, &state);
+        } else {
+            end += kind == EQUAL ? 4096 : random_step(&state) % (kind == RANDOM ? 65536 : UINT32_MAX);
+            if (i > 0) ordinal += 1 + (kind == EQUAL ? 127 : random_step(&state) % 60000);
+        }
+        addrs[i] = (rosmarel_block_addr){start, end, ordinal};
     }
 }
 
@@ -343,13 +360,13 @@ static void intervals(size_t len) {
 }
 
 static void of_kind(int kind) {
-    key_len = kind == 1 && n <= 1000 ? LONGEST : 40;
+    key_len = kind == RANDOM && n <= 1000 ? LONGEST : 40;
     plan_blocks(kind);
     building();
     lookups();
     listings();
     free(out);
-    out_len = 8 + 36 * ((n + 127) / 128) + 16 * n + 16;
+    out_len = 8 + 36 * ((n + 127) / 128) + 14 * n;
     out = room(out_len);
     ANSWERED(0, store);
     free(out);
@@ -361,7 +378,7 @@ int main(void) {
     for (version = ROSMAREL_V3; version <= ROSMAREL_V4; version++) {
         for (size_t i = 0; i < sizeof counts / sizeof *counts; i++) {
             n = counts[i];
-            for (int kind = 0; kind < 3; kind++) of_kind(kind);
+            for (int kind = 0; kind < KINDS; kind++) of_kind(kind);
         }
     }
     intervals(4);

@@ -112,7 +112,7 @@ impl<'a> Index<'a> {
     /// # Ok::<(), Refusal>(())
     /// ```
     pub fn open_unknown_terms(bytes: &'a [u8], version: Version) -> Result<Index<'a>, Refusal> {
-        // first ordinals lie below 2^48: this many terms are enough for any file
+        // first ordinals are at most MAX_NUMBER: this many terms are enough for any file
         let mut index = Index::open(bytes, version, u64::MAX)?;
         // the record of an opening with the least number, since records for other numbers differ in this word alone
         index.opened[TERMS] = index.block(index.len() - 1).first_ordinal + 1;

@@ -44,8 +44,9 @@
 //! ```
 //!
 //! An index has 2 to 65,536 blocks. Each starts where the one before it ends, and has a higher first ordinal; ends and
-//! first ordinals lie below 2^48. The number of terms, which opening is told, is above all first ordinals and has no limit.
-//! Separators rise and have at most 1,024 bytes. Byte strings compare as unsigned bytes, a prefix being smaller.
+//! first ordinals are at most [`MAX_NUMBER`], 2^55 - 1. The number of terms, which opening is told, is above all first
+//! ordinals and has no limit. Separators rise and have at most 1,024 bytes. Byte strings compare as unsigned bytes, a prefix
+//! being smaller.
 
 #![deny(unsafe_code)]
 #![warn(missing_docs, unsafe_op_in_unsafe_fn)]
@@ -62,7 +63,7 @@ mod store;
 mod version;
 
 pub use automaton::{Automaton, MAX_STATES};
-pub use block::BlockAddr;
+pub use block::{BlockAddr, MAX_NUMBER};
 pub use builder::{Builder, MAX_BLOCKS, MAX_KEY_LEN};
 pub use index::{Blocks, Index, Listing, MAX_BATCH_KEYS, NO_ID, Separators};
 pub use interface::INTERFACE;

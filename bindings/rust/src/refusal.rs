@@ -63,7 +63,7 @@ macro_rules! refusals {
 refusals! {
     1 BuilderAreas "the builder's areas are too short for its blocks, or it has more than 65,536 of them",
     2 KeyTooLong "the key is longer than 1,024 bytes",
-    3 BlockNumbers "a block ends before it starts, or its end or first ordinal is 2^48 or more",
+    3 BlockNumbers "a block ends before it starts, or its end or first ordinal is 2^55 or more",
     4 BlockJoin "a block doesn't start where the one before it ends",
     5 OrdinalOrder "a block's first ordinal isn't above that of the block before it",
     6 KeyOrder "the key isn't above the last separator",
@@ -76,7 +76,7 @@ refusals! {
     13 SeparatorOrder "the separators in the key directory don't rise",
     14 GroupRecords "the group records don't fit the number of blocks in this version, or the store",
     15 Group "a group has a width outside 1 to 56, a wrong number of blocks, or fields beyond the address bytes",
-    16 Block "a block in the file is outside 0 to 2^48 - 1, or doesn't follow from the one before it",
+    16 Block "a block in the file is outside 0 to 2^55 - 1, or doesn't follow from the one before it",
     17 UnknownId "no block has this id",
     18 OrdinalBelowFirst "the ordinal is below the first block's",
     19 KeyAboveLast "the key is above the last separator",

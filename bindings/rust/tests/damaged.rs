@@ -158,15 +158,17 @@ fn noise() {
 #[test]
 fn larger_files() {
     for version in VERSIONS {
-        damage(version, Draw::new(12), &[2, 127, 128, 129, 256, 257, 300]);
+        damage(version, Draw::new(12), Draw::entries);
+        // with fields of up to 56 bits
+        damage(version, Draw::new(13), Draw::far_entries);
     }
 }
 
-fn damage(version: Version, mut draw: Draw, sizes: &[usize]) {
+fn damage(version: Version, mut draw: Draw, entries: impl Fn(&mut Draw, usize) -> Entries) {
     let any = any();
     let (mut opened, mut rounds) = (0, 0);
-    for &n in sizes {
-        let good = draw.entries(n).index(version);
+    for n in [2, 127, 128, 129, 256, 257, 300] {
+        let good = entries(&mut draw, n).index(version);
         for _ in 0..600 {
             let mut bytes = good.clone();
             for _ in 0..=draw.below(2) {

@@ -5,10 +5,8 @@ mod model;
 use std::collections::BTreeSet;
 use std::error::Error;
 
-use model::VERSIONS;
+use model::{LIMIT, VERSIONS};
 use rosmarel::{Automaton, BlockAddr, Builder, Index, Refusal, Version};
-
-const LIMIT: u64 = 1 << 48;
 
 /// A block that ends before it starts.
 fn turned(start: u64) -> BlockAddr {
@@ -228,8 +226,11 @@ fn store_in(version: Version) {
     };
     let one = BlockAddr::new(0..10, 0);
     refused(&[turned(1)], Refusal::BlockNumbers);
-    refused(&[BlockAddr::new(0..LIMIT, 0)], Refusal::BlockNumbers);
-    refused(&[BlockAddr::new(0..1, LIMIT)], Refusal::BlockNumbers);
+    for high in [LIMIT, u64::MAX] {
+        refused(&[BlockAddr::new(0..high, 0)], Refusal::BlockNumbers);
+        refused(&[BlockAddr::new(high..high, 0)], Refusal::BlockNumbers);
+        refused(&[BlockAddr::new(0..1, high)], Refusal::BlockNumbers);
+    }
     refused(&[one, BlockAddr::new(11..12, 1)], Refusal::BlockJoin);
     refused(&[one, BlockAddr::new(10..12, 0)], Refusal::OrdinalOrder);
     // each row over all blocks before the next row
@@ -271,7 +272,7 @@ fn opened(change: impl Fn(&mut Vec<u8>)) -> Refusal {
 
 fn opened_in(bytes: &[u8], version: Version) -> Refusal {
     let refusal = Index::open_unknown_terms(bytes, version).unwrap_err();
-    for terms in [0, 1, 9, 10, 1 << 48, 1 << 55, u64::MAX] {
+    for terms in [0, 1, 9, 10, LIMIT - 1, LIMIT, u64::MAX] {
         let opened = Index::open(bytes, version, terms);
         assert_eq!(opened.unwrap_err(), refusal, "{terms}");
         let model = model::open(bytes, version, terms);
@@ -318,9 +319,11 @@ fn open_10_to_16() {
     assert_eq!(set(store + 41, 57), Refusal::Group);
     assert_eq!(set(store + 42, 0), Refusal::Group);
     assert_eq!(set(store + 42, 2), Refusal::Group);
-    assert_eq!(set(store + 22, 1), Refusal::Block);
+    // the first start 2^55 + 3, and one that wraps; the first ordinal 2^55 + 5, and 2^56 + 5
+    assert_eq!(set(store + 22, 0x80), Refusal::Block);
     assert_eq!(set(store + 23, 0xff), Refusal::Block);
-    assert_eq!(set(store + 30, 1), Refusal::Block);
+    assert_eq!(set(store + 30, 0x80), Refusal::Block);
+    assert_eq!(set(store + 31, 1), Refusal::Block);
     // slopes at 32 and 36: block 1 would start before block 0, or have its ordinal
     assert_eq!(set(store + 32, 0), Refusal::Block);
     assert_eq!(set(store + 36, 0), Refusal::Block);
@@ -343,7 +346,7 @@ fn open_28() {
         for terms in 0..=9 {
             assert_eq!(opening(terms).unwrap_err(), Refusal::TooFewTerms);
         }
-        for terms in [10, 11, 1 << 48, 1 << 55, u64::MAX] {
+        for terms in [10, 11, LIMIT - 1, LIMIT, u64::MAX] {
             assert_eq!(opening(terms).unwrap().terms(), terms);
         }
         let unknown = Index::open_unknown_terms(&bytes, version).unwrap();

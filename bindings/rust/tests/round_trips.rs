@@ -68,7 +68,7 @@ fn lists_of_calls() {
             2 => 250 + draw.below(20),
             _ => draw.below(600),
         };
-        let step = draw.of(&[1, 2, 100, 5_000, 1 << 20, 1 << 33, 1 << 38]);
+        let step = draw.of(&[1, 2, 100, 5_000, 1 << 20, 1 << 33, 1 << 38, 1 << 45]);
         let mut builder = Builder::new();
         let mut entries = Entries::default();
         for _ in 0..calls {

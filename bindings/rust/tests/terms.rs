@@ -28,7 +28,7 @@ fn lists() -> Vec<(Entries, Version, Vec<u8>)> {
 /// Numbers of terms below and above the least one.
 fn numbers(least: u64) -> Vec<u64> {
     let near = [0, 1, least - 2, least - 1, least, least + 1, least + 99];
-    let far = [LIMIT - 1, LIMIT, 1 << 55, u64::MAX - 1, u64::MAX];
+    let far = [1 << 48, LIMIT - 1, LIMIT, u64::MAX - 1, u64::MAX];
     near.into_iter().chain(far).collect()
 }
 
@@ -37,7 +37,7 @@ fn ordinals(entries: &Entries, terms: u64) -> Vec<u64> {
     let firsts = entries.blocks.iter().map(|block| block.first_ordinal);
     let around = |ord: u64| [ord.saturating_sub(1), ord, ord.saturating_add(1)];
     let mut all: Vec<u64> = firsts.chain([terms]).flat_map(around).collect();
-    all.extend([0, 1_000_000, LIMIT, 1 << 55, u64::MAX - 1, u64::MAX]);
+    all.extend([0, 1_000_000, 1 << 48, LIMIT, u64::MAX - 1, u64::MAX]);
     all
 }
 
@@ -112,7 +112,7 @@ fn ordinals_below_the_number_of_terms() {
     assert!(seen.iter().all(|&count| count > 20), "{seen:?}");
 }
 
-/// The highest first ordinal leaves room for a number of terms, and ordinals from 2^48 on may be its block's.
+/// The highest first ordinal leaves room for a number of terms, and ordinals from 2^55 on may be its block's.
 #[test]
 fn highest_first_ordinal() {
     let entries = highest();

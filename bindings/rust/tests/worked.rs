@@ -2,7 +2,7 @@
 
 mod model;
 
-use model::VERSIONS;
+use model::{LIMIT, VERSIONS};
 use rosmarel::{Automaton, BlockAddr, Builder, Index, Refusal, Version};
 
 fn blocks() -> [BlockAddr; 3] {
@@ -147,10 +147,15 @@ fn slopes() {
     let bytes = store(&two);
     assert_eq!(bytes[8 + 28..8 + 32], 0u32.to_le_bytes());
     assert_eq!(bytes[8 + 32..8 + 34], [42, 1]);
-    // the widest block
+    // 49 bits
     let bytes = store(&[BlockAddr::new(0..(1 << 48) - 1, 0)]);
-    assert_eq!(bytes[8 + 24..8 + 28], u32::MAX.to_le_bytes());
+    assert_eq!(bytes[8 + 24..8 + 28], 4_294_967_295u32.to_le_bytes());
     assert_eq!(bytes[8 + 33], 49);
+    // the widest block: 56 bits, and the field 2^56 - 2^32
+    let bytes = store(&[BlockAddr::new(0..LIMIT - 1, 0)]);
+    assert_eq!(bytes[8 + 24..8 + 28], 4_294_967_295u32.to_le_bytes());
+    assert_eq!(bytes[8 + 33], 56);
+    assert_eq!(bytes[8 + 36..], [0, 0, 0, 0, 0xff, 0xff, 0xff]);
 }
 
 #[test]
@@ -242,6 +247,7 @@ fn model_agrees() {
     assert_eq!(model::best_slope(&[10, 25, 30]), (11, 3));
     assert_eq!(model::best_slope(&[4, 9]), (5, 2));
     assert_eq!(model::best_slope(&[1 << 40]), (0, 42));
+    assert_eq!(model::best_slope(&[LIMIT - 1]), (4_294_967_295, 56));
     assert_eq!(model::best_slope(&[]), (0, 1));
     for version in VERSIONS {
         let opened = model::open(&index(), version, 12).unwrap();

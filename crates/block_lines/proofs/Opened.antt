@@ -1,4 +1,4 @@
--- The blocks and separators of an opened index are small enough for a line of 2,103 bytes.
+-- The blocks and separators of an opened index are small enough for a line of 2,109 bytes.
 use mathlib.Core.Path.{◌≡◌}
 use mathlib.Core.List.{List}
 use Prim.Native.Nat.{ℕ, ◌*◌, ◌+◌, ◌≤◌, ◌<◌}
@@ -13,7 +13,7 @@ use Rattle.index.specs.Answers.{part_at}
 use Rattle.index.specs.Lookups.{place_def}
 use Rattle.index.proofs.OpenFacts.{OpenFacts, opens-facts}
 use Rattle.index.proofs.LookupLaws.{opened-legal, place-separator}
-use Rattle.line_text.specs.Lines.{line_of}
+use Rattle.line_text.specs.Lines.{line_of, line_len}
 use Rattle.line_text.proofs.Written.{line-short}
 
 module _ (f : List ℕ) (opened : SSTableIndexV3) (o : Opens f opened) (id : ℕ) (h : id < opened.n) where
@@ -39,5 +39,5 @@ module _ (f : List ℕ) (opened : SSTableIndexV3) (o : Opens f opened) (id : ℕ
   pub separator-is : part_at f (place_def opened f id) ≡ separator_in f id
   separator-is = place-separator (group_of opened) f opened facts id h
 
-  pub line-fits : length (line_of id (block_in (group_of opened) f id) (separator_in f id)) ≤ 2103
+  pub line-fits : length (line_of id (block_in (group_of opened) f id) (separator_in f id)) ≤ line_len
   line-fits = line-short id (block_in (group_of opened) f id) id-small block-small (separator_in f id) separator-small

@@ -17,8 +17,8 @@ use layout::refusals::Refusal;
 use line_text::{Line, Refused, Separator};
 use text::Piece;
 
-// No line of an index is longer: an id of 5 digits, three numbers of 15, a key of 1,024 bytes, five signs between and behind.
-pub const LINE_LEN: usize = 2103;
+// No line of an index is longer: an id of 5 digits, three numbers of 17, a key of 1,024 bytes, five signs between and behind.
+pub const LINE_LEN: usize = 2109;
 
 // A longer input isn't taken.
 pub const MAX_LEN: usize = 65536;

@@ -4,6 +4,7 @@ pub mod RowOrder
 pub mod Blocks
 pub mod Metadata
 pub mod Written
+pub mod Widest
 pub mod Reading
 pub mod Records
 pub mod Places

@@ -4,7 +4,7 @@ use Rattle.group.specs.declared.BlockAddr.{BlockAddr}
 
 -- ends and ordinals are below the limit
 unfoldable pub limit : ℕ
-limit = 2 ^ 48
+limit = 2 ^ 55
 
 -- row 3 isn't hit
 pub record NumbersOk (b : BlockAddr) : Type 0 where

@@ -5,7 +5,7 @@ ghost use Rattle.group.specs.Rows.{are_numbers_bad, is_join_bad, is_ordinal_bad}
 use crate::BlockAddr;
 
 // Ends and ordinals are below it.
-pub const LIMIT: u64 = 0x1_0000_0000_0000;
+pub const LIMIT: u64 = 0x80_0000_0000_0000;
 
 impl BlockAddr {
     // Whether its own numbers break row 3.

@@ -1,4 +1,4 @@
--- A line is at most 2,103 bytes long, by its parts.
+-- A line is at most 2,109 bytes long, by its parts.
 use mathlib.Core.Path.{◌≡◌}
 use mathlib.Core.List.{List, [], ◌∷◌, ◌++◌, append_assoc}
 use Prim.Native.Nat.{ℕ, ◌≤◌, ◌<◌}
@@ -6,7 +6,7 @@ use native.Mathlib.Omega.{arith}
 use lib.ListN.{length, length-append}
 use Rattle.group.specs.declared.BlockAddr.{BlockAddr}
 use Rattle.group.specs.Legal.{limit, NumbersOk}
-use Rattle.line_text.specs.Lines.{decimal, separator_text, line_of}
+use Rattle.line_text.specs.Lines.{decimal, separator_text, line_of, line_len}
 use Rattle.line_text.proofs.Decimal.{length-decimal, length-hex}
 
 -- ---- the parts of a line
@@ -38,9 +38,9 @@ module _ (id : ℕ) (b : BlockAddr) where
 id-digits : (id : ℕ) → id < 65536 → length (decimal id) ≤ 5
 id-digits id h = omega (arith, length-decimal 4 19 id [] (omega arith))
 
-number_digits : (n : ℕ) → n < limit → length (decimal n) ≤ 15
+number_digits : (n : ℕ) → n < limit → length (decimal n) ≤ 17
 unfolding limit
-number_digits n h = omega (arith, length-decimal 14 19 n [] (omega arith))
+number_digits n h = omega (arith, length-decimal 16 19 n [] (omega arith))
 
 separator-digits : (separator : List ℕ) → length separator ≤ 1024 → length (separator_text separator) ≤ 2048
 separator-digits [] h = omega arith
@@ -49,9 +49,9 @@ separator-digits (x ∷ separator) h = omega (arith, length-hex (x ∷ separator
 -- what each part reaches up to
 pub record Reach (id : ℕ) (b : BlockAddr) : Type 0 where
   pub own : length (decimal id) ≤ 5
-  pub start : length (to_start id b) ≤ 21
-  pub end : length (to_end id b) ≤ 37
-  pub ordinal : length (to-ordinal id b) ≤ 53
+  pub start : length (to_start id b) ≤ 23
+  pub end : length (to_end id b) ≤ 41
+  pub ordinal : length (to-ordinal id b) ≤ 59
 
 module _ (id : ℕ) (b : BlockAddr) (h : id < 65536) (ok : NumbersOk b) where
   pub reach : Reach id b
@@ -67,11 +67,11 @@ module _ (id : ℕ) (b : BlockAddr) (h : id < 65536) (ok : NumbersOk b) where
         ordinal = simp length-append (omega arith);
       }
 
-  pub separator-reach : (separator : List ℕ) → length separator ≤ 1024 → length (to-separator id b separator) ≤ 2102
+  pub separator-reach : (separator : List ℕ) → length separator ≤ 1024 → length (to-separator id b separator) ≤ 2108
   separator-reach separator short =
       omega (arith, reach.ordinal, separator-digits separator short, length-append (to-ordinal id b) (32 ∷ separator_text separator))
 
-  pub line-short : (separator : List ℕ) → length separator ≤ 1024 → length (line_of id b separator) ≤ 2103
+  pub line-short : (separator : List ℕ) → length separator ≤ 1024 → length (line_of id b separator) ≤ line_len
   line-short separator short =
       rw (← (parts-line id b separator)) (omega (
         arith,

@@ -42,6 +42,6 @@ refused_text = 114 ∷ 101 ∷ 102 ∷ 117 ∷ 115 ∷ 101 ∷ 100 ∷ 32 ∷ []
 unfoldable pub refused_line : ℕ → List ℕ
 refused_line k = refused_text ++ (decimal k ++ (10 ∷ []))
 
--- no line is longer: an id of 5 digits, three numbers of 15, a key of 1,024 bytes, five signs between and behind
+-- no line is longer: an id of 5 digits, three numbers of 17, a key of 1,024 bytes, five signs between and behind
 abbrev pub line_len : ℕ
-line_len = 2103
+line_len = 2109

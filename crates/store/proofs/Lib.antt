@@ -6,4 +6,5 @@ pub mod Lookup
 pub mod Rows
 pub mod Passed
 pub mod Stored
+pub mod Room
 pub mod ReadBack

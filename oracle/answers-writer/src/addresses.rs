@@ -2,8 +2,8 @@
 
 use std::collections::BTreeSet;
 
-use model::blocks::{self, WORKED};
-use model::foreign::{self, Group, group, near};
+use model::blocks::{self, WORKED, most_bits};
+use model::foreign::{self, Group, WIDES, group, near};
 use model::numbers::Numbers;
 use model::rust::{Block, Store};
 use model::settings::LIMIT;
@@ -73,7 +73,8 @@ pub fn list() -> String {
     ]);
     for round in 0..56 {
         let count = rng.within(1, 7);
-        let (length_bits, step_bits) = (rng.within(2, 44), rng.within(0, 44));
+        let most = most_bits(7);
+        let (length_bits, step_bits) = (rng.within(2, most), rng.within(0, most));
         let blocks = blocks::random(&mut rng, count, length_bits, step_bits, 20, 40);
         let widest = round % 4 == 0;
         let offset = if rng.one_in(2) {
@@ -87,6 +88,16 @@ pub fn list() -> String {
         let store = foreign::store(&[group], junk);
         let version = VERSIONS[round / 4 % 2];
         add(&mut list, &mut rng, version, &store, &blocks, 3);
+    }
+    list.comment(&["", "Foreign stores: fields of 56 bits from each bit of a byte on, the last ones at the end of the address bytes"]);
+    for wide in WIDES {
+        for (version, count) in [(V3, 9), (V4, 16)] {
+            let blocks = wide.blocks(&mut rng, count);
+            let group = wide.group(&blocks, 0);
+            let store = foreign::store(&[group], rng.bytes(group.length() as u64));
+            let ords: Vec<u64> = blocks.iter().map(|block| block.ord).collect();
+            look_up(&mut list, version, &store, &blocks, 0..count as u64, ords);
+        }
     }
     list.comment(&["", "Foreign stores: two groups and more, with gaps, in another order, sharing their fields or overlapping"]);
     for (round, (version, count)) in [
@@ -169,7 +180,8 @@ pub fn list() -> String {
 
 fn widest(list: &mut List, rng: &mut Numbers, version: Version) {
     let group = version.group_len();
-    let blocks = blocks::random(rng, group as u64 + 1, 40, 39, 20, 20);
+    let bits = most_bits(group as u64 + 1);
+    let blocks = blocks::random(rng, group as u64 + 1, bits, bits, 20, 20);
     let wide = Group {
         blocks: &blocks[..group],
         offset: 1,

@@ -4,7 +4,8 @@ use std::collections::BTreeSet;
 use std::fmt::Write;
 
 use model::areas::{Areas, Entry, MARK, MOST, Machine, View, by_rule, first, hits, index};
-use model::blocks::{WORKED, block};
+use model::blocks::{FAR, TOO_FAR, WORKED, block, widest};
+use model::files::short_keys;
 use model::numbers::Numbers;
 use model::settings::{LIMIT, STRIDE};
 use model::sums::remainder;
@@ -12,6 +13,9 @@ use model::version::{NO_VERSIONS, V3, V4, VERSION_BAD, VERSIONS, Version};
 use tantivy_sstable::access::{self, Block};
 
 use crate::text::{hex, numbers};
+
+/// The program that replays the list has no more bytes for an index.
+const MOST_ROOM: usize = 4_096;
 
 /// The calls so far. A fresh builder is followed by the plain machine and by the areas, and both must agree.
 struct Calls {
@@ -129,6 +133,7 @@ impl Calls {
 
     /// Returns the number.
     fn finish_as(&mut self, number: u64, room: usize) -> u64 {
+        assert!(room <= MOST_ROOM);
         let version = Version::of(number);
         let mut rows = hits(&[
             (VERSION_BAD, version.is_none()),
@@ -260,6 +265,7 @@ pub fn list() -> String {
     keys(&mut calls);
     rooms(&mut calls);
     add_pairs(&mut calls);
+    far(&mut calls);
     long_keys(&mut calls);
     counts(&mut calls);
     areas_that_do_not_fit(&mut calls);
@@ -459,6 +465,42 @@ fn add_pairs(calls: &mut Calls) {
     calls.finish_all();
 }
 
+fn far(calls: &mut Calls) {
+    calls.comment(
+        "ends and ordinals of 2^48 - 1, 2^48, 2^54 and 2^55 - 1; 2^55 and 2^64 - 1 are refused",
+    );
+    for far in FAR {
+        calls.fresh(15, 3);
+        for too_far in TOO_FAR {
+            assert_eq!(calls.add(block(0, too_far, 0), b"a"), 3);
+            assert_eq!(calls.add(block(0, far, too_far), b"a"), 3);
+        }
+        assert_eq!(calls.add(block(0, far, 0), b"a"), 0);
+        for too_far in TOO_FAR {
+            assert_eq!(calls.add(block(far, too_far, far), b"b"), 3);
+            assert_eq!(calls.add(block(far, far, too_far), b"b"), 3);
+        }
+        assert_eq!(calls.add(block(far, far, far), b"b"), 0);
+        calls.state();
+        for version in VERSIONS {
+            calls.finish_all_as(version);
+        }
+        calls.fresh(10, 2);
+        assert_eq!(calls.add(block(far, far, far - 1), b"a"), 0);
+        assert_eq!(calls.add(block(far, far, far), b"b"), 0);
+        calls.finish_all();
+    }
+    calls.comment("a block from 0 to 2^55 - 1, a step of the ordinals as long: fields of 56 bits, in full groups and others");
+    for (version, count) in [(V3, 9), (V4, 9), (V3, 128), (V3, 129), (V4, 129)] {
+        let keys = short_keys(count);
+        calls.fresh(STRIDE * count, 2 * count);
+        for (&block, key) in widest(count).iter().zip(&keys) {
+            assert_eq!(calls.add(block, key), 0);
+        }
+        calls.finish_all_as(version);
+    }
+}
+
 fn long_keys(calls: &mut Calls) {
     calls.comment("keys of 1,024 and 1,025 bytes");
     let long = vec![b'm'; 1025];
@@ -601,8 +643,8 @@ fn broken_records(calls: &mut Calls) {
         (8, &[0, 1, 3, 1 << 63]),
         (9, &[0, 2, 3]),
         (10, &[29, 31]),
-        (11, &[29, LIMIT - 1, LIMIT]),
-        (12, &[6, 5, LIMIT - 1, LIMIT]),
+        (11, &[29, LIMIT - 1, LIMIT, u64::MAX]),
+        (12, &[6, 5, LIMIT - 1, LIMIT, u64::MAX]),
         (13, &[0, 2, 4]),
         (14, &[0, 1, 3]),
     ] {

@@ -4,10 +4,10 @@ use std::collections::BTreeSet;
 use std::fmt::Write;
 
 use model::around::{self, beside};
-use model::blocks::{self, touching};
+use model::blocks::{self, FAR, far_first, most_bits, touching, widest as widest_blocks};
 use model::faults::others;
-use model::files::{self, Fault, File, rising, smallest, two_group_file, worked_file};
-use model::foreign::{self, Group};
+use model::files::{self, Fault, File, rising, short_keys, smallest, two_group_file, worked_file};
+use model::foreign::{self, Group, WIDES};
 use model::numbers::Numbers;
 use model::opening::{self, Hit, Opened, Opening, TERMS_BAD};
 use model::rust::{Block, Index};
@@ -310,18 +310,20 @@ pub fn list() -> String {
         "m N DIRECTORY LEN RECORDS LEN ADDRESSES LEN TERMS VERSION: sets the record for the next lines, which may not belong to the file;",
         "one of another version than 3 and 4 gets 20 in each lookup, and no separator",
         "I ID, O ORDINAL, K KEY, A KEY, P ID: a lookup whose answer is left free. It has number 0 with an id below n and",
-        "start <= end < 2^48, or the call's own row, or 20; a separator is some part of the file. By ordinal 0 comes up below TERMS",
+        "start <= end < 2^55, or the call's own row, or 20; a separator is some part of the file. By ordinal 0 comes up below TERMS",
         "alone; 18 below F alone, the number in the 8 bytes from RECORDS + 16 on; 29 alone where neither F nor TERMS is above.",
     ] {
         indexes.comment(line);
     }
     worked_case(&mut indexes);
     written(&mut indexes);
+    far(&mut indexes);
     refused::files(&mut indexes);
     foreign_files(&mut indexes);
     by_rule(&mut indexes);
     other_terms(&mut indexes);
     other_versions::openings(&mut indexes);
+    read_at_the_limit(&mut indexes);
     left_free(&mut indexes);
     other_versions::records(&mut indexes);
     check_seen(&indexes);
@@ -434,7 +436,7 @@ fn written(indexes: &mut Indexes) {
         ),
         (touching(0, &[top, 0], 0, &[top]), two(b"a", b"a\x00")),
         (
-            touching(1 << 40, &[0, 1 << 47], 7, &[1 << 47]),
+            touching(1 << 40, &[0, LIMIT / 2], 7, &[LIMIT / 2]),
             two(b"\x00", b"\x00\x00\x00"),
         ),
     ] {
@@ -485,7 +487,8 @@ fn written(indexes: &mut Indexes) {
     indexes.look_up(&mut rng, 0);
     indexes.comment("some blocks");
     for count in 4..=8 {
-        let (length_bits, step_bits) = (rng.within(2, 42), rng.within(0, 42));
+        let most = most_bits(count);
+        let (length_bits, step_bits) = (rng.within(2, most), rng.within(0, most));
         let blocks = blocks::random(&mut rng, count, length_bits, step_bits, 20, 20);
         let keys = rising(&mut rng, count, 5);
         assert_eq!(indexes.open(&File::written(V3, &blocks, &keys).bytes()), 0);
@@ -520,6 +523,39 @@ fn written(indexes: &mut Indexes) {
     }
 }
 
+/// Far numbers, as the Rust's builder writes them.
+fn far(indexes: &mut Indexes) {
+    let mut rng = Numbers::from_seed(76);
+    let keys = [b"a".to_vec(), b"b".to_vec()];
+    indexes.comment(
+        "ends and ordinals of 2^48 - 1, 2^48, 2^54 and 2^55 - 1: read in fields, and first ones",
+    );
+    for (version, far) in VERSIONS.into_iter().cycle().zip(FAR) {
+        for blocks in [
+            touching(0, &[far, 0], 0, &[far]),
+            touching(far, &[0, 0], far - 1, &[1]),
+        ] {
+            let file = File::written(version, &blocks, &keys);
+            assert_eq!(indexes.open_as(version, &file.bytes()), 0);
+            indexes.look_up(&mut rng, 0);
+        }
+    }
+    indexes.comment("a block from 0 to 2^55 - 1, a step of the ordinals as long: fields of 56 bits, in full groups and others");
+    for (version, count) in [(V3, 9), (V4, 17), (V3, 129)] {
+        let file = File::written(version, &widest_blocks(count), &short_keys(count));
+        assert_eq!(indexes.open_as(version, &file.bytes()), 0);
+        indexes.look_up(&mut rng, 2);
+    }
+    indexes.comment(
+        "the same and ordinals that rise by 1: the fields of 56 bits begin at each bit of a byte",
+    );
+    for (version, count) in [(V3, 9), (V4, 16), (V4, 257)] {
+        let file = File::written(version, &far_first(count), &short_keys(count));
+        assert_eq!(indexes.open_as(version, &file.bytes()), 0);
+        indexes.look_up(&mut rng, 0);
+    }
+}
+
 /// Foreign files that keep the rules.
 fn foreign_files(indexes: &mut Indexes) {
     let mut rng = Numbers::from_seed(73);
@@ -527,7 +563,8 @@ fn foreign_files(indexes: &mut Indexes) {
     indexes.comment("fields, padding bits that aren't 0");
     for round in 0..12 {
         let count = rng.within(2, 6);
-        let (length_bits, step_bits) = (rng.within(2, 44), rng.within(0, 44));
+        let most = most_bits(count);
+        let (length_bits, step_bits) = (rng.within(2, most), rng.within(0, most));
         let blocks = blocks::random(&mut rng, count, length_bits, step_bits, 20, 40);
         let keys = rising(&mut rng, count, 4);
         let offset = rng.pick(&[0, 0, 1, 3]);
@@ -537,6 +574,16 @@ fn foreign_files(indexes: &mut Indexes) {
         let version = VERSIONS[round / 3 % 2];
         open_foreign(indexes, version, &keys, &[group], junk);
         indexes.look_up(&mut rng, 0);
+    }
+    indexes.comment("foreign files of fields of 56 bits from each bit of a byte on, the last ones at the end of the address bytes");
+    for (wide, counts) in WIDES.into_iter().zip([[9, 16], [16, 9]]) {
+        for (version, count) in VERSIONS.into_iter().zip(counts) {
+            let blocks = wide.blocks(&mut rng, count);
+            let group = wide.group(&blocks, 0);
+            let junk = rng.bytes(group.length() as u64);
+            open_foreign(indexes, version, &short_keys(count), &[group], junk);
+            indexes.look_up(&mut rng, 0);
+        }
     }
     for version in VERSIONS {
         more_groups(indexes, &mut rng, version);
@@ -586,7 +633,8 @@ fn more_groups(indexes: &mut Indexes, rng: &mut Numbers, version: Version) {
 fn widest(indexes: &mut Indexes, rng: &mut Numbers, version: Version) {
     indexes.comment("the widest fields in a full group");
     let group = version.group_len();
-    let blocks = blocks::random(rng, group as u64 + 1, 40, 39, 20, 20);
+    let bits = most_bits(group as u64 + 1);
+    let blocks = blocks::random(rng, group as u64 + 1, bits, bits, 20, 20);
     let wide = Group {
         blocks: &blocks[..group],
         offset: 1,
@@ -688,12 +736,53 @@ fn each_number(indexes: &mut Indexes) {
     let blocks = &indexes.opening.blocks;
     let (first, last) = (blocks[0].ord, blocks[blocks.len() - 1].ord);
     let before = blocks[blocks.len() - 2].ord;
-    let more = [1, first, before + 1, last + 3, LIMIT, 1 << 63];
+    let more = [1, first, before + 1, last + 3, 1 << 63];
     for terms in around::terms(last).into_iter().chain(more) {
         if indexes.reopen(terms) == 0 {
             let ends = [first, last, terms].map(beside);
             for ord in BTreeSet::from_iter(ends.into_iter().flatten()) {
                 indexes.ord(ord);
+            }
+        }
+    }
+}
+
+/// A value just below the limit, or at it, which the values beside it don't fit.
+fn read_at_the_limit(indexes: &mut Indexes) {
+    indexes.comment("an end or an ordinal of 2^55 - 1 or 2^55 beside lower ones: the file is refused. With the record that it would have a lookup");
+    indexes.comment("gives a block of the first, and 20 where it reads the second");
+    let (blocks, keys) = (touching(9, &[1, 1, 1], 9, &[3, 3]), short_keys(3));
+    let file = |blocks: &[Block]| {
+        let group = Group {
+            blocks,
+            offset: 0,
+            range_slope: 2,
+            ord_slope: 2,
+            range_width: 56,
+            ord_width: 56,
+        };
+        File::new(&keys, &foreign::store(&[group], vec![0; group.length()])).bytes()
+    };
+    let record = opening::open(V3, &file(&blocks)).record;
+    for number in [LIMIT - 1, LIMIT] {
+        for (at, is_end) in [(0, true), (1, true), (1, false)] {
+            let mut changed = blocks.clone();
+            match is_end {
+                true => {
+                    changed[at].end = number;
+                    changed[at + 1].start = number;
+                }
+                false => changed[at].ord = number,
+            }
+            assert_eq!(indexes.open(&file(&changed)), 16);
+            indexes.record(record);
+            let (key, found) = (hex(&keys[at]), address(changed[at]));
+            if number < LIMIT {
+                indexes.line(format!("i {at} 0 {found}"));
+                indexes.line(format!("a {key} 0 {at} {found}"));
+            } else {
+                indexes.line(format!("i {at} 20 0 0 0"));
+                indexes.line(format!("a {key} 20 0 0 0 0"));
             }
         }
     }
@@ -728,14 +817,14 @@ fn left_free(indexes: &mut Indexes) {
             records: (30, 36),
             ..indexes.opening.record
         };
-        for terms in [1 << 48, 6, 0] {
+        for terms in [LIMIT, 6, 0] {
             indexes.free(record.with_terms(terms));
         }
     }
     let file = two_group_file(V3, 2);
     let bytes = file.with(|file| file.widths(1, 57, 0)).bytes();
     assert_eq!(indexes.open(&bytes), 15);
-    for terms in [1 << 48, 129] {
+    for terms in [LIMIT, 129] {
         indexes.free(indexes.opening.record.with_terms(terms));
         indexes.line("O 128".to_string());
         indexes.line("O 129".to_string());

@@ -2,8 +2,9 @@
 
 use std::collections::BTreeSet;
 
+use model::blocks::{FAR, most_bits};
 use model::numbers::Numbers;
-use model::settings::LIMIT;
+use model::settings::{LIMIT, LIMIT_BITS};
 use tantivy_bitpacker::{BitPacker, compute_num_bits};
 use tantivy_sstable::access;
 
@@ -118,20 +119,23 @@ fn slopes(list: &mut List, rng: &mut Numbers) {
         vec![5, (1 << 33) + 10, 15],
         vec![3 << 32, (6 << 32) + 1, (9 << 32) + 2],
         vec![(1 << 32) - 1, 1 << 33, (3 << 32) + 1],
-        vec![1 << 47, LIMIT - 1],
+        vec![LIMIT / 2, LIMIT - 1],
         vec![1, LIMIT - 2, LIMIT - 1],
     ];
+    for far in FAR {
+        cases.extend([vec![far], vec![1, far], vec![far; 2]]);
+    }
     // rising, with steps of few or many bits, and some steps of 0
     for count in 1..=40 {
         let bits = rng.within(1, 5);
         cases.push(rising(rng, count, bits));
     }
     for count in 1..=12 {
-        let bits = rng.within(6, 44);
+        let bits = rng.within(6, most_bits(count));
         cases.push(rising(rng, count, bits));
     }
     for count in 2..=9 {
-        cases.push(rising(rng, count, 44));
+        cases.push(rising(rng, count, most_bits(count)));
     }
     // near a line, so that many cut slopes are equal
     for count in 2..=16 {
@@ -140,7 +144,7 @@ fn slopes(list: &mut List, rng: &mut Numbers) {
     }
     // in any order
     for count in 2..=10 {
-        let bits = rng.pick(&[3, 8, 20, 33, 48]);
+        let bits = rng.pick(&[3, 8, 20, 33, 48, LIMIT_BITS]);
         cases.push((0..count).map(|_| rng.bits(bits)).collect());
     }
     // full groups: 128 or 256 range points, 127 or 255 ordinal points
@@ -285,6 +289,15 @@ fn extracted(list: &mut List, rng: &mut Numbers) {
         add(&rng.bytes(7), shift, rng.pick(&[1, 8, 17, 33, 48]));
         add(&full[..7], shift, 56);
         add(&rng.bytes(16), 40 + shift, rng.pick(&[49, 50, 55, 56]));
+    }
+    // the widest field from each bit of a byte on, with 7, 8 and 9 bytes left from that byte on
+    for shift in 0..8 {
+        for left in [7, 8, 9] {
+            for front in [0, 5] {
+                add(&rng.bytes(front + left), 8 * front as usize + shift, 56);
+            }
+            add(&full[..left as usize], shift, 56);
+        }
     }
     for width in [1, 8, 56] {
         add(&[], 0, width);

@@ -4,11 +4,15 @@ use std::collections::BTreeSet;
 
 use model::blocks::{self, touching};
 use model::faults::faults;
-use model::files::{Fault, File, keys_of_one_byte, smallest, two_group_file, worked_file};
+use model::files::{
+    Fault, File, keys_of_one_byte, short_keys, smallest, two_group_file, worked_file,
+};
 use model::foreign::{self, Group};
 use model::numbers::Numbers;
+use model::opening;
+use model::rust::Block;
 use model::settings::LIMIT;
-use model::version::V3;
+use model::version::{V3, VERSIONS};
 
 use crate::indexes::Indexes;
 
@@ -18,6 +22,7 @@ pub fn files(indexes: &mut Indexes) {
     broken(indexes);
     pairs(indexes);
     two_groups(indexes);
+    at_the_limit(indexes);
     changed_bytes(indexes);
     one_part(indexes);
 }
@@ -212,6 +217,57 @@ fn two_groups(indexes: &mut Indexes) {
     ];
     for (row, fault) in faults {
         assert_eq!(indexes.change(&one.with(fault).bytes()), row);
+    }
+}
+
+/// Groups up to the limit, and beyond it from a block of each group on: no other part of row 16 is broken.
+fn at_the_limit(indexes: &mut Indexes) {
+    indexes.comment("groups up to the last end and ordinal of 2^55 - 1; first values so much higher that from a block of the last group on, of a");
+    indexes.comment(
+        "middle one, of the first, or all ends or ordinals are 2^55 and more; and 2^64 - 1",
+    );
+    let mut rng = Numbers::from_seed(77);
+    for version in VERSIONS {
+        let full = version.group_len();
+        let last = full * version.pick(2, 1);
+        let count = last + 3;
+        let steps = vec![1; count];
+        let from = LIMIT - count as u64;
+        let blocks = touching(from - 1, &steps, from, &steps[1..]);
+        let file = File::written(version, &blocks, &short_keys(count));
+        assert_eq!(indexes.open_as(version, &file.bytes()), 0);
+        indexes.look_up(&mut rng, 0);
+        for block in BTreeSet::from([0, 1, last - full + 5, last + 1, count - 1]) {
+            let by = (count - block) as u64;
+            let moved = |of: fn(&Block) -> u64, put: fn(&mut File, usize, u64)| {
+                let mut file = file.clone();
+                for group in 0..=last / full {
+                    put(&mut file, group, of(&blocks[group * full]) + by);
+                }
+                file.bytes()
+            };
+            for (bytes, parts) in [
+                (
+                    moved(|block| block.start, File::first_start),
+                    ["first start", "range value"],
+                ),
+                (
+                    moved(|block| block.ord, File::first_ord),
+                    ["first ordinal", "ordinal value"],
+                ),
+            ] {
+                let hits = opening::open(version, &bytes).hits;
+                assert!(hits.iter().all(|hit| parts.contains(&hit.1)), "{hits:?}");
+                assert_eq!(indexes.change(&bytes), 16);
+            }
+        }
+        for group in 0..=last / full {
+            for put in [File::first_start, File::first_ord] {
+                let mut file = file.clone();
+                put(&mut file, group, u64::MAX);
+                assert_eq!(indexes.change(&file.bytes()), 16);
+            }
+        }
     }
 }
 

@@ -374,7 +374,7 @@ fn traps(lists: &mut Lists) {
         add(21, 40, 21, b"c"),
     ];
     lists.list(&ties, &all(&ties));
-    for bits in [31, 32, 33, 40, 47] {
+    for bits in [31, 32, 33, 40, 47, 48, 54] {
         let far = 1 << bits;
         let cut = if bits < 32 { far as u32 } else { 0 };
         assert_eq!(access::find_best_slope(&[far]).0, cut);
@@ -455,8 +455,8 @@ fn other_terms(lists: &mut Lists) {
     lists.comment(
         "the same with other numbers of terms: too few, just enough, more than there are ordinals",
     );
-    let ords = [0, 3, 4, 8, 9, 10, 1 << 55, u64::MAX].map(Question::Ordinal);
-    let more = [1, 4, 5, 8, 12, LIMIT, 1 << 63];
+    let ords = [0, 3, 4, 8, 9, 10, LIMIT, u64::MAX].map(Question::Ordinal);
+    let more = [1, 4, 5, 8, 12, 1 << 63];
     for terms in around::terms(9).into_iter().chain(more) {
         lists.with_terms(terms, &worked_calls(), &ords);
     }
@@ -850,7 +850,7 @@ fn by_chance(lists: &mut Lists, rng: &mut Numbers, calls: &[Call]) {
     questions.retain(|_| rng.one_in(3));
     let last = last_ord(calls);
     let few = rng.below(last + 1);
-    let terms = rng.pick(&[last, last + 1, last + 1, last + 2, 1 << 55, u64::MAX, few]);
+    let terms = rng.pick(&[last, last + 1, last + 1, last + 2, LIMIT, u64::MAX, few]);
     questions = beside_terms(terms, &questions);
     let byte = rng.pick(&[0x00, 0x61, 0xfe, 0xff]);
     let table = Table::rule(vec![0, 1], |s, b| {

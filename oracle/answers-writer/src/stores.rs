@@ -3,7 +3,9 @@
 use std::collections::BTreeSet;
 
 use model::areas::slice_rows;
-use model::blocks::{WORKED, block, by_rule, random, store, touching};
+use model::blocks::{
+    FAR, START_BITS, TOO_FAR, WORKED, block, by_rule, most_bits, random, store, touching, widest,
+};
 use model::numbers::Numbers;
 use model::rust::Block;
 use model::settings::LIMIT;
@@ -28,9 +30,10 @@ pub fn list_from(large_seed: u64, small_seed: u64) -> String {
         "",
         "s VERSION COUNT S1 E1 O1 .. SCOUNT ECOUNT OCOUNT BYTES: start, end and first ordinal of each block; the store",
     ]);
+    let first = fixed().len();
     for (i, blocks) in small_from(small_seed).iter().enumerate() {
-        // one group is the same in both versions: the first ones with both
-        let versions = if i < 18 {
+        // the first ones with both versions; of the others, which are the same in both, each with one
+        let versions = if i < first {
             &VERSIONS[..]
         } else {
             &VERSIONS[i % 2..][..1]
@@ -107,15 +110,19 @@ fn refused(list: &mut List) {
         WORKED.to_vec(),
         touching(0, &[4; 129], 0, &[1; 128]),
     ];
-    let broken = [
+    let mut broken = vec![
         vec![block(1, 0, 0)],
-        vec![block(0, LIMIT, 0)],
-        vec![block(0, 1, LIMIT)],
         vec![block(0, 1, 0), block(2, 3, 1)],
         vec![block(0, 1, 5), block(1, 2, 5)],
         vec![block(3, 1, LIMIT), block(7, 2, 0)],
         vec![block(0, 1, 5), block(2, 3, 5)],
     ];
+    for far in TOO_FAR {
+        broken.push(vec![block(0, far, 0)]);
+        broken.push(vec![block(0, 1, far)]);
+        broken.push(vec![block(0, 1, 0), block(1, far, 1), block(far, far, 2)]);
+        broken.push(vec![block(0, 1, 0), block(1, 2, 1), block(2, 3, far)]);
+    }
     let known = VERSIONS.map(|version| version.number());
     let mut seen = BTreeSet::new();
     for blocks in legal.iter().chain(&broken) {
@@ -151,12 +158,12 @@ fn not_written(list: &mut List, version: u64, blocks: &[Block], room: usize) -> 
     no
 }
 
-/// Lists of at most 20 blocks, 01's worked case first.
+/// Lists of at most 20 blocks but for a few, 01's worked case first.
 pub fn small() -> Vec<Vec<Block>> {
     small_from(3)
 }
 
-fn small_from(seed: u64) -> Vec<Vec<Block>> {
+fn fixed() -> Vec<Vec<Block>> {
     let one = |start, end, ord| vec![Block { start, end, ord }];
     let top = LIMIT - 1;
     let mut lists = vec![
@@ -181,19 +188,31 @@ fn small_from(seed: u64) -> Vec<Vec<Block>> {
             &[1 << 40, 1],
         ),
         touching(0, &[4000; 20], 0, &[100; 19]),
-        touching(1 << 47, &[0; 20], top - 19, &[1; 19]),
+        touching(LIMIT / 2, &[0; 20], top - 19, &[1; 19]),
         touching(0, &[1; 16], 0, &[1; 15]),
     ];
+    for far in FAR {
+        lists.push(one(0, far, far));
+        lists.push(one(far, far, 0));
+        lists.push(touching(0, &[far, 0], 0, &[far]));
+        lists.push(touching(1, &[far - 2, 1, 0], 1, &[far - 2, 1]));
+    }
+    lists.extend([20, 128, 129].map(widest));
+    lists
+}
+
+fn small_from(seed: u64) -> Vec<Vec<Block>> {
+    let mut lists = fixed();
     let mut rng = Numbers::from_seed(seed);
     for round in 0..9 {
         for count in 1..=20 {
             let (length_bits, step_bits) = match round % 3 {
                 0 => (rng.within(2, 12), rng.within(0, 8)),
-                1 => (rng.within(2, 42), rng.within(0, 42)),
-                _ => (rng.within(30, 42), rng.within(28, 42)),
+                1 => (rng.within(2, most_bits(20)), rng.within(0, most_bits(20))),
+                _ => (rng.within(30, most_bits(20)), rng.within(28, most_bits(20))),
             };
-            let start_bits = rng.pick(&[0, 8, 20, 46]);
-            let ord_bits = rng.pick(&[0, 8, 20, 46]);
+            let start_bits = rng.pick(&[0, 8, 20, START_BITS]);
+            let ord_bits = rng.pick(&[0, 8, 20, START_BITS]);
             lists.push(random(
                 &mut rng,
                 count,

@@ -4,11 +4,12 @@ use std::collections::BTreeSet;
 
 use crate::numbers::Numbers;
 use crate::rust::Block;
+use crate::settings::LIMIT;
 use crate::version::Version;
 
-/// Ids of a file: all of a short one.
+/// Ids of a file: all of a short one, of up to two fields at each bit of a byte.
 pub fn ids(version: Version, rng: &mut Numbers, n: u64, some: usize) -> BTreeSet<u64> {
-    if n <= 8 {
+    if n <= 17 {
         return (0..n).collect();
     }
     let group = version.group_len() as u64;
@@ -44,10 +45,10 @@ pub fn ords(blocks: &[Block], ids: &BTreeSet<u64>, terms: u64) -> BTreeSet<u64> 
     ords
 }
 
-/// Numbers of terms around the last first ordinal, and far ones. The third is the least that opens, and so are those behind it.
+/// Numbers of terms around the last first ordinal, the limit, and the greatest. The third is the least that opens; those behind it open too.
 pub fn terms(last: u64) -> [u64; 6] {
     let (one, two) = (last.saturating_add(1), last.saturating_add(2));
-    [0, last, one, two, 1 << 55, u64::MAX]
+    [0, last, one, two, LIMIT, u64::MAX]
 }
 
 /// Each separator, keys just above and below it, the empty key, and keys above all.

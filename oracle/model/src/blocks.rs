@@ -2,7 +2,7 @@
 
 use crate::numbers::Numbers;
 use crate::rust::{self, Block, Store};
-use crate::settings::LIMIT;
+use crate::settings::{LIMIT, LIMIT_BITS};
 use crate::version::Version;
 
 /// The three blocks of the worked case.
@@ -44,6 +44,37 @@ pub fn touching(start: u64, lengths: &[u64], ord: u64, steps: &[u64]) -> Vec<Blo
     }
     blocks
 }
+
+/// Ends and ordinals that 48 bits hold and just don't, one far above these, and the greatest.
+pub const FAR: [u64; 4] = [(1 << 48) - 1, 1 << 48, 1 << 54, LIMIT - 1];
+
+/// The lowest number that is neither an end nor an ordinal, and the greatest.
+pub const TOO_FAR: [u64; 2] = [LIMIT, u64::MAX];
+
+/// One block that reaches from 0 to the highest end, and a first step of the ordinals that is as long: fields of both kinds are the widest
+/// that the writer makes.
+pub fn widest(count: usize) -> Vec<Block> {
+    let (mut lengths, mut steps) = (vec![0; count], vec![1; count - 1]);
+    lengths[0] = LIMIT - 1;
+    steps[0] = LIMIT - 1 - (count as u64 - 2);
+    touching(0, &lengths, 0, &steps)
+}
+
+/// One block that reaches from 0 to the highest end, and empty ones; ordinals that rise by 1. The range fields are the widest and the
+/// ordinal fields have one bit: the wide ones begin at each bit of a byte in turn.
+pub fn far_first(count: usize) -> Vec<Block> {
+    let mut lengths = vec![0; count];
+    lengths[0] = LIMIT - 1;
+    touching(0, &lengths, 0, &vec![1; count - 1])
+}
+
+/// Bits that the lengths or steps of so many blocks may have: behind a start of `START_BITS` they all stay below the limit.
+pub fn most_bits(count: u64) -> u64 {
+    LIMIT_BITS - 2 - u64::from(count.ilog2())
+}
+
+/// Bits of a far start.
+pub const START_BITS: u64 = LIMIT_BITS - 2;
 
 pub fn random(
     rng: &mut Numbers,

@@ -218,7 +218,7 @@ pub fn others(right: Opened) -> Vec<Opened> {
         .with_version(right.version);
     records.push(small);
     // another number of terms, alone and with another place
-    for terms in [0, 1, 4, 5, 9, 10, 1 << 48, 1 << 55, u64::MAX] {
+    for terms in [0, 1, 4, 5, 9, 10, LIMIT, 1 << 63, u64::MAX] {
         records.push(right.with_terms(terms));
         let (from, length) = right.records;
         records.push(Opened {

@@ -87,6 +87,19 @@ impl File {
         self.record(group, 32, &[ord, range]);
     }
 
+    /// The widths of ordinal and range.
+    pub fn widths_of(&self, group: usize) -> [u8; 2] {
+        let at = GROUP_RECORD * group + 32;
+        [self.records[at], self.records[at + 1]]
+    }
+
+    /// The slopes of range and ordinal.
+    pub fn slopes_of(&self, group: usize) -> [u32; 2] {
+        let at = GROUP_RECORD * group + 24;
+        let slope = |at: usize| u32::from_le_bytes(self.records[at..at + 4].try_into().unwrap());
+        [slope(at), slope(at + 4)]
+    }
+
     pub fn offset(&mut self, group: usize, offset: u64) {
         self.record(group, 0, &offset.to_le_bytes());
     }

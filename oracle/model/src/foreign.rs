@@ -1,8 +1,10 @@
 //! A writer of stores that takes offsets, slopes and widths as they are given.
 
+use crate::blocks::block;
 use crate::numbers::Numbers;
 use crate::rust::Block;
-use crate::settings::WIDEST;
+use crate::settings::{LIMIT, LIMIT_BITS, WIDEST};
+use crate::version::V3;
 
 /// A group of blocks.
 #[derive(Clone, Copy)]
@@ -100,6 +102,71 @@ pub fn least_width(points: &[(u64, u64)], slope: u32) -> u8 {
         .expect("the widest field is enough")
 }
 
+/// Which fields of a group are the widest; the others have one bit. So the wide ones begin at each bit of a byte in turn.
+#[derive(Clone, Copy, Debug, PartialEq, Eq)]
+pub enum Wide {
+    Range,
+    Ordinal,
+}
+
+pub const WIDES: [Wide; 2] = [Wide::Range, Wide::Ordinal];
+
+/// The slope of the fields of one bit, which miss it by 0 or -1.
+const NARROW: u32 = 5;
+
+impl Wide {
+    /// So many blocks, two at least. The wide fields have any bits, the first one a top bit of 0; the last value is the greatest there is.
+    pub fn blocks(self, rng: &mut Numbers, count: usize) -> Vec<Block> {
+        let (mut starts, mut ords) = (narrow(rng, count + 1), narrow(rng, count));
+        let values = match self {
+            Wide::Range => &mut starts,
+            Wide::Ordinal => &mut ords,
+        };
+        let (first, far) = values.split_first_mut().expect("a first value");
+        far.fill_with(|| rng.bits(LIMIT_BITS));
+        far[0] = *first + 1 + rng.bits(30);
+        far[far.len() - 1] = LIMIT - 1;
+        far.sort();
+        let blocks = starts.windows(2).zip(ords);
+        blocks.map(|(w, ord)| block(w[0], w[1], ord)).collect()
+    }
+
+    /// The slope of the wide fields.
+    pub fn slope<'a>(self, group: &'a mut Group) -> &'a mut u32 {
+        match self {
+            Wide::Range => &mut group.range_slope,
+            Wide::Ordinal => &mut group.ord_slope,
+        }
+    }
+
+    pub fn group(self, blocks: &[Block], offset: usize) -> Group<'_> {
+        let (wide, narrow) = ((u32::MAX, WIDEST), (NARROW, 1));
+        let ((range_slope, range_width), (ord_slope, ord_width)) = match self {
+            Wide::Range => (wide, narrow),
+            Wide::Ordinal => (narrow, wide),
+        };
+        Group {
+            blocks,
+            offset,
+            range_slope,
+            ord_slope,
+            range_width,
+            ord_width,
+        }
+    }
+}
+
+/// So many values that fields of one bit hold. Those that begin a group, in either version, don't miss the slope.
+fn narrow(rng: &mut Numbers, count: usize) -> Vec<u64> {
+    let first = rng.bits(10);
+    let mut value = |i: usize| {
+        let begins = i.is_multiple_of(V3.group_len());
+        let missed = if begins { 0 } else { rng.below(2) };
+        first + u64::from(NARROW) * i as u64 - missed
+    };
+    (0..count).map(&mut value).collect()
+}
+
 /// The store of the groups. The fields are set in the address bytes as given, whose other bits stay.
 pub fn store(groups: &[Group], mut addresses: Vec<u8>) -> Vec<u8> {
     let records: Vec<u8> = groups.iter().flat_map(|group| group.record()).collect();
@@ -155,7 +222,8 @@ pub fn near<'a>(rng: &mut Numbers, blocks: &'a [Block], offset: usize) -> Group<
     let mut slope_and_width = |points: &[(u64, u64)]| {
         let mean = points.last().map_or(0, |&(i, value)| value / i);
         let slope = (mean + rng.below(2)) as u32;
-        (slope, least_width(points, slope) + rng.below(2) as u8)
+        let width = least_width(points, slope) + rng.below(2) as u8;
+        (slope, width.min(WIDEST))
     };
     let (range_slope, range_width) = slope_and_width(&range_points(blocks));
     let (ord_slope, ord_width) = slope_and_width(&ord_points(blocks));

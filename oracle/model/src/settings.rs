@@ -1,8 +1,9 @@
 //! The format's numbers but for a group's length, which is its version's. The models, the makers of cases and the comparison take them
 //! from here.
 
-/// Where ends and ordinals stop.
-pub const LIMIT: u64 = 1 << 48;
+/// Where ends and ordinals stop, and the bits of the numbers below it.
+pub const LIMIT: u64 = 1 << LIMIT_BITS;
+pub const LIMIT_BITS: u64 = 55;
 
 /// Numbers that a block takes in the builder's area.
 pub const STRIDE: usize = 5;

@@ -1,6 +1,7 @@
 //! What the crate's own calls can't reach: numbers for lent areas and records, and the out-parameters of a refusal.
 
 use super::*;
+use crate::MAX_NUMBER;
 
 const VERSIONS: [u64; 2] = [3, 4];
 
@@ -65,7 +66,7 @@ fn record_of_an_opening() {
     for version in VERSIONS {
         let (index, opened) = worked(version);
         assert_eq!(opened, [3, 0, 31, 39, 36, 75, 2, 12, version]);
-        for terms in [10, 11, 1 << 48, 1 << 55, u64::MAX] {
+        for terms in [10, 11, MAX_NUMBER, MAX_NUMBER + 1, u64::MAX] {
             let record = open(version, terms, &index).unwrap();
             assert_eq!(
                 (&record[..7], &record[7..]),
@@ -164,7 +165,17 @@ fn no_8() {
 
 fn no_8_in(version: u64) {
     // one number changed: a block's numbers, its join, its ordinal, an offset, a length
-    for (at, value) in [(0, 11), (1, 9), (7, 0), (11, 1 << 48), (8, 0), (4, 2)] {
+    for (at, value) in [
+        (0, 11),
+        (1, 9),
+        (7, 0),
+        (11, MAX_NUMBER + 1),
+        (11, u64::MAX),
+        (12, MAX_NUMBER + 1),
+        (12, u64::MAX),
+        (8, 0),
+        (4, 2),
+    ] {
         let mut blocks = NUMBERS;
         blocks[at] = value;
         let answer = finish_len(version, 3, &blocks, KEYS);
@@ -312,7 +323,7 @@ fn terms_of_strangers() {
 fn terms_of_strangers_in(version: u64) {
     let (index, opened) = from_three(version);
     let mut numbers: Vec<u64> = (0..20).collect();
-    numbers.extend([1 << 48, 1 << 55, u64::MAX - 1, u64::MAX]);
+    numbers.extend([MAX_NUMBER, MAX_NUMBER + 1, u64::MAX - 1, u64::MAX]);
     for &terms in &numbers {
         let mut record = opened;
         record[7] = terms;
@@ -357,6 +368,11 @@ fn by_ordinal(index: &[u8], opened: &Opened, ord: u64) -> Result<(u64, BlockAddr
     answer
 }
 
+/// What holds of every address that a lookup gives.
+fn in_range(block: BlockAddr) -> bool {
+    block.start <= block.end && block.end <= MAX_NUMBER
+}
+
 /// Every call with a record that isn't of these bytes.
 fn with_record(index: &[u8], opened: &Opened) -> [Result<u64, Refusal>; 6] {
     let [any, _] = tables();
@@ -379,7 +395,7 @@ fn with_record(index: &[u8], opened: &Opened) -> [Result<u64, Refusal>; 6] {
         Err(_) => assert_eq!(ids, [9; 2]),
     }
     let checked = |(id, block): (u64, BlockAddr)| {
-        assert!(id < opened[0] && block.start <= block.end && block.end < 1 << 48);
+        assert!(id < opened[0] && in_range(block));
         id
     };
     [
@@ -437,6 +453,60 @@ fn no_20_in(version: u64) {
     broken[39 + 33] = 0;
     let answer = get_block(&broken, &opened, 1);
     assert_eq!(answer, Err(Refusal::OpenedRecord));
+}
+
+/// The record of the worked file with the bytes of files whose numbers are those of the worked one moved up: 20 for a block with
+/// an end or an ordinal of 2^55 or more, which no file that opens has.
+#[test]
+fn addresses_at_the_limit() {
+    let far = [
+        (1 << 48) - 20,
+        (1 << 54) - 20,
+        MAX_NUMBER - 30,
+        u64::MAX - 41,
+    ];
+    let mut seen = [0, 0];
+    for by in far.into_iter().flat_map(|from| from..from + 41) {
+        for version in VERSIONS {
+            for (start, ordinal) in [(by, 0), (0, by), (by, by)] {
+                moved_up(version, start, ordinal, &mut seen);
+            }
+        }
+    }
+    assert!(seen.iter().all(|&count| count > 100), "{seen:?}");
+}
+
+/// Counts the blocks that are refused, and those that are found.
+fn moved_up(version: u64, start: u64, ordinal: u64, seen: &mut [u32; 2]) {
+    let (mut index, mut opened) = worked(version);
+    opened[7] = u64::MAX;
+    index[47..55].copy_from_slice(&start.to_le_bytes());
+    index[55..63].copy_from_slice(&ordinal.to_le_bytes());
+    let block = |numbers: &[u64]| {
+        let from = start.checked_add(numbers[0])?;
+        let to = start.checked_add(numbers[1])?;
+        let block = BlockAddr::new(from..to, ordinal.checked_add(numbers[2])?);
+        (in_range(block) && block.first_ordinal <= MAX_NUMBER).then_some(block)
+    };
+    let blocks: Vec<Option<BlockAddr>> = NUMBERS.chunks(5).map(block).collect();
+    for (id, (block, key)) in (0..).zip(blocks.iter().zip(KEYS.chunks(1))) {
+        let due = block.ok_or(Refusal::OpenedRecord);
+        let moved = format!("{version} {start} {ordinal} {id}");
+        assert_eq!(get_block(&index, &opened, id), due, "{moved}");
+        let found = get_block_with_key(&index, &opened, key);
+        assert_eq!(found, due.map(|block| (id, block)), "{moved}");
+        seen[usize::from(due.is_ok())] += 1;
+    }
+    for ord in [ordinal, ordinal.saturating_add(5), MAX_NUMBER] {
+        if let Ok((id, block)) = by_ordinal(&index, &opened, ord) {
+            assert!(id < 3 && in_range(block));
+        }
+    }
+    let due = match blocks.iter().all(Option::is_some) {
+        true => Ok(opened),
+        false => Err(Refusal::Block),
+    };
+    assert_eq!(open(version, u64::MAX, &index), due, "{start} {ordinal}");
 }
 
 /// A record that fails its own test: 20, whatever else is asked and lent.
@@ -516,7 +586,7 @@ fn versions_of_strangers_in_more_groups() {
         let before = separator(&index, &opened, id);
         assert_eq!(separator(&index, &record, id), before);
         match get_block(&index, &record, id) {
-            Ok(block) => assert!(block.start <= block.end && block.end < 1 << 48),
+            Ok(block) => assert!(in_range(block)),
             Err(Refusal::UnknownId) => assert_eq!(id, 300),
             Err(refusal) => assert_eq!(refusal, Refusal::OpenedRecord),
         }

@@ -7,7 +7,8 @@ use std::slice::Chunks;
 
 use rosmarel::{BlockAddr, Version};
 
-pub const LIMIT: u64 = 1 << 48;
+/// Ends and ordinals lie below it.
+pub const LIMIT: u64 = 1 << 55;
 
 /// The versions that there are.
 pub const VERSIONS: [Version; 2] = [Version::V3, Version::V4];
@@ -569,6 +570,27 @@ impl Draw {
             end = block.end;
             ordinal += 1 + self.below(step);
         }
+        entries
+    }
+
+    /// Entries of legal calls with fields of up to 56 bits: one step of the ends and one of the ordinals lead from low numbers to
+    /// the highest ones.
+    pub fn far_entries(&mut self, n: usize) -> Entries {
+        let mut entries = self.entries(n);
+        let last = entries.blocks[n - 1];
+        let (far_end, far_ordinal) = (self.below(n as u64), 1 + self.below(n as u64 - 1));
+        for (i, block) in (0..).zip(&mut entries.blocks) {
+            if i > far_end {
+                block.start += LIMIT - 1 - last.end;
+            }
+            if i >= far_end {
+                block.end += LIMIT - 1 - last.end;
+            }
+            if i >= far_ordinal {
+                block.first_ordinal += LIMIT - 1 - last.first_ordinal;
+            }
+        }
+        assert_eq!(store_no(&entries.blocks), 0);
         entries
     }
 }

@@ -3,7 +3,8 @@
 use crate::folder::{Folder, table, version_of};
 use model::blocks::{WORKED, touching};
 use model::files::File;
-use model::foreign::{self, Group, least_width, ord_points, range_points};
+use model::foreign::{self, Group, Wide, least_width, ord_points, range_points};
+use model::numbers::Numbers;
 use model::opening;
 use model::version::{V3, Version};
 
@@ -26,6 +27,7 @@ pub fn put(folder: &mut Folder, name: &str, what: &str, groups: &[Group], addres
 
 pub fn files(folder: &mut Folder) {
     one_group(folder);
+    each_bit(folder);
     last_bit(
         folder,
         V3,
@@ -107,6 +109,30 @@ fn one_group(folder: &mut Folder) {
             ..own
         };
         put(folder, name, what, &[wide], vec![0; wide.length()]);
+    }
+}
+
+/// Fields of 56 bits from each bit of a byte on.
+fn each_bit(folder: &mut Folder) {
+    let mut rng = Numbers::from_seed(1);
+    for (name, what, wide, count) in [
+        (
+            "foreign-range-bits",
+            "range width 56, ordinal width 1: range fields of any bits begin at each of a byte's bits; the last one takes the last 7 bytes",
+            Wide::Range,
+            9,
+        ),
+        (
+            "foreign-ordinal-bits",
+            "range width 1, ordinal width 56: ordinal fields of any bits begin at each of a byte's bits; the last one ends a bit before the \
+             last bit",
+            Wide::Ordinal,
+            16,
+        ),
+    ] {
+        let blocks = wide.blocks(&mut rng, count);
+        let group = wide.group(&blocks, 0);
+        put(folder, name, what, &[group], vec![0; group.length()]);
     }
 }
 

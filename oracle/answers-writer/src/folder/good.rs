@@ -3,8 +3,8 @@
 use tantivy_sstable::access::Block;
 
 use crate::folder::Folder;
-use model::blocks::touching;
-use model::files::{File, worked_file};
+use model::blocks::{far_first, touching, widest};
+use model::files::{File, keys_of_one_byte, worked_file};
 use model::settings::LIMIT;
 use model::version::V3;
 
@@ -27,7 +27,7 @@ pub fn uneven(count: usize) -> Vec<Block> {
 }
 
 pub fn files(folder: &mut Folder) {
-    let top = LIMIT - 1;
+    let (top, past) = (LIMIT - 1, 1 << 48);
     let worked = worked_file().bytes();
     assert_eq!(worked.len(), 85);
     folder.opens("good", "worked", &worked, "the 85 bytes of docs/FORMAT.md");
@@ -72,15 +72,28 @@ pub fn files(folder: &mut Folder) {
         ),
         (
             "top",
-            "start, end and ordinals at 2^48 - 1",
+            "start, end and ordinals at 2^55 - 1",
             touching(top, &[0, 0], top - 1, &[1]),
             keys(&[b"a", b"b"]),
         ),
         (
             "far",
-            "one block from 0 to 2^48 - 1, an ordinal step as far: slopes cut to 32 bits, widths of 49, the widest that the writer needs",
-            touching(0, &[top, 0], 0, &[top]),
+            "one block from 0 to 2^55 - 1, an ordinal step as far: slopes cut to 32 bits (0 and 4294967295), widths of 56, the widest there are",
+            widest(2),
             keys(&[b"a", b"b"]),
+        ),
+        (
+            "far-fields",
+            "one block from 0 to 2^55 - 1, then empty ones: range fields of 56 bits, ordinal fields of one, so that range fields begin at each \
+             of a byte's bits; the last one takes the last 7 bytes",
+            far_first(9),
+            keys_of_one_byte(9),
+        ),
+        (
+            "past-48",
+            "ends and ordinals of 2^48 - 1, 2^48 and beyond",
+            touching(past - 2, &[1, 1, 0, past], past - 2, &[1, 1, 3 * past]),
+            keys(&[b"a", b"b", b"c", b"d"]),
         ),
         (
             "full-group",

@@ -228,25 +228,25 @@ fn smallest() -> Vec<Case> {
         (
             "16-first-start",
             &["first start", "range value"],
-            "first start 2^48; no value read can then be right",
+            "first start 2^55; no value read can then be right",
             small(|file| file.first_start(0, LIMIT)),
         ),
         (
             "16-first-ordinal",
             &["first ordinal", "ordinal value"],
-            "first ordinal 2^48; the ordinal read is then beyond too",
+            "first ordinal 2^55; the ordinal read is then beyond too",
             small(|file| file.first_ord(0, LIMIT)),
         ),
         (
             "16-range-value",
             &["range value"],
-            "block 0 ends at 2^48",
+            "block 0 ends at 2^55",
             small(|file| file.first_start(0, LIMIT - 1)),
         ),
         (
             "16-ordinal-value",
             &["ordinal value"],
-            "block 1 has ordinal 2^48",
+            "block 1 has ordinal 2^55",
             small(|file| file.first_ord(0, LIMIT - 1)),
         ),
         (
@@ -412,7 +412,7 @@ fn more() -> Vec<Case> {
         (
             "16-last-ordinal",
             &["first ordinal"],
-            "a last group of one block with ordinal 2^48",
+            "a last group of one block with ordinal 2^55",
             two_groups(|file| file.first_ord(1, LIMIT)),
         ),
     ]

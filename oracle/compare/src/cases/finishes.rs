@@ -1,7 +1,7 @@
 //! Finishes of 258 to 65,534 blocks.
 
 use model::areas::{Areas, Entry};
-use model::blocks::{by_rule, random, touching};
+use model::blocks::{by_rule, most_bits, random, touching};
 use model::numbers::Numbers;
 use model::rust::Block;
 use model::settings::{LIMIT, MOST_BLOCKS, STRIDE};
@@ -51,19 +51,17 @@ pub fn run(tally: &mut Tally) {
     }
 }
 
-/// Short steps by chance; long ones by the rule; or numbers up to 2^48 - 1.
+/// Short steps by chance; long ones by the rule; or numbers up to the limit.
 fn blocks(rng: &mut Numbers, n: usize, shape: usize) -> Vec<Block> {
     let (count, top) = (n as u64, LIMIT - 1);
-    let bits = u64::from(46 - count.ilog2());
+    let bits = most_bits(count);
     match shape {
         0 => {
             let (length_bits, step_bits) = (rng.within(0, bits), rng.within(0, bits));
             random(rng, count, length_bits, step_bits, 40, 40)
         }
         1 => {
-            // 15 bits, shifted, and so many of them
-            let most = (33 - u64::from(count.ilog2())).min(23);
-            let (j, k) = (rng.below(most), rng.below(most));
+            let (j, k) = (rng.below(23), rng.below(23));
             by_rule(rng.below(4_000_000) * 529 + 23 * j + k, count)
         }
         _ => {

@@ -1,15 +1,15 @@
 //! Files that keep the rules and that the writer wouldn't write.
 
-use model::blocks::{random, touching};
-use model::files::{File as Parts, rising};
-use model::foreign::{self, Group, group, near};
+use model::blocks::{most_bits, random, touching};
+use model::files::{File as Parts, rising, short_keys};
+use model::foreign::{self, Group, WIDES, group, near};
 use model::numbers::Numbers;
 use model::rust::Block;
 use model::settings::{LIMIT, WIDEST};
 use model::version::{VERSIONS, Version};
 
 use super::lookups;
-use crate::calls::opened;
+use crate::calls::opened::{self, File};
 use crate::tally::Tally;
 
 /// Files of up to 128 blocks are the same in all versions: version 4 gets fewer of them.
@@ -18,6 +18,7 @@ pub fn run(tally: &mut Tally) {
         widths(tally, version);
         wide(tally, version);
         ends(tally, version);
+        each_bit(tally, version);
         slopes(tally, version, version.pick(3_000, 1_000));
         gaps(tally, version, version.pick(300, 200));
         overlaps(tally, version);
@@ -46,7 +47,11 @@ fn open(
 
 /// Blocks whose distances from these slopes fit these widths: up to 2^(width - 4) more in each step.
 fn near_slopes(rng: &mut Numbers, count: usize, slopes: [u32; 2], widths: [u8; 2]) -> Vec<Block> {
-    let [range, ord] = widths.map(|width| u64::from(width).saturating_sub(11).min(38));
+    let [range, ord] = widths.map(|width| {
+        u64::from(width)
+            .saturating_sub(11)
+            .min(most_bits(count as u64))
+    });
     let lengths: Vec<u64> = (0..count)
         .map(|_| u64::from(slopes[0]) + rng.bits(range))
         .collect();
@@ -144,24 +149,61 @@ fn ends(tally: &mut Tally, version: Version) {
             let keys = rising(&mut rng, n as u64, 4);
             let store = foreign::store(&groups, rng.bytes(end as u64));
             let file = opened::open(tally, version, &Parts::new(&keys, &store).bytes());
-            assert_eq!(file.opening().blocks, blocks);
-            for (id, block) in (0..).zip(&blocks) {
-                file.id(tally, id);
-                for ord in [block.ord.saturating_sub(1), block.ord, block.ord + 1] {
-                    file.ord(tally, ord);
+            every(tally, &file, &blocks);
+        }
+    }
+}
+
+/// Fields of the widest width from each bit of a byte on, of ranges or of ordinals, the last ones at the end of the address bytes: every
+/// id, and the ordinals around every block's.
+fn each_bit(tally: &mut Tally, version: Version) {
+    tally.section_of(
+        version,
+        "foreign: fields of 56 bits from each bit of a byte on, every id and every ordinal",
+    );
+    let full = version.group_len();
+    let mut rng = Numbers::from_seed(119);
+    let short = (2..=25).step_by(version.pick(1, 2));
+    for n in short.chain([full - 1, full, full + 1, 2 * full]) {
+        for wide in WIDES {
+            for slope in [u32::MAX, 0, rng.next() as u32] {
+                let blocks = wide.blocks(&mut rng, n);
+                let mut groups = Vec::new();
+                let mut offset = 0;
+                for part in blocks.chunks(full) {
+                    let mut next = wide.group(part, offset);
+                    *wide.slope(&mut next) = slope;
+                    offset += next.length();
+                    groups.push(next);
                 }
+                let keys = short_keys(n);
+                let store = foreign::store(&groups, rng.bytes(offset as u64));
+                let file = opened::open(tally, version, &Parts::new(&keys, &store).bytes());
+                every(tally, &file, &blocks);
             }
         }
     }
 }
 
-/// Any slopes, few blocks, numbers up to 2^48 - 1.
+/// Every id, and the ordinals around every block's, in a file that must hold these blocks.
+fn every(tally: &mut Tally, file: &File, blocks: &[Block]) {
+    assert_eq!(file.opening().blocks, blocks);
+    for (id, block) in (0..).zip(blocks) {
+        file.id(tally, id);
+        for ord in [block.ord.saturating_sub(1), block.ord, block.ord + 1] {
+            file.ord(tally, ord);
+        }
+    }
+}
+
+/// Any slopes, few blocks, numbers up to the limit.
 fn slopes(tally: &mut Tally, version: Version, count: u64) {
     tally.section_of(version, "foreign: any slopes, few blocks");
     let mut rng = Numbers::from_seed(114);
     for round in 0..count {
         let n = rng.within(2, 7);
-        let (length_bits, step_bits) = (rng.within(0, 44), rng.within(0, 44));
+        let most = most_bits(n);
+        let (length_bits, step_bits) = (rng.within(0, most), rng.within(0, most));
         let mut blocks = random(&mut rng, n, length_bits, step_bits, 20, 40);
         if rng.one_in(4) {
             let last = blocks[blocks.len() - 1];
@@ -189,7 +231,8 @@ fn gaps(tally: &mut Tally, version: Version, count: u64) {
             &[129, 130, 140, 256, 257, 300, 385],
             &[257, 258, 270, 385, 512, 513, 769],
         ));
-        let (length_bits, step_bits) = (rng.pick(&[0, 2, 5, 20, 38]), rng.pick(&[0, 1, 5, 38]));
+        let most = most_bits(n);
+        let (length_bits, step_bits) = (rng.pick(&[0, 2, 5, 20, most]), rng.pick(&[0, 1, 5, most]));
         let blocks = random(&mut rng, n, length_bits, step_bits, 20, 20);
         let parts = blocks.chunks(version.group_len());
         let mut parts: Vec<(usize, &[Block])> = parts.enumerate().collect();

@@ -7,7 +7,7 @@ use model::faults::{other_versions, others};
 use model::files::{File as Parts, rising, smallest, two_group_file, worked_file};
 use model::numbers::Numbers;
 use model::opening::Opened;
-use model::settings::{GROUP_RECORD, OPENED_LEN};
+use model::settings::{GROUP_RECORD, LIMIT, OPENED_LEN};
 use model::version::{NO_VERSIONS, VERSIONS, Version};
 
 use super::lookups;
@@ -37,10 +37,10 @@ fn all(tally: &mut Tally, file: &File, patterns: &[Pattern]) {
 /// Ordinals with other numbers of terms in the record.
 fn ordinals(tally: &mut Tally, file: &mut File) {
     let first = Opened::of(file.numbers()).first_ord(&file.bytes);
-    for terms in [0, 5, 10, first.unwrap_or(1), 1 << 55, u64::MAX] {
+    for terms in [0, 5, 10, first.unwrap_or(1), LIMIT, u64::MAX] {
         file.set_terms(terms);
         let near = first.map_or([0, 1, 2], beside);
-        for ord in [0, 5, 9, 1 << 47]
+        for ord in [0, 5, 9, LIMIT / 2]
             .into_iter()
             .chain(near)
             .chain(beside(terms))
@@ -195,7 +195,7 @@ fn record(rng: &mut Numbers, version: Version, len: u64, own: Opened) -> Opened 
         2 => rng.within(1, 300),
         _ => rng.pick(&[0, 1, 65_536, 65_537, u64::MAX]),
     };
-    let terms = rng.pick(&[u64::MAX, u64::MAX, own.terms, 6, 1, 0, 1 << 55]);
+    let terms = rng.pick(&[u64::MAX, u64::MAX, own.terms, 6, 1, 0, LIMIT]);
     // seldom another version: what else is wrong is seen with the right one
     let version = match rng.below(12) {
         0 => version.other().number(),

@@ -3,7 +3,7 @@
 use model::blocks::block;
 use model::numbers::Numbers;
 use model::rust::Block;
-use model::settings::{LIMIT, STRIDE};
+use model::settings::{LIMIT, LIMIT_BITS, STRIDE};
 use model::version::{V3, V4};
 
 use crate::calls::builder::Builder;
@@ -81,7 +81,7 @@ fn key(rng: &mut Numbers, last: &[u8]) -> Vec<u8> {
 fn add(rng: &mut Numbers, builder: &Builder) -> Step {
     let last = builder.areas.view(builder.areas.n).last;
     let (before, separator) = last.unwrap_or((block(0, rng.bits(30), 0), vec![]));
-    let bits = rng.pick(&[0, 3, 10, 30, 47, 48]);
+    let bits = rng.pick(&[0, 3, 10, 30, 48, LIMIT_BITS - 1, LIMIT_BITS]);
     let start = before.end.wrapping_add(if rng.one_in(16) {
         rng.pick(&[1, u64::MAX])
     } else {
@@ -91,7 +91,7 @@ fn add(rng: &mut Numbers, builder: &Builder) -> Step {
     if rng.one_in(16) {
         end = rng.pick(&[start.wrapping_sub(1), LIMIT - 1, LIMIT, u64::MAX]);
     }
-    let bits = rng.pick(&[0, 1, 4, 20, 47]);
+    let bits = rng.pick(&[0, 1, 4, 20, 48, LIMIT_BITS - 1]);
     let mut ord = before
         .ord
         .saturating_add(u64::from(!rng.one_in(16)) + rng.bits(bits));

@@ -66,7 +66,7 @@ pub fn some(tally: &mut Tally, file: &File) {
         file.separator(tally, id);
     }
     let around = beside(file.terms());
-    for ord in [0, 5, 1 << 47, u64::MAX].into_iter().chain(around) {
+    for ord in [0, 5, LIMIT / 2, u64::MAX].into_iter().chain(around) {
         file.ord(tally, ord);
     }
     let keys = [&b""[..], b"b", b"c\xff", b"\xff\xff\xff"];

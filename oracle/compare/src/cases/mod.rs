@@ -11,6 +11,7 @@ mod free;
 mod fronts;
 pub mod keys;
 mod late;
+mod limit;
 mod listings;
 mod lists;
 mod lookups;
@@ -40,4 +41,5 @@ pub const TOPICS: &[(&str, fn(&mut Tally))] = &[
     ("canonical", canonical::run),
     ("terms", terms::run),
     ("versions", versions::run),
+    ("limit", limit::run),
 ];

@@ -1,7 +1,7 @@
 //! Builders of the named sizes: added one by one, finished, opened and looked up.
 
 use model::areas::{Areas, by_rule};
-use model::blocks::{block, random, touching};
+use model::blocks::{block, most_bits, random, touching};
 use model::numbers::Numbers;
 use model::rust::Block;
 use model::settings::{LIMIT, LONGEST_KEY, MOST_BLOCKS, STRIDE};
@@ -68,7 +68,7 @@ fn named(tally: &mut Tally, version: Version, rounds: u64) {
     let mut rng = Numbers::from_seed(107);
     for n in [2, 3, 127, 128, 129, 255, 256, 257, 511, 512, 513] {
         for round in 0..rounds {
-            let bits = rng.pick(&[0, 4, 16, 38]);
+            let bits = rng.pick(&[0, 4, 16, most_bits(n)]);
             let blocks = random(&mut rng, n, bits, bits, 30, 30);
             let mut names = match round % 3 {
                 0 => keys(&mut rng, n, 0, 3),
@@ -94,7 +94,7 @@ fn long_keys(tally: &mut Tally, version: Version, rng: &mut Numbers, n: u64) {
     build(tally, version, rng, &blocks, &names);
 }
 
-/// Numbers up to 2^48 - 1.
+/// Numbers up to the limit.
 fn top(tally: &mut Tally, version: Version, rng: &mut Numbers, n: u64) {
     let (top, count) = (LIMIT - 1, n as usize);
     for at in [0, count - 1] {

@@ -1,9 +1,9 @@
 //! Slices of blocks.
 
-use model::blocks::{block, by_rule, random, touching};
+use model::blocks::{START_BITS, block, by_rule, most_bits, random, touching};
 use model::numbers::Numbers;
 use model::rust::Block;
-use model::settings::{LIMIT, MOST_BLOCKS};
+use model::settings::{LIMIT, LIMIT_BITS, MOST_BLOCKS};
 use model::version::{VERSIONS, Version};
 
 use crate::calls::stores::store;
@@ -48,7 +48,7 @@ fn powers(tally: &mut Tally, version: Version) {
         "stores: lengths and steps around every power of two",
     );
     let mut values = vec![0];
-    for k in 0..48 {
+    for k in 0..LIMIT_BITS {
         let power: u64 = 1 << k;
         values.extend([power - 1, power, power + 1]);
     }
@@ -87,8 +87,10 @@ fn random_ones(tally: &mut Tally, version: Version) {
     let mut rng = Numbers::from_seed(105);
     for _ in 0..version.pick(100_000, 30_000) {
         let n = rng.within(1, 20);
-        let (length_bits, step_bits) = (rng.within(0, 43), rng.within(0, 42));
-        let (start_bits, ord_bits) = (rng.pick(&[0, 8, 20, 46]), rng.pick(&[0, 8, 20, 46]));
+        let most = most_bits(20);
+        let (length_bits, step_bits) = (rng.within(0, most), rng.within(0, most));
+        let starts = [0, 8, 20, START_BITS];
+        let (start_bits, ord_bits) = (rng.pick(&starts), rng.pick(&starts));
         let mut blocks = random(&mut rng, n, length_bits, step_bits, start_bits, ord_bits);
         let mut room = 0;
         match rng.below(12) {
@@ -135,7 +137,7 @@ fn sizes(tally: &mut Tally, version: Version) {
         511, 512, 513, 768, 769,
     ] {
         for round in 0..60 {
-            let bits = 46 - u64::from(u64::ilog2(n));
+            let bits = most_bits(n);
             let (length_bits, step_bits) = (rng.within(0, bits), rng.within(0, bits));
             let blocks = match round % 3 {
                 0 => by_rule(
@@ -150,7 +152,7 @@ fn sizes(tally: &mut Tally, version: Version) {
     }
 }
 
-/// Blocks that end at 2^48 - 1, with the greatest steps that fit.
+/// Blocks that end just below the limit, with the greatest steps that fit.
 fn at_the_top(tally: &mut Tally, version: Version, n: u64) {
     let top = LIMIT - 1;
     let count = n as usize;
@@ -174,7 +176,7 @@ fn at_the_top(tally: &mut Tally, version: Version, n: u64) {
 /// 65,536 blocks, and more; rows 3 to 5 in the last block come before 7.
 fn most(tally: &mut Tally, version: Version) {
     tally.section_of(version, "stores: 65,535 to 65,537 blocks");
-    for seed in [7, 529 * 3 + 23 * 5 + 9, 529 * 1000 + 23 * 16 + 16] {
+    for seed in [7, 529 * 3 + 23 * 5 + 9, 529 * 1000 + 23 * 22 + 22] {
         let blocks = by_rule(seed, MOST_BLOCKS as u64 + 2);
         for n in MOST_BLOCKS - 1..=MOST_BLOCKS + 2 {
             store(tally, version, &blocks[..n], &[0, -1, 1]);

@@ -4,7 +4,7 @@ use std::collections::BTreeSet;
 
 use model::around::{self, beside};
 use model::automaton::Table;
-use model::blocks::{random, touching};
+use model::blocks::{FAR, random, touching};
 use model::faults::faults;
 use model::files::{
     File as Parts, keys_of_one_byte, rising, smallest, two_group_file, worked_file,
@@ -96,16 +96,10 @@ fn powers(tally: &mut Tally, version: Version) {
     tally.section_of(version, "terms: around each power of two");
     let mut all: BTreeSet<u64> = (0..64).flat_map(|k| beside(1 << k)).collect();
     all.extend([u64::MAX - 1, u64::MAX]);
-    for last in [
-        1,
-        255,
-        1 << 16,
-        (1 << 32) - 1,
-        1 << 32,
-        1 << 47,
-        LIMIT - 2,
-        LIMIT - 1,
-    ] {
+    for last in [1, 255, 1 << 16, (1 << 32) - 1, 1 << 32, LIMIT - 2]
+        .into_iter()
+        .chain(FAR)
+    {
         let list = touching(0, &[3, 4], last / 2, &[last - last / 2]);
         let mut file = open(tally, version, &list);
         for &terms in &all {
@@ -226,7 +220,7 @@ fn records(tally: &mut Tally, version: Version) {
         let mut file = opened::open(tally, version, &parts.bytes());
         let (n, len) = (file.n(), file.bytes.len() as u64);
         let last = file.opening().last_ord().expect("a file that opens");
-        let far = [1, n - 1, n, n + 1, len, LIMIT, 1 << 63];
+        let far = [1, n - 1, n, n + 1, len, 1 << 63];
         for terms in around::terms(last).into_iter().chain(far) {
             file.set_terms(terms);
             lookups::some(tally, &file);

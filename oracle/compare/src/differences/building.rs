@@ -2,7 +2,7 @@
 
 use model::blocks::{block, touching};
 use model::rust::{self, Block, Store};
-use model::settings::LIMIT;
+use model::settings::{GROUP_RECORD, LIMIT};
 use model::version::V3;
 use tantivy_fst::Automaton;
 use tantivy_sstable::access;
@@ -20,13 +20,15 @@ pub fn writes(blocks: &[Block]) -> String {
         return "panics".to_string();
     };
     let store = Store::open(V3, &bytes);
-    let other = (0..blocks.len()).find(|&id| store.get(id as u64) != Some(blocks[id]));
-    match other {
-        None => "writes a store that gives them back".to_string(),
-        Some(id) => format!(
-            "writes a store that gives id {id} as {:?}",
-            store.get(id as u64)
-        ),
+    let gives = |id: usize| quietly(|| store.get(id as u64));
+    let other = (0..blocks.len()).find(|&id| gives(id) != Some(Some(blocks[id])));
+    match other.map(|id| (id, gives(id))) {
+        None => BACK.to_string(),
+        Some((id, None)) => {
+            let width = bytes[8 + GROUP_RECORD * (id / V3.group_len()) + 33];
+            format!("writes a store of range width {width}, and panics when id {id} is read")
+        }
+        Some((id, Some(block))) => format!("writes a store that gives id {id} as {block:?}"),
     }
 }
 
@@ -98,6 +100,7 @@ fn numbers() -> Vec<Difference> {
     let top = [block(0, LIMIT, 0)];
     let ord = [block(0, 0, LIMIT)];
     let wraps = if overflow_checks() { "panics" } else { BACK };
+    let wide = "writes a store of range width 57, and panics when id 0 is read";
     vec![
         difference(
             "D22",
@@ -107,13 +110,13 @@ fn numbers() -> Vec<Difference> {
         ),
         difference(
             "D23",
-            "the slice 0..2^48",
-            (writes(&top), BACK),
+            "the slice 0..2^55",
+            (writes(&top), wide),
             (store(&top), "gets 3"),
         ),
         difference(
             "D24",
-            "a slice from ordinal 2^48 on",
+            "a slice from ordinal 2^55 on",
             (writes(&ord), BACK),
             (store(&ord), "gets 3"),
         ),

@@ -54,25 +54,25 @@ fn below_zero() -> Vec<Difference> {
     ]
 }
 
-/// A field that takes a value to 2^48.
+/// A field that takes a value to the limit.
 fn at_the_limit() -> Vec<Difference> {
     let end = smallest()
         .with(|file| file.first_start(0, LIMIT - 1))
         .bytes();
     let ord = smallest().with(|file| file.first_ord(0, LIMIT - 1)).bytes();
-    let of_end = "opens it and gives id 0 as 281474976710655..281474976710656 from 0";
-    let of_ord = "opens it and gives id 1 as 1..2 from 281474976710656";
+    let of_end = format!("opens it and gives id 0 as {}..{LIMIT} from 0", LIMIT - 1);
+    let of_ord = format!("opens it and gives id 1 as 1..2 from {LIMIT}");
     vec![
         difference(
             "D39",
-            "an end of 2^48 through a field",
-            (gives(&end, 0), of_end),
+            "an end of 2^55 through a field",
+            (gives(&end, 0), &of_end),
             (number(&end), "gets 16"),
         ),
         difference(
             "D40",
-            "an ordinal of 2^48 through a field",
-            (gives(&ord, 1), of_ord),
+            "an ordinal of 2^55 through a field",
+            (gives(&ord, 1), &of_ord),
             (number(&ord), "gets 16"),
         ),
     ]
@@ -118,8 +118,8 @@ fn single_adds() -> Vec<Difference> {
     };
     vec![
         one("D43", "an add of 1..0", block(1, 0, 0)),
-        one("D44", "an add of 0..2^48", block(0, LIMIT, 0)),
-        one("D45", "an add from ordinal 2^48 on", block(0, 0, LIMIT)),
+        one("D44", "an add of 0..2^55", block(0, LIMIT, 0)),
+        one("D45", "an add from ordinal 2^55 on", block(0, 0, LIMIT)),
     ]
 }
 

@@ -231,19 +231,19 @@ fn fields() -> Vec<Difference> {
 fn firsts() -> Vec<Difference> {
     let top = smallest().with(|file| file.first_start(0, LIMIT)).bytes();
     let ord = smallest().with(|file| file.first_ord(0, LIMIT)).bytes();
-    let start = "opens it and gives id 0 as 281474976710656..281474976710657 from 0";
-    let from = "opens it and gives id 0 as 0..1 from 281474976710656";
+    let start = format!("opens it and gives id 0 as {LIMIT}..{} from 0", LIMIT + 1);
+    let from = format!("opens it and gives id 0 as 0..1 from {LIMIT}");
     vec![
         difference(
             "D16",
-            "a first start of 2^48",
-            (gives(&top, 0), start),
+            "a first start of 2^55",
+            (gives(&top, 0), &start),
             (number(&top), "gets 16"),
         ),
         difference(
             "D17",
-            "a first ordinal of 2^48",
-            (gives(&ord, 0), from),
+            "a first ordinal of 2^55",
+            (gives(&ord, 0), &from),
             (number(&ord), "gets 16"),
         ),
     ]

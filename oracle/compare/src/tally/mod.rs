@@ -187,6 +187,14 @@ impl Tally {
         }
     }
 
+    /// The answer of the last call is held to more than the range that it was counted with.
+    pub fn held(&mut self, call: &'static Call, right: bool, what: impl FnOnce() -> String) {
+        if !right {
+            self.count(call).failed += 1;
+            self.failure(call.name, what);
+        }
+    }
+
     /// A listed difference that was shown, or not.
     pub fn difference(&mut self, right: bool, what: impl FnOnce() -> String) {
         if right {

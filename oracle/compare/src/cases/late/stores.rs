@@ -44,19 +44,19 @@ pub fn records(tally: &mut Tally, whole: &Whole) {
 /// Row 15, at the group's record.
 pub const GROUP_FAULTS: [Fault; 11] = [
     |parts, g| {
-        let [_, range] = widths(parts, g);
+        let [_, range] = parts.widths_of(g);
         parts.widths(g, 0, range)
     },
     |parts, g| {
-        let [ord, _] = widths(parts, g);
+        let [ord, _] = parts.widths_of(g);
         parts.widths(g, ord, 0)
     },
     |parts, g| {
-        let [_, range] = widths(parts, g);
+        let [_, range] = parts.widths_of(g);
         parts.widths(g, WIDEST + 1, range)
     },
     |parts, g| {
-        let [ord, _] = widths(parts, g);
+        let [ord, _] = parts.widths_of(g);
         parts.widths(g, ord, WIDEST + 1)
     },
     |parts, g| parts.widths(g, 255, 255),
@@ -67,12 +67,6 @@ pub const GROUP_FAULTS: [Fault; 11] = [
     |parts, g| parts.offset(g, u64::MAX),
     |parts, g| parts.offset(g, parts.addresses.len() as u64 - 1),
 ];
-
-/// The widths of ordinal and range.
-fn widths(parts: &Parts, g: usize) -> [u8; 2] {
-    let at = GROUP_RECORD * g + 32;
-    [parts.records[at], parts.records[at + 1]]
-}
 
 pub fn groups(tally: &mut Tally, whole: &Whole) {
     let places = whole.places(whole.groups());
