@@ -17,6 +17,20 @@ pub struct Group<'a> {
     pub ord_width: u8,
 }
 
+impl<'a> Group<'a> {
+    /// The group with these slopes, each with its width.
+    fn by(blocks: &'a [Block], offset: usize, range: (u32, u8), ord: (u32, u8)) -> Group<'a> {
+        Group {
+            blocks,
+            offset,
+            range_slope: range.0,
+            ord_slope: ord.0,
+            range_width: range.1,
+            ord_width: ord.1,
+        }
+    }
+}
+
 impl Group<'_> {
     fn record(&self) -> Vec<u8> {
         let mut bytes = Vec::new();
@@ -141,18 +155,11 @@ impl Wide {
 
     pub fn group(self, blocks: &[Block], offset: usize) -> Group<'_> {
         let (wide, narrow) = ((u32::MAX, WIDEST), (NARROW, 1));
-        let ((range_slope, range_width), (ord_slope, ord_width)) = match self {
+        let (range, ord) = match self {
             Wide::Range => (wide, narrow),
             Wide::Ordinal => (narrow, wide),
         };
-        Group {
-            blocks,
-            offset,
-            range_slope,
-            ord_slope,
-            range_width,
-            ord_width,
-        }
+        Group::by(blocks, offset, range, ord)
     }
 }
 
@@ -205,16 +212,9 @@ pub fn group<'a>(rng: &mut Numbers, blocks: &'a [Block], offset: usize, widest: 
         };
         (slope, (width.min(WIDEST.into()) as u8).max(least))
     };
-    let (range_slope, range_width) = slope_and_width(&range_points(blocks));
-    let (ord_slope, ord_width) = slope_and_width(&ord_points(blocks));
-    Group {
-        blocks,
-        offset,
-        range_slope,
-        ord_slope,
-        range_width,
-        ord_width,
-    }
+    let range = slope_and_width(&range_points(blocks));
+    let ord = slope_and_width(&ord_points(blocks));
+    Group::by(blocks, offset, range, ord)
 }
 
 /// A group with slopes near the mean, in few bits.
@@ -225,14 +225,7 @@ pub fn near<'a>(rng: &mut Numbers, blocks: &'a [Block], offset: usize) -> Group<
         let width = least_width(points, slope) + rng.below(2) as u8;
         (slope, width.min(WIDEST))
     };
-    let (range_slope, range_width) = slope_and_width(&range_points(blocks));
-    let (ord_slope, ord_width) = slope_and_width(&ord_points(blocks));
-    Group {
-        blocks,
-        offset,
-        range_slope,
-        ord_slope,
-        range_width,
-        ord_width,
-    }
+    let range = slope_and_width(&range_points(blocks));
+    let ord = slope_and_width(&ord_points(blocks));
+    Group::by(blocks, offset, range, ord)
 }
