@@ -1,5 +1,7 @@
 //! Marks and examples: every small automaton with every short interval, and larger ones by chance.
 
+mod examples;
+
 use model::automaton::{Interval, Table, room};
 use model::numbers::Numbers;
 use model::patterns::{beside, chain, drawn, flags, interval, many, order, ring, small};
@@ -14,6 +16,7 @@ pub fn run(tally: &mut Tally) {
     random(tally, 5_000);
     long(tally);
     refused(tally);
+    examples::run(tally);
 }
 
 /// Every interval between these keys, also those with no start and those whose start isn't below the end.
