@@ -222,7 +222,8 @@ uint32_t rosmarel_can_block_match(bool has_start, const uint8_t *start, size_t s
                                   size_t end_len, const uint8_t *automaton, size_t automaton_len,
                                   uint64_t *matches);
 
-/* Writes some such string to the front of out; its length is *len. Which one isn't said. */
+/* Writes the first such string to the front of out: the shortest, and of the shortest the lowest in byte order. Its length
+   is *len, at most that of the longer key and 64. The same keys and automaton give the same bytes on every bench. */
 uint32_t rosmarel_example(bool has_start, const uint8_t *start, size_t start_len, const uint8_t *end, size_t end_len,
                           const uint8_t *automaton, size_t automaton_len, uint8_t *out, size_t out_len,
                           uint64_t *len);

@@ -16,6 +16,7 @@ pub mod patterns;
 pub mod plot;
 pub mod readme;
 pub mod report;
+pub mod search;
 pub mod tables;
 pub mod words;
 

@@ -103,6 +103,25 @@ pub fn follow(rounds: usize) -> Vec<u8> {
     })
 }
 
+/// `a`, m so many times or a multiple of that, then `!`; or `b`, as many m's, then `~`. Besides these two bytes no byte but m leads
+/// on from an m, `!` below it and `~` above it.
+pub fn two_rings(rounds: usize) -> Vec<u8> {
+    let (yes, lost) = (2 * rounds + 1, 2 * rounds + 2);
+    table(&flags(lost + 1, yes), |state, byte| {
+        let of_b = state > rounds;
+        let first = if of_b { rounds + 1 } else { 1 };
+        match (state, byte) {
+            (0, b'a') => 1,
+            (0, b'b') => rounds + 1,
+            _ if state == 0 || state >= yes => lost,
+            (_, b'm') => first + (state - first + 1) % rounds,
+            (_, b'!') if state == first && !of_b => yes,
+            (_, b'~') if state == first && of_b => yes,
+            _ => lost,
+        }
+    })
+}
+
 /// One of seven keys of 8 bytes, filled up to 64 states with states that aren't reached.
 pub fn words_64(words: &[&[u8]]) -> Vec<u8> {
     let mut fronts: Vec<&[u8]> = vec![b""];
@@ -189,6 +208,16 @@ impl<'a> Table<'a> {
         let (next, _) = next.as_chunks();
         let live = live(flags, next);
         Some(Table { flags, next, live })
+    }
+
+    /// The states from which an accepting one can be reached, a bit for each.
+    pub fn live(&self) -> u64 {
+        self.live
+    }
+
+    /// The next states of a state, one for each byte.
+    pub fn row(&self, state: u8) -> &'a [u8; 256] {
+        &self.next[usize::from(state)]
     }
 
     pub fn accepts(&self, key: &[u8]) -> bool {

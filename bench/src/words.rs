@@ -61,6 +61,12 @@ pub const METHOD: &str = "\
   the longest keys, for which one listing takes the Rust a tenth of a second and more.
 - A pattern doesn't end early (\"far\") if in a third of the blocks or more the Rust's search reads 100 bytes of a key or more from
   states that can match. There the bar is 0.1, elsewhere 0.5.
+- Example: of 64 random blocks those that have one. Both sides write into a buffer that is there and has the room.
+- Example, own keys: for \"none\" and \"late\" the start is a and then m's, the end b and then m's. The pattern reads the m's of either, in
+  one state or in a ring of 30; of all other bytes `!` alone leads on after a and `~` alone after b, to acceptance. As no higher byte
+  leads on from the start's m's, and no lower one from the end's, both keys are read to their ends. The start's last byte is z where
+  nothing may follow it, and the end's is 7F where `~` may stand in its place. For \"ties\", with any length (64), and \"at once\",
+  with dense (64), the start is m's alone, and the end begins and ends with z.
 ";
 
 pub const PATTERNS: &str = "

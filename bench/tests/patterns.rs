@@ -14,6 +14,9 @@ fn patterns_accept_what_they_say() {
     assert!(accepts(&follow_few(), b"ab12m!") && !accepts(&follow_few(), b"ab12m"));
     assert!(accepts(&follow(2), b"a00000002mm!") && !accepts(&follow(2), b"a00000002m!"));
     assert!(!accepts(&follow(2), b"a00000003mm!") && follow(54)[0] == 64);
+    assert!(accepts(&two_rings(2), b"amm!") && accepts(&two_rings(2), b"b~"));
+    assert!(!accepts(&two_rings(2), b"am!") && !accepts(&two_rings(2), b"a~"));
+    assert!(!accepts(&two_rings(2), b"b!") && two_rings(30)[0] == 63);
     let dense = dense_64();
     let each_state = |row: &[u8]| (0..64).all(|state| row.contains(&state));
     assert!(dense[0] == 64 && dense[65..].chunks(256).all(each_state));

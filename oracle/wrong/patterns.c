@@ -93,9 +93,21 @@ uint32_t rosmarel_can_block_match(bool has_start, const uint8_t *start, size_t s
     return no;
 }
 
+/* The string of the plain search, where the right one's number is 0 or 25. */
+static uint32_t example_by_search(bool has_start, const uint8_t *start, size_t start_len, const uint8_t *end, size_t end_len,
+                                  const uint8_t *automaton, size_t automaton_len, uint8_t *out, size_t out_len, uint64_t *len) {
+    uint8_t *scratch = malloc(out_len + 1);
+    uint32_t no = right_example(has_start, start, start_len, end, end_len, automaton, automaton_len, scratch, out_len, len);
+    free(scratch);
+    if (no != 0 && no != 25) return no;
+    return own_example(has_start, start, start_len, end, end_len, automaton, out, out_len, len);
+}
+
 uint32_t rosmarel_example(bool has_start, const uint8_t *start, size_t start_len, const uint8_t *end, size_t end_len,
                           const uint8_t *automaton, size_t automaton_len, uint8_t *out, size_t out_len,
                           uint64_t *len) {
+    if (own_examples())
+        return example_by_search(has_start, start, start_len, end, end_len, automaton, automaton_len, out, out_len, len);
     uint64_t before = *len;
     uint32_t no = right_example(has_start, start, start_len, end, end_len, automaton, automaton_len, out, out_len, len);
     if (fault("example_short_66") && no == 0 && *len == 66) --*len;
@@ -103,7 +115,7 @@ uint32_t rosmarel_example(bool has_start, const uint8_t *start, size_t start_len
     if (fault("example_other_row") && no == 24) no = 25;
     if (fault("example_refusal_writes") && no == 25 && out_len > 0) out[0] ^= 1;
     if (fault("example_kept") && no == 25) *len = before;
-    if (fault("example_start_let_in") && no == 0 && has_start && accepts(automaton, start, start_len))
+    if (fault("example_start_let_in") && no == 0 && has_start && start_len <= *len && accepts(automaton, start, start_len))
         memcpy(out, start, *len = start_len);
     if (fault("example_reads_after_out")) touch(out + out_len);
     if (fault("example_writes_after_out") && no == 0) out[out_len] = 0;

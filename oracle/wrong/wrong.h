@@ -88,6 +88,12 @@ const uint8_t *own_separator(const uint8_t *index, const uint64_t *opened, uint6
 /* batches.c: whether the record can't be one of so many bytes. */
 bool record_bad(const uint64_t *opened, size_t index_len);
 
+/* examples.c: an example by a plain search, and 0, or 25 where there is none; rows 21 to 24 are kept. */
+uint32_t own_example(bool has_start, const uint8_t *start, size_t start_len, const uint8_t *end, size_t end_len,
+                     const uint8_t *automaton, uint8_t *out, size_t out_len, uint64_t *len);
+/* Whether the plain search is to be used in place of the right one. */
+bool own_examples(void);
+
 /* limits.c: whether calls are made with limits of their own, and what they give then. */
 bool limited_store(void);
 uint32_t store_to_limit(uint64_t version, const rosmarel_block_addr *blocks, size_t blocks_len, uint8_t *out, size_t out_len,

@@ -622,14 +622,52 @@ static void batches(void) {
 
 /* ---- patterns */
 
-/* Accepts the one string of this one byte. */
-static part one_byte(uint8_t byte) {
-    part table = filled(0, 1 + 3 * 257);
-    put(table, 0, 3, 1);
-    put(table, 2, 1, 1);
-    for (size_t state = 0; state < 3; state++)
-        for (size_t b = 0; b < 256; b++) put(table, 4 + 256 * state + b, state == 0 && b == byte ? 1 : 2, 1);
+enum { MOST_STATES = 64 };
+
+/* A table with these flags and next states. */
+static part table_of(size_t m, const uint8_t flags[MOST_STATES], uint8_t next[MOST_STATES][256]) {
+    part table = filled((uint8_t)m, 1 + 257 * m);
+    for (size_t i = 0; i < m; i++) put(table, 1 + i, flags[i], 1);
+    for (size_t i = 0; i < 256 * m; i++) put(table, 1 + m + i, next[i / 256][i % 256], 1);
     return table;
+}
+
+/* Accepts these strings alone, between which stands a blank. State 1 is for all that can't become one of them. */
+static part words_of(const char *words, size_t len) {
+    uint8_t flags[MOST_STATES] = {0}, next[MOST_STATES][256], m = 2, state = 0;
+    memset(next, 1, sizeof next);
+    for (size_t i = 0; i < len; i++) {
+        if (words[i] == ' ') {
+            flags[state] = 1, state = 0;
+        } else {
+            uint8_t *to = &next[state][(uint8_t)words[i]];
+            if (*to == 1) *to = m++;
+            state = *to;
+        }
+    }
+    flags[state] = 1;
+    return table_of(m, flags, next);
+}
+
+#define WORDS(words) words_of(words, sizeof(words) - 1)
+
+static part one_byte(uint8_t byte) { return words_of((const char *)&byte, 1); }
+
+/* Accepts any number of these bytes, and then the last one. */
+static part many(const char *bytes, uint8_t last) {
+    uint8_t flags[MOST_STATES] = {0, 1}, next[MOST_STATES][256];
+    memset(next, 2, sizeof next);
+    for (; *bytes != 0; bytes++) next[0][(uint8_t)*bytes] = 0;
+    next[0][last] = 1;
+    return table_of(3, flags, next);
+}
+
+/* Accepts what is k bytes longer than a multiple of 64: 64 states on a ring. */
+static part ring(size_t k) {
+    uint8_t flags[MOST_STATES] = {0}, next[MOST_STATES][256];
+    flags[k] = 1;
+    for (size_t i = 0; i < MOST_STATES; i++) memset(next[i], (int)((i + 1) % MOST_STATES), 256);
+    return table_of(MOST_STATES, flags, next);
 }
 
 static uint32_t list(part index, const uint64_t opened[9], part table, part marks, uint64_t *count) {
@@ -684,6 +722,93 @@ static void examples(void) {
     put(table, 1, 2, 1);
     WANT(example(true, "b", "d", table, out, &len) == ROSMAREL_FLAG);
     drop(table), drop(out), drop(tight), drop(no_states), drop(empty);
+}
+
+/* Whether the example is this one, whatever the output held before: written at its front, and nothing after it. The output is as
+   long as it has to be. The table is dropped. */
+static bool shows(bool has_start, const char *start, const char *end, part table, const char *string, size_t string_len) {
+    size_t longer = strlen(start) > strlen(end) ? strlen(start) : strlen(end);
+    bool same = true;
+    for (int filling = 0; filling < 256; filling += 85) {
+        part out = filled((uint8_t)filling, longer + 64);
+        uint64_t len;
+        uint32_t no = example(has_start, start, end, table, out, &len);
+        memcpy(out.kept, string, string_len);
+        same = same && no == ROSMAREL_OK && len == string_len && stays(out);
+        drop(out);
+    }
+    drop(table);
+    return same;
+}
+
+#define FIRST(end, table, string) shows(false, "", end, table, string, sizeof(string) - 1)
+#define FIRST_ABOVE(start, end, table, string) shows(true, start, end, table, string, sizeof(string) - 1)
+
+#define NUL_8 "\0\0\0\0\0\0\0\0"
+#define NUL_61 NUL_8 NUL_8 NUL_8 NUL_8 NUL_8 NUL_8 NUL_8 "\0\0\0\0\0"
+#define FF_8 "\377\377\377\377\377\377\377\377"
+
+/* The shortest string of the interval, and of the shortest the lowest. */
+static void first_examples(void) {
+    /* the shortest isn't the lowest */
+    WANT(FIRST("c", WORDS("aa b"), "b"));
+    WANT(FIRST_ABOVE("a", "c", WORDS("ba bac aba"), "ba"));
+    WANT(FIRST_ABOVE("a", "d", ring(1), "b"));
+    WANT(FIRST_ABOVE("abc", "c", WORDS("abcd acd"), "acd"));
+    /* along the start: of two places the later one is lower */
+    WANT(FIRST_ABOVE("abc", "c", WORDS("abd acd bcd"), "abd"));
+    WANT(FIRST_ABOVE("abc", "c", WORDS("acd bcd"), "acd"));
+    WANT(FIRST_ABOVE("abc", "ac", WORDS("abd abe"), "abd"));
+    WANT(FIRST_ABOVE("mmmmmm", "z", ring(6), "mmmmmn"));
+    WANT(FIRST_ABOVE("mmm\377\377\377", "z", ring(6), "mmn\0\0\0"));
+    WANT(FIRST_ABOVE("mmmmmm", "z", ring(7), "mmmmmm\0"));
+    WANT(FIRST_ABOVE("bb", "d", WORDS("bb bba"), "bba"));
+    /* the start, then between the two, then the end */
+    WANT(FIRST_ABOVE("ax", "cx", WORDS("ay b! ca"), "ay"));
+    WANT(FIRST_ABOVE("ax", "cx", WORDS("ax b! ca"), "b!"));
+    WANT(FIRST_ABOVE("ax", "cx", WORDS("ax ca cx"), "ca"));
+    WANT(FIRST_ABOVE("ax", "cx", WORDS("ayy b ca"), "b"));
+    WANT(FIRST_ABOVE("ax", "cx", WORDS("ayy bbb ca"), "ca"));
+    WANT(FIRST_ABOVE("a\377\377", "c\1", ring(2), "b\0"));
+    WANT(FIRST_ABOVE("a\377\377", "b\1", ring(2), "b\0"));
+    /* along the end: of two places the earlier one is lower, and what leaves it lies below the end's own bytes */
+    WANT(FIRST("bb", WORDS("ac ba"), "ac"));
+    WANT(FIRST("bbb", WORDS("acc bac bba"), "acc"));
+    WANT(FIRST("bbb", WORDS("bac bba bbb"), "bac"));
+    WANT(FIRST("bb", WORDS("ba bb"), "ba"));
+    WANT(FIRST("bb", WORDS("bb bc"), "bb"));
+    /* the front of the end alone */
+    WANT(FIRST("ab", WORDS("a ab"), "a"));
+    WANT(FIRST("abcde", WORDS("abc abce abda"), "abc"));
+    WANT(FIRST_ABOVE("ax", "cx", WORDS("ayy bbb c"), "c"));
+    WANT(FIRST_ABOVE("abx", "acx", WORDS("a ab ac"), "ac"));
+    /* a start that is the end's front */
+    WANT(FIRST_ABOVE("b", "bb", WORDS("b bab bb"), "bb"));
+    WANT(FIRST_ABOVE("b", "bb", WORDS("bab bac"), "bab"));
+    WANT(FIRST_ABOVE("", "b", ring(1), "\0"));
+    /* the empty string */
+    WANT(FIRST("", WORDS(""), ""));
+    WANT(FIRST("b", ring(0), ""));
+    WANT(FIRST("b", WORDS(" a"), ""));
+    WANT(FIRST_ABOVE("", "b", WORDS(" a"), "a"));
+    WANT(FIRST_ABOVE("", "b", ring(0), NUL_61 "\0\0\0"));
+    /* at a later place and in the same state other bytes are left to try, along the start, along the end, and after both */
+    WANT(FIRST_ABOVE("zb", "{", many("bz", 'c'), "zc"));
+    WANT(FIRST_ABOVE("zzzb", "{", many("bz", 'c'), "zzzc"));
+    WANT(FIRST("bd", many("b", 'c'), "bc"));
+    WANT(FIRST("bbbbbd", many("b", 'c'), "bbbbbc"));
+    WANT(FIRST_ABOVE("my", "zz", many("mz", 'a'), "za"));
+    WANT(FIRST_ABOVE("ma", "n", many("mn", 'z'), "mz"));
+    /* after the first byte always the lowest that comes nearer */
+    WANT(FIRST("z", WORDS("mb mc nab"), "mb"));
+    WANT(FIRST_ABOVE("a", "z", WORDS("bcz bda cab"), "bcz"));
+    WANT(FIRST("\377", ring(63), NUL_61 "\0\0"));
+}
+
+/* Strings that are as long as the room: as the longer key and 64. */
+static void longest_examples(void) {
+    WANT(FIRST_ABOVE("a\377", "b", ring(2), "a\377" NUL_61 "\0\0\0"));
+    WANT(FIRST_ABOVE("a" FF_8, "b", ring(9), "a" FF_8 NUL_61 "\0\0\0"));
 }
 
 static uint64_t shared(const char *left, const char *right) {
@@ -928,6 +1053,8 @@ int main(void) {
     WANT(shared("abcdef", "abf") == 2 && shared("", "a") == 0 && shared("aaaaaaaaaaaaaaaaa", "aaaaaaaaaaaaaaaaa") == 17);
     adding();
     examples();
+    first_examples();
+    longest_examples();
     for (size_t i = 0; i < 2; i++) version = versions[i], in_one_version();
     unknown_versions();
     static const size_t counts[] = {2, 127, 128, 129, 255, 256, 257, 512, 513};

@@ -340,11 +340,12 @@ static void listings(void) {
     ANSWERED(23, list);
 }
 
-/* Keys of this length that differ in their last four bytes alone. */
-static void intervals(size_t len) {
+/* Keys of this length that differ in their last four bytes alone, or in their first byte too. */
+static void intervals(size_t len, bool in_first) {
     interval_len = len;
     write_key(start_key, len, 255);
     write_key(end_key, len, 256);
+    if (in_first) end_key[0] = 'z';
     for (size_t k = 0; k <= STATES; k++) {
         if (k < STATES) length_table(k);
         if (k == STATES) dense_table();
@@ -381,8 +382,10 @@ int main(void) {
             for (int kind = 0; kind < KINDS; kind++) of_kind(kind);
         }
     }
-    intervals(4);
-    intervals(LONGEST);
+    for (int in_first = 0; in_first < 2; in_first++) {
+        intervals(4, in_first);
+        intervals(LONGEST, in_first);
+    }
     for (size_t i = 0; i < call_count; i++) {
         printf("%-30s %6zu\n", calls[i].name, calls[i].most);
         if (calls[i].most > LIMIT) printf("stack.c: %s takes %zu bytes, over %d\n", calls[i].name, calls[i].most, LIMIT), failures++;

@@ -208,17 +208,27 @@ impl Automaton {
         sure(ffi::can_block_match(start, end, &self.table))
     }
 
-    /// Some accepted string above `start` and not above `end`, if there is one. Which one is left open; it is at most 64
-    /// bytes longer than the longer key.
+    /// The first accepted string above `start` and not above `end`, if there is one: the shortest, and of the shortest the
+    /// lowest in byte order. Without a start the empty string counts too. It is at most 64 bytes longer than the longer key.
+    ///
+    /// Pattern and interval alone decide which string that is: two benches that show the example of one pattern in one block
+    /// show the same key.
     ///
     /// ```
     /// use rosmarel::Automaton;
     ///
-    /// // keys of two bytes
-    /// let two = Automaton::from_fn(4, |state| state == 2, |state, _| 3.min(state + 1))?;
-    /// let key = two.example(Some(b"b"), b"c").unwrap();
-    /// assert!(two.accepts(&key) && &b"b"[..] < &key && &key[..] <= b"c");
-    /// assert_eq!(two.example(Some(b"c\xff"), b"d"), None);
+    /// // keys in which an a stands right after a b
+    /// let ba = Automaton::from_fn(3, |state| state == 2, |state, byte| match (state, byte) {
+    ///     (2, _) | (1, b'a') => 2,
+    ///     (_, b'b') => 1,
+    ///     _ => 0,
+    /// })?;
+    /// // "aba" lies in the interval too and is lower, but it is longer
+    /// assert!(ba.accepts(b"aba"));
+    /// assert_eq!(ba.example(Some(b"a"), b"c").as_deref(), Some(&b"ba"[..]));
+    /// // above "ba" three bytes are needed, and of all such keys this is the lowest
+    /// assert_eq!(ba.example(Some(b"ba"), b"c").as_deref(), Some(&b"ba\0"[..]));
+    /// assert_eq!(ba.example(Some(b"a"), b"a"), None);
     /// # Ok::<(), rosmarel::Refusal>(())
     /// ```
     pub fn example(&self, start: Option<&[u8]>, end: &[u8]) -> Option<Vec<u8>> {

@@ -499,7 +499,7 @@ pub fn can_block_match(
     answer(number, matches != 0)
 }
 
-/// Writes an accepted string of the interval to the front of `out`, and gives its length.
+/// Writes the interval's shortest accepted string, of those the lowest, to the front of `out`, and gives its length.
 pub fn example(
     start: Option<&[u8]>,
     end: &[u8],

@@ -38,7 +38,7 @@ fn listings() {
                 let (start, end) = index.interval(id).unwrap();
                 let marked = ids.contains(&id);
                 assert_eq!(automaton.can_block_match(start, end), marked);
-                example(&automaton, start, end, marked);
+                assert_eq!(example(&automaton, start, end), marked);
             }
         }
     }
@@ -59,15 +59,11 @@ fn both_ends(mut listing: rosmarel::Listing, wanted: &[(u64, BlockAddr)]) {
     assert_eq!(front, wanted);
 }
 
-/// An example is there exactly if there should be one, is accepted and lies in the interval.
-fn example(automaton: &Automaton, start: Option<&[u8]>, end: &[u8], wanted: bool) {
-    let key = automaton.example(start, end);
-    assert_eq!(key.is_some(), wanted);
-    if let Some(key) = key {
-        assert!(model::accepts(automaton.as_table(), &key));
-        assert!(automaton.accepts(&key));
-        assert!(model::between(&key, start, end));
-    }
+/// The example is what the plain search finds first, and none where that finds none. Whether there is one.
+fn example(automaton: &Automaton, start: Option<&[u8]>, end: &[u8]) -> bool {
+    let first = model::first_between(automaton.as_table(), start, end);
+    assert_eq!(automaton.example(start, end), first);
+    first.is_some()
 }
 
 /// Intervals of any two keys, also with the start not below the end.
@@ -85,10 +81,9 @@ fn intervals() {
             _ => Some(draw.key(6)),
         };
         let start = start.as_deref();
-        let wanted = model::accepts_between(&table, start, &end);
-        assert_eq!(automaton.can_block_match(start, &end), wanted);
-        example(&automaton, start, &end, wanted);
-        counts[usize::from(wanted)] += 1;
+        let matches = example(&automaton, start, &end);
+        assert_eq!(automaton.can_block_match(start, &end), matches);
+        counts[usize::from(matches)] += 1;
     }
     assert!(counts.iter().all(|&count| count > 300), "{counts:?}");
 }
@@ -108,13 +103,90 @@ fn accepted_keys() {
     }
 }
 
+/// These keys alone.
+fn one_of(keys: &[&[u8]]) -> Automaton {
+    Automaton::explore(
+        Some(Vec::new()),
+        |read| matches!(read, Some(read) if keys.contains(&&read[..])),
+        |read, byte| {
+            let longer = [read.as_deref()?, &[byte]].concat();
+            let is_front = keys.iter().any(|key| key.starts_with(&longer));
+            is_front.then_some(longer)
+        },
+    )
+    .unwrap()
+}
+
+/// Keys whose length is so much more than a multiple of 64. All 64 states are on one ring.
+fn lengths(of: usize) -> Automaton {
+    Automaton::from_fn(64, |state| state == of, |state, _| (state + 1) % 64).unwrap()
+}
+
+/// Accepted keys, start, end, and the example.
+type Case = (
+    &'static [&'static [u8]],
+    Option<&'static [u8]>,
+    &'static [u8],
+    &'static [u8],
+);
+
+/// Shorter comes before lower, and lower decides between equal lengths: wherever in the interval the keys lie.
+#[test]
+fn the_shortest_then_the_lowest() {
+    let cases: &[Case] = &[
+        // the shortest isn't the lowest; a prefix of an accepted key
+        (&[b"aa", b"b"], None, b"c", b"b"),
+        (&[b"ba", b"bac", b"aba"], Some(b"a"), b"c", b"ba"),
+        // along the start, a later place is lower
+        (&[b"bc", b"ca"], Some(b"bb"), b"d", b"bc"),
+        (&[b"abd", b"acd", b"bcd"], Some(b"abc"), b"c", b"abd"),
+        (&[b"abcd", b"acd"], Some(b"abc"), b"c", b"acd"),
+        (&[b"bb", b"bba"], Some(b"bb"), b"d", b"bba"),
+        // along the start, between the keys, along the end
+        (&[b"ay", b"b!", b"ca"], Some(b"ax"), b"cx", b"ay"),
+        (&[b"ax", b"b!", b"ca"], Some(b"ax"), b"cx", b"b!"),
+        (&[b"ax", b"ca", b"cx"], Some(b"ax"), b"cx", b"ca"),
+        (&[b"ayy", b"b", b"ca"], Some(b"ax"), b"cx", b"b"),
+        (&[b"ayy", b"bbb", b"ca"], Some(b"ax"), b"cx", b"ca"),
+        (&[b"ayy", b"bbb", b"c"], Some(b"ax"), b"cx", b"c"),
+        // along the end, an earlier place is lower, and what leaves it lies below what goes on
+        (&[b"acc", b"bac", b"bba"], None, b"bbb", b"acc"),
+        (&[b"bac", b"bba", b"bbb"], None, b"bbb", b"bac"),
+        (&[b"ba", b"bb"], None, b"bb", b"ba"),
+        (&[b"bb", b"bc"], None, b"bb", b"bb"),
+        (&[b"bab", b"bb"], Some(b"b"), b"bb", b"bb"),
+        // the empty key
+        (&[b"", b"a"], None, b"b", b""),
+        (&[b"", b"a"], Some(b""), b"b", b"a"),
+    ];
+    for &(keys, start, end, first) in cases {
+        let automaton = one_of(keys);
+        assert_eq!(automaton.example(start, end).as_deref(), Some(first));
+        assert!(example(&automaton, start, end));
+    }
+    assert!(!example(&one_of(&[b"b", b"c"]), Some(b"c"), b"b"));
+    assert!(!example(&one_of(&[b"b", b"c"]), Some(b"b"), b"bz"));
+}
+
+/// All places along the start give keys of one length: the last place counts that leaves it upwards.
+#[test]
+fn ties_along_the_start() {
+    for of in 1..64 {
+        let start = vec![b'm'; of];
+        let mut first = start.clone();
+        first[of - 1] += 1;
+        assert_eq!(lengths(of).example(Some(&start), b"z"), Some(first));
+    }
+    let first = [&b"am"[..], &[0; 61]].concat();
+    let start = [&b"al"[..], &[0xff; 98]].concat();
+    assert_eq!(lengths(63).example(Some(&start), b"z"), Some(first));
+}
+
 /// Lengths of 2 modulo 64: above 61 FF and not above 62 only 61 FF and 64 bytes more will do.
 #[test]
 fn example_without_room_to_spare() {
-    let lengths = Automaton::from_fn(64, |state| state == 2, |state, _| (state + 1) % 64).unwrap();
-    let key = lengths.example(Some(b"a\xff"), b"b").unwrap();
-    assert_eq!(key.len(), 66);
-    assert!(key.starts_with(b"a\xff") && lengths.accepts(&key));
+    let key = lengths(2).example(Some(b"a\xff"), b"b").unwrap();
+    assert_eq!(key, [&b"a\xff"[..], &[0; 64]].concat());
 }
 
 /// States in an order that needs more than one walk over them, all 64.
@@ -126,8 +198,7 @@ fn path_through_all_states() {
     let last = order(63);
     let path = Automaton::from_fn(64, |state| state == last, |state, _| next[state]).unwrap();
     assert!(path.can_block_match(None, &[0xff; 70]));
-    let key = path.example(None, &[0xff; 70]).unwrap();
-    assert!(path.accepts(&key));
+    assert_eq!(path.example(None, &[0xff; 70]), Some(vec![0; 63]));
     assert!(!path.can_block_match(None, b""));
 }
 
@@ -137,7 +208,9 @@ fn long_keys() {
     let long = vec![0x61; 100_000];
     let any = Automaton::from_fn(1, |_| true, |_, _| 0).unwrap();
     assert!(any.can_block_match(Some(&long[1..]), &long));
-    example(&any, Some(&long[1..]), &long, true);
+    let mut first = long.clone();
+    first[99_999] = 0;
+    assert_eq!(any.example(Some(&long[1..]), &long), Some(first));
     assert!(!any.can_block_match(Some(&long), &long));
 }
 

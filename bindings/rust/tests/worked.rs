@@ -227,6 +227,40 @@ fn intervals() {
     assert_eq!(empty.example(Some(b""), b""), None);
 }
 
+/// The examples that docs/FORMAT.md shows, of which the third table's in block 1 isn't the lowest.
+#[test]
+fn examples_in_three_blocks() {
+    let bytes = index();
+    let any = Automaton::from_fn(1, |_| true, |_, _| 0);
+    let two = Automaton::from_fn(4, |state| state == 2, |state, _| 3.min(state + 1));
+    let ba = Automaton::from_fn(
+        3,
+        |state| state == 2,
+        |state, byte| match (state, byte) {
+            (2, _) | (1, b'a') => 2,
+            (_, b'b') => 1,
+            _ => 0,
+        },
+    );
+    let ba = ba.unwrap();
+    let shown: [(Automaton, [&[u8]; 3]); 3] = [
+        (any.unwrap(), [b"", b"c", b"e"]),
+        (two.unwrap(), [b"\0\0", b"b\0", b"d\0"]),
+        (ba.clone(), [b"\0ba", b"ba", b"dba"]),
+    ];
+    for version in VERSIONS {
+        let index = Index::open(&bytes, version, 12).unwrap();
+        for (automaton, keys) in &shown {
+            for (id, key) in (0..).zip(keys) {
+                let (start, end) = index.interval(id).unwrap();
+                assert_eq!(automaton.example(start, end).as_deref(), Some(*key));
+            }
+        }
+    }
+    let lower = &b"b\0ba"[..];
+    assert!(ba.accepts(lower) && &b"b"[..] < lower && lower < &b"ba"[..]);
+}
+
 #[test]
 fn common_prefixes() {
     for (left, right, len) in [
@@ -258,4 +292,12 @@ fn model_agrees() {
         assert_eq!(opened.by_ord(11, 12), Some((2, blocks()[2])));
         assert_eq!(opened.by_ord(12, 12), None);
     }
+    // one state that accepts and stays: above b and not above d the key c
+    let mut all = vec![0; 258];
+    all[..2].copy_from_slice(&[1, 1]);
+    let first = |start, end| model::first_between(&all, start, end);
+    assert_eq!(first(Some(b"b"), b"d"), Some(b"c".to_vec()));
+    assert_eq!(first(Some(b"b"), b"bz"), Some(b"b\0".to_vec()));
+    assert_eq!(first(Some(b"bz"), b"bz"), None);
+    assert_eq!(first(None, b""), Some(Vec::new()));
 }

@@ -1,4 +1,4 @@
--- The example call (SPECIFICATION 11.8, rows 21 to 25): an accepted string of an interval is written, and no word on which.
+-- The example call (SPECIFICATION 11.8, rows 21 to 25): the first accepted string of an interval is written.
 use Rattle.std.specs.Prelude.{ℕ, ◌+◌, ◌≤◌, ◌<◌, max, ◌≡◌, List, length, Result, Ok, Err}
 use Rattle.std.proofs.Math.Option.{Option, none, some}
 use Rattle.std.proofs.lemmas.List.Edits.{sets}
@@ -8,6 +8,7 @@ use Rattle.keys.specs.Order.{◌≼◌}
 use Rattle.automaton.specs.Table.{table_no}
 use Rattle.automaton.specs.Words.{Hits}
 use Rattle.pruning.specs.Interval.{AboveStart, Marked}
+use Rattle.example_leaving.specs.First.{FirstIn}
 
 -- the longer key's length; an absent start is no key
 abbrev pub longer : Option (List ℕ) → List ℕ → ℕ
@@ -21,12 +22,18 @@ pub data ExampleNo (t : List ℕ) (start : Option (List ℕ)) (end : List ℕ) (
   nothing : table_no t ≡ 0 → longer start end + 64 ≤ room → (Marked t start end → ⊥) → ExampleNo t start end room 25
   accepted : table_no t ≡ 0 → longer start end + 64 ≤ room → Marked t start end → ExampleNo t start end room 0
 
--- the first `len` bytes written are an accepted string of the interval, not too long; the bytes behind stay
+-- the accepted strings of the interval
+abbrev pub Accepted : List ℕ → Option (List ℕ) → List ℕ → List ℕ → Type 0
+Accepted t start end w = Hits t 0 w × AboveStart start w × (w ≼ end)
+
+-- the shortest of them, and of those the lowest in byte order
+abbrev pub FirstExample : List ℕ → Option (List ℕ) → List ℕ → List ℕ → Type 0
+FirstExample t start end = FirstIn (Accepted t start end)
+
+-- the first `len` bytes written are that string, and not too long; the bytes behind stay
 pub record Shown (t : List ℕ) (start : Option (List ℕ)) (end out written : List ℕ) (len : ℕ) : Type 0 where
   pub string : List ℕ
-  pub hits : Hits t 0 string
-  pub above : AboveStart start string
-  pub not-above : string ≼ end
+  pub first : FirstExample t start end string
   pub whole : len ≡ length string
   pub short : len ≤ longer start end + 64
   pub bytes : written ≡ sets out 0 string

@@ -1,4 +1,4 @@
-// A string that a block's pattern finds: some accepted string of an interval of keys.
+// A string that a block's pattern finds: the first accepted string of an interval of keys.
 #![tactic(auto)]
 
 ghost use Rattle.std.specs.Prelude.{◌+◌, ◌≤◌};
@@ -8,7 +8,7 @@ ghost use Rattle.example.specs.Example.{longer, example_answer_no, example_answe
 
 use automaton::table::Table;
 use example_distance::Measured;
-use example_walk::{write_between, write_range_end};
+use example_walk::first_between;
 use layout::refusals::Refusal;
 
 // What an example has beyond its key at most: a byte and a tail of 63.
@@ -24,8 +24,8 @@ fn has_room(start_key: Option<&[u8]>, end_key: &[u8], room: usize) -> bool
     room.checked_sub(BEYOND).is_some_and(|left| longer <= left)
 }
 
-// Writes some accepted string above `start_key` and not above `end_key` to the front of `out`, which is lent, since there is no
-// heap; the first block has no start key.
+// Writes the shortest accepted string above `start_key` and not above `end_key`, and of those the lowest, to the front of `out`, which is
+// lent, since there is no heap; the first block has no start key. But for the empty string, none is the same as an empty one.
 pub fn example(
     start_key: Option<&[u8]>,
     end_key: &[u8],
@@ -40,11 +40,12 @@ pub fn example(
         return Err(Refusal::RoomShort);
     }
     let measured = Measured::new(table);
-    match start_key {
-        Some(start_key) => write_between(&measured, start_key, end_key, out).ok_or(
-            Refusal::NoExample,
-        ),
-        None if measured.distances[0] == 0 => Ok(0),
-        None => write_range_end(&measured, end_key, 0, 0, 0, out).ok_or(Refusal::NoExample),
+    if start_key.is_none() && measured.distances[0] == 0 {
+        return Ok(0);
     }
+    let first = first_between(&measured, start_key.unwrap_or(&[]), end_key);
+    if first.is_none() {
+        return Err(Refusal::NoExample);
+    }
+    Ok(first.write(&measured, out))
 }

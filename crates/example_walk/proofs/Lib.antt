@@ -1,4 +1,6 @@
-pub mod Bounds
-pub mod Found
-pub mod Walks
-pub mod Split
+pub mod Keep
+pub mod Looks
+pub mod Edges
+pub mod Fronts
+pub mod Steps
+pub mod Begin

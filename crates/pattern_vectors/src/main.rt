@@ -3,7 +3,6 @@
 #![tactic(auto)]
 
 mod areas;
-mod examples;
 mod subject;
 mod tables;
 
@@ -39,7 +38,7 @@ const LETTERS: [Letter<Kind>; 12] = [
         letter: b'e',
         kind: Kind::Example,
         row: Some(1),
-        strings: 2,
+        strings: 3,
     },
     Letter {
         letter: b'f',
@@ -126,7 +125,7 @@ fn is_same(
         Kind::SetRecord => Ok(subject.sets_record(given)),
         Kind::Table(how) => subject.sets_table(alloc, how, case),
         Kind::Mark => Ok(subject.marks(given, one, other)),
-        Kind::Example => subject.gives_example(alloc, given, one, other),
+        Kind::Example => subject.gives_example(alloc, given, one, other, case.string(2)),
         Kind::List => subject.lists(alloc, given, one),
         Kind::ListFree => subject.may_list(alloc, given),
     }

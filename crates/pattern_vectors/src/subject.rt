@@ -1,7 +1,6 @@
 // What the calls are about: an automaton, an index file and its record, or one that may not belong to it.
 use crate::areas;
 use crate::areas::holds_over_both;
-use crate::examples::is_example;
 use crate::tables::Table;
 use case_text::Case;
 use index::SSTableIndexV3;
@@ -85,13 +84,14 @@ impl Subject {
         is_told(due, answer.map(|mark| [u64::from(mark)]))
     }
 
-    // HAS ROOM NO, and the interval: whether the call has this number, and with number 0 writes an example
+    // HAS ROOM NO, the interval, and the example
     pub fn gives_example(
         &self,
         alloc: Global,
         given: &[u64],
         start: &[u8],
         end: &[u8],
+        word: &[u8],
     ) -> Result<bool, AllocError> {
         let [has @ (0 | 1), room @ ..=areas::MOST, no] = *given else {
             return Ok(false);
@@ -99,14 +99,8 @@ impl Subject {
         let start = (has == 1).then_some(start);
         holds_over_both(alloc, room as usize, |area| {
             let answer = example::example(start, end, &self.table, &mut area.bytes);
-            // A match: map_or_else would take two closures.
-            is_told(&[no], answer.map(|_| []))
-                && match answer {
-                    Ok(len) => area
-                        .front(len)
-                        .is_some_and(|word| is_example(start, end, &self.table, word)),
-                    Err(_) => area.front(0).is_some(),
-                }
+            is_told(&[no, word.len() as u64], answer.map(|len| [len as u64]))
+                && area.front(word.len()) == Some(word)
         })
     }
 

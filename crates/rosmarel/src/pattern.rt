@@ -48,7 +48,7 @@ pub extern "C" fn rosmarel_can_block_match(
     refusals::number(can)
 }
 
-// Writes some accepted string above `start` and not above `end` to the front of `out`.
+// Writes the first accepted string above `start` and not above `end` to the front of `out`: the shortest, and of those the lowest.
 #[unsafe(no_mangle)]
 pub extern "C" fn rosmarel_example(
     has_start: bool,

@@ -1,10 +1,12 @@
 //! Marks and examples: automata, and intervals of keys that tell them apart.
 
 use model::automaton::{Interval, Table, mark, room};
+use model::kinds::{KINDS, kinds};
 use model::numbers::Numbers;
 use model::patterns::{beside, chain, drawn, flags, interval, many, order, ring, small};
+use model::tied::{self, ALPHABETS, few_rows, round_interval, rounds, steps};
 
-use crate::patterns::Patterns;
+use crate::patterns::{Patterns, found};
 
 fn between(start: &[u8], end: &[u8]) -> Interval {
     (Some(start.to_vec()), end.to_vec())
@@ -278,5 +280,46 @@ fn long_keys(patterns: &mut Patterns, rng: &mut Numbers) {
         between(&[front, b"`\xff\xff"].concat(), &word),
     ] {
         patterns.both(&interval);
+    }
+}
+
+/// How many examples of each kind are looked for.
+pub const OF_A_KIND: usize = 8;
+
+/// Examples of every kind that the model tells.
+pub fn examples(patterns: &mut Patterns) {
+    let mut rng = Numbers::from_seed(22);
+    for kind in KINDS {
+        patterns.comment(&format!("examples: {kind}"));
+        for round in 0..OF_A_KIND {
+            let is = |(table, interval): &(Table, Interval)| {
+                let (start, end) = (interval.0.as_deref(), &interval.1);
+                found(table, interval)
+                    .is_some_and(|found| kinds(table, start, end, &found).contains(&kind))
+            };
+            let mut made = (0..10_000).map(|_| tied(&mut rng, round));
+            let (table, interval) = made.find(is).expect("an example of the kind");
+            patterns.set_runs(&table);
+            patterns.both(&interval);
+        }
+    }
+}
+
+/// A table with several strings as short, most of them of few states, and an interval.
+fn tied(rng: &mut Numbers, round: usize) -> (Table, Interval) {
+    let bytes = rng.pick(&ALPHABETS);
+    let m = rng.pick(&[1, 2, 3, 4, 6, 9]);
+    let longest = rng.pick(&[2, 4, 9, 40]);
+    match rng.below(12) {
+        0 => {
+            let (interval, table) = tied::full(rng, round, longest);
+            (table, interval)
+        }
+        1..=3 => {
+            let slope = rng.below(3);
+            (rounds(rng, 12, slope), round_interval(rng, longest))
+        }
+        4..=7 => (few_rows(rng, m, bytes), tied::interval(rng, bytes, longest)),
+        _ => (steps(rng, m, bytes), tied::interval(rng, bytes, longest)),
     }
 }

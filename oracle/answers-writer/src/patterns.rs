@@ -1,9 +1,11 @@
 //! The list of patterns: automata, and the calls that take one.
 
-use std::collections::{BTreeSet, HashSet};
+use std::collections::{BTreeMap, BTreeSet, HashSet};
 use std::fmt::Write;
 
 use model::automaton::{Interval, Table, mark, number, room, table_hits};
+use model::first::first;
+use model::kinds::{KINDS, kinds};
 use model::opening::{self, Hit, Opened, Opening};
 use model::rust::Index;
 use model::version::{V3, Version};
@@ -28,6 +30,8 @@ pub struct Patterns {
     rust: Option<Index>,
     /// what was hit together in a call of each kind
     seen: BTreeSet<(char, Vec<Hit>)>,
+    /// lines of each kind of examples
+    kinds: BTreeMap<&'static str, usize>,
     /// the calls since the automaton or the file changed
     calls: HashSet<String>,
 }
@@ -41,12 +45,14 @@ impl Patterns {
         writeln!(self.text, "{line}").unwrap();
     }
 
-    /// A call, unless it was made just before.
-    fn call(&mut self, kind: char, hits: Vec<Hit>, line: String) {
-        if self.calls.insert(line.clone()) {
+    /// A call, unless it was made just before. Returns whether it is new.
+    fn call(&mut self, kind: char, hits: Vec<Hit>, line: String) -> bool {
+        let new = self.calls.insert(line.clone());
+        if new {
             self.seen.insert((kind, hits));
             self.line(line);
         }
+        new
     }
 
     fn set(&mut self, bytes: Vec<u8>, line: String) {
@@ -131,13 +137,20 @@ impl Patterns {
         if lent < room(interval) {
             hits.push((24, "room"));
         }
-        let table = self.table.as_ref();
-        if table.is_some_and(|table| !mark(table, interval)) {
+        let found = self.table.as_ref().map(|table| found(table, interval));
+        if found == Some(None) {
             hits.push((25, "no string"));
         }
         let no = number(&hits);
-        let line = format!("e {} {lent} {no}", keys(interval, absent));
-        self.call('e', hits, line);
+        let string = found.flatten().filter(|_| no == 0).unwrap_or_default();
+        let keys = keys(interval, absent);
+        let line = format!("e {keys} {lent} {no} {}", hex(&string));
+        if self.call('e', hits, line) && no == 0 {
+            let table = self.table.as_ref().expect("a table");
+            for kind in kinds(table, interval.0.as_deref(), &interval.1, &string) {
+                *self.kinds.entry(kind).or_default() += 1;
+            }
+        }
     }
 
     /// The mark, and an example with room enough and no more.
@@ -199,7 +212,8 @@ impl Patterns {
     pub fn listing(&mut self, room: usize) {
         assert!(self.rust.is_some());
         if self.record.unfit(self.len) {
-            return self.call('l', vec![(20, "record")], format!("l {room} 20 0 x"));
+            self.call('l', vec![(20, "record")], format!("l {room} 20 0 x"));
+            return;
         }
         let mut hits = self.hits.clone();
         if room < self.n() {
@@ -221,6 +235,13 @@ impl Patterns {
     }
 }
 
+/// The example, which there is exactly where the Rust's mark is 1.
+pub fn found(table: &Table, interval: &Interval) -> Option<Vec<u8>> {
+    let found = first(table, interval.0.as_deref(), &interval.1);
+    assert_eq!(found.is_some(), mark(table, interval));
+    found
+}
+
 /// The keys of a line, with these bytes in place of a start that is absent.
 fn keys((start, end): &Interval, absent: &[u8]) -> String {
     let has = u8::from(start.is_some());
@@ -239,6 +260,7 @@ pub fn list() -> String {
         record: Opened::default(),
         rust: None,
         seen: BTreeSet::new(),
+        kinds: BTreeMap::new(),
         calls: HashSet::new(),
     };
     for line in [
@@ -256,7 +278,8 @@ pub fn list() -> String {
         "The calls, over keys above START and not above END; HAS is 0 where START is absent, whatever stands there:",
         "b HAS START END NO MARK: can_block_match_automaton of the Rust (tantivy-sstable 0.27.0); a plain search for an accepted",
         "string gives the same",
-        "e HAS START END ROOM NO: an example, written to ROOM bytes. It has number 25 where the mark is 0.",
+        "e HAS START END ROOM NO STRING: the example, written to ROOM bytes: the shortest accepted string, and of those the lowest in byte",
+        "order, from a breadth-first search. It has number 25 where the mark is 0.",
         "f FILE VERSION N: opens a file, with this version and one term more than its last first ordinal, whose record the next lines",
         "use; its count of blocks, 0 if it is refused",
         "l ROOM NO COUNT MARKS: a listing to ROOM bytes; the marks are get_block_for_automaton of SSTableIndexV3, its FST a stand-in, and",
@@ -269,14 +292,19 @@ pub fn list() -> String {
     intervals::worked(&mut patterns);
     refused_tables::tables(&mut patterns);
     intervals::lists(&mut patterns);
+    intervals::examples(&mut patterns);
     listings::files(&mut patterns);
     listings::left_free(&mut patterns);
     check_seen(&patterns);
     patterns.text
 }
 
-/// Every part of a row that can be hit alone, and every two rows that can be hit together.
+/// Every part of a row that can be hit alone, and every two rows that can be hit together; every kind of examples.
 fn check_seen(patterns: &Patterns) {
+    for kind in KINDS {
+        let lines = patterns.kinds.get(kind).copied().unwrap_or_default();
+        assert!(lines >= intervals::OF_A_KIND, "{kind}: {lines}");
+    }
     let table = [
         (21, "empty"),
         (21, "no states"),

@@ -2,7 +2,10 @@
 
 use model::automaton::Table;
 use model::blocks::WORKED as BLOCKS;
+use model::first::first;
+use model::numbers::Numbers;
 use model::opening;
+use model::tied::{ALPHABETS, few_rows, interval, steps};
 use model::version::V3;
 use tantivy_bitpacker::{BitPacker, compute_num_bits};
 use tantivy_sstable::access::{self, Index, Store};
@@ -75,6 +78,7 @@ pub fn check() {
 
     let only_c = Table::words(&[b"c"]);
     assert!(access::can_block_match_automaton(Some(b"b"), b"d", &only_c));
+    assert_eq!(first(&only_c, Some(b"b"), b"d"), Some(b"c".to_vec()));
     assert!(!access::can_block_match_automaton(
         Some(b"c"),
         b"d",
@@ -83,9 +87,40 @@ pub fn check() {
     assert_eq!(index.get_block_for_automaton(&only_c), [1]);
     let only_empty = Table::words(&[b""]);
     assert!(access::can_block_match_automaton(None, b"", &only_empty));
+    assert_eq!(first(&only_empty, None, b""), Some(vec![]));
     assert!(!access::can_block_match_automaton(
         Some(b""),
         b"",
         &only_empty
     ));
+    short_examples();
+}
+
+/// The model's example beside every string of up to two bytes, the shorter ones first, those of a length in byte order.
+fn short_examples() {
+    let mut strings: Vec<Vec<u8>> = vec![vec![]];
+    strings.extend((0..=u8::MAX).map(|byte| vec![byte]));
+    strings.extend((0..=u16::MAX).map(|two| two.to_be_bytes().to_vec()));
+    let mut rng = Numbers::from_seed(23);
+    let mut lengths = [0; 3];
+    for round in 0..1_000 {
+        let bytes = ALPHABETS[round % ALPHABETS.len()];
+        let m = rng.within(1, 4) as usize;
+        let table = if rng.one_in(2) {
+            few_rows(&mut rng, m, bytes)
+        } else {
+            steps(&mut rng, m, bytes)
+        };
+        let (start, end) = interval(&mut rng, bytes, 3);
+        let inside =
+            |string: &Vec<u8>| start.as_ref().is_none_or(|start| start < string) && string <= &end;
+        let mut all = strings.iter();
+        let due = all.find(|string| inside(string) && table.accepts(string));
+        let found = first(&table, start.as_deref(), &end);
+        assert_eq!(found.as_ref().filter(|found| found.len() < 3), due);
+        if let Some(due) = due {
+            lengths[due.len()] += 1;
+        }
+    }
+    assert!(lengths.iter().all(|&often| often > 50), "{lengths:?}");
 }

@@ -90,6 +90,14 @@ impl Table {
             .collect()
     }
 
+    /// Whether the string leads from state 0 to a flag of 1.
+    pub fn accepts(&self, string: &[u8]) -> bool {
+        let last = string
+            .iter()
+            .fold(0, |state, &byte| self.accept(&state, byte));
+        self.is_match(&last)
+    }
+
     /// Whether some accepted string lies above `start` and not above `end`, by a plain search.
     pub fn accepts_in(&self, start: Option<&[u8]>, end: &[u8]) -> bool {
         self.search(0, 0, start, Some(end))

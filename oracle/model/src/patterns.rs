@@ -180,11 +180,16 @@ pub fn chain(rng: &mut Numbers, order: &[usize]) -> (Table, Vec<u8>) {
     (Table::new(flags, next), word)
 }
 
-/// A table in which every byte leads on in the order given, and from the last to the first; the last accepts.
+/// A table in which every byte leads on in some order, and from the last to the first; the last accepts.
 pub fn ring(rng: &mut Numbers, m: usize, way: usize) -> Table {
-    let order = order(rng, m, way);
+    ring_to(&order(rng, m, way), m - 1)
+}
+
+/// A ring in the order given; the state at this place of it accepts.
+pub fn ring_to(order: &[usize], accepted: usize) -> Table {
+    let m = order.len();
     let mut flags = vec![0; m];
-    flags[order[m - 1]] = 1;
+    flags[order[accepted]] = 1;
     let mut after = vec![0; m];
     for i in 0..m {
         after[order[i]] = order[(i + 1) % m];

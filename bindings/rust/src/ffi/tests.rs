@@ -778,6 +778,29 @@ fn no_24_and_25() {
     assert_eq!(out, [9; 66]);
     assert_eq!(example(Some(b"d"), b"f", &e, &mut out), Ok(1));
     assert_eq!((out[0], &out[1..]), (b'e', &[9; 65][..]));
+    // all keys: e is the shortest between the two, and the lowest of those
+    out[0] = 9;
+    assert_eq!(example(Some(b"dd"), b"fd", &any, &mut out), Ok(1));
+    assert_eq!((out[0], &out[1..]), (b'e', &[9; 65][..]));
+    assert_eq!(example(None, b"f", &any, &mut out), Ok(0));
+    assert_eq!((out[0], &out[1..]), (b'e', &[9; 65][..]));
+}
+
+/// The longest example is as long as the room.
+#[test]
+fn example_of_the_whole_room() {
+    // keys whose length is 2 more than a multiple of 64
+    let mut table = vec![64];
+    table.extend((0..64).map(|state| u8::from(state == 2)));
+    table.extend((0..64).flat_map(|state| [(state + 1) % 64; 256]));
+    let mut out = [9; 67];
+    let short = Err(Refusal::RoomTooShort);
+    assert_eq!(example(Some(b"d\xff"), b"e", &table, &mut out[..65]), short);
+    assert_eq!(out, [9; 67]);
+    let answer = example(Some(b"d\xff"), b"e", &table, &mut out[..66]);
+    assert_eq!(answer, Ok(66));
+    assert_eq!(&out[..2], b"d\xff");
+    assert_eq!((&out[2..66], out[66]), (&[0; 64][..], 9));
 }
 
 /// An absent start is no key: what stands in its place isn't looked at.

@@ -2,7 +2,7 @@
 
 #![allow(dead_code)]
 
-use std::collections::HashSet;
+use std::collections::{HashSet, VecDeque};
 use std::slice::Chunks;
 
 use rosmarel::{BlockAddr, Version};
@@ -448,23 +448,24 @@ pub fn accepts(table: &[u8], key: &[u8]) -> bool {
     table[1 + key.iter().fold(0, step)] == 1
 }
 
-/// Whether `key` lies above `start` and not above `end`.
-pub fn between(key: &[u8], start: Option<&[u8]>, end: &[u8]) -> bool {
-    start.is_none_or(|start| start < key) && key <= end
+/// Whether the table accepts a string above `start` and not above `end`.
+pub fn accepts_between(table: &[u8], start: Option<&[u8]>, end: &[u8]) -> bool {
+    first_between(table, start, end).is_some()
 }
 
-/// Whether the table accepts a string above `start` and not above `end`: a search over all strings, two of which are
-/// the same to it if they lead to one state and stand alike to both keys.
-pub fn accepts_between(table: &[u8], start: Option<&[u8]>, end: &[u8]) -> bool {
+/// The first string above `start` and not above `end` that the table accepts: the shortest, and of the shortest the lowest.
+///
+/// A search over all strings, shorter ones first and lower ones before others of their length. Where two lead to one state and
+/// stand alike to both keys, what follows the later one follows the earlier one too, so that the later one needn't be gone on from.
+pub fn first_between(table: &[u8], start: Option<&[u8]>, end: &[u8]) -> Option<Vec<u8>> {
     let m = usize::from(table[0]);
-    // how much of a key the string is, or none once it is past it: above `start`, below `end`
-    let from = start.map(|_| 0);
-    let mut waiting = vec![(0, from, Some(0))];
-    let mut seen: HashSet<(usize, Option<usize>, Option<usize>)> =
-        waiting.iter().copied().collect();
-    while let Some((state, above, below)) = waiting.pop() {
+    // the state, and how much of a key the string is, or none once it is past it: above `start`, below `end`
+    let empty = (0, start.map(|_| 0), Some(0));
+    let mut seen = HashSet::from([empty]);
+    let mut waiting = VecDeque::from([(empty, Vec::new())]);
+    while let Some(((state, above, below), string)) = waiting.pop_front() {
         if above.is_none() && table[1 + state] == 1 {
-            return true;
+            return Some(string);
         }
         for byte in 0..=u8::MAX {
             let above = match (above, start) {
@@ -485,11 +486,12 @@ pub fn accepts_between(table: &[u8], start: Option<&[u8]>, end: &[u8]) -> bool {
             };
             let next = usize::from(table[1 + m + 256 * state + usize::from(byte)]);
             if seen.insert((next, above, below)) {
-                waiting.push((next, above, below));
+                let longer = [&string[..], &[byte]].concat();
+                waiting.push_back(((next, above, below), longer));
             }
         }
     }
-    false
+    None
 }
 
 /// SplitMix64.

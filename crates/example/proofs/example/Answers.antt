@@ -1,15 +1,15 @@
--- Each row is ruled out before anything is written; the walks give an example or that there is none.
-use Rattle.std.proofs.Common.{◌≡◌, refl, sym, ◌∙◌, arith}
+-- Each row is ruled out before anything is written; the empty string comes first, and else the first string between the bounds.
+use Rattle.std.proofs.Common.{◌<◌, refl, sym, ◌∙◌, arith}
 use Rattle.std.proofs.lemmas.Result.{err_from_is_err_and}
-use Rattle.keys.specs.Order.{◌≺◌, ◌≼◌}
-use Rattle.layout.specs.declared.refusals.Refusal.TheVariants.{RoomShort}
 use Rattle.layout.proofs.Numbers.{number_positive}
-use Rattle.automaton.specs.Table.{flag}
-use Rattle.automaton.specs.Words.{run}
+use Rattle.pruning.specs.Interval.{start_now}
 use Rattle.example.specs.Example.{ExampleNo}
-use Rattle.example_distance.proofs.Shortest.{at_zero, zero-at}
-use Rattle.example_walk.specs.Walk.{FromByte}
-use Rattle.example.proofs.Answered.{answered-refused, answered-shown, answered-walk, empty-shown, absent_none, absent-shown, between-shown}
+use Rattle.example_distance.proofs.Shortest.{at_zero}
+use Rattle.example_leaving.specs.Leaving.{no_place}
+use Rattle.example.proofs.Examples.{EmptyLeft, none-marked, last-short, written-shown}
+use Rattle.example.proofs.Answered.{answered-refused, answered-short, answered-shown, answered-none}
+use Rattle.example.proofs.Answered.{empty-shown, start-none, left-some, left-far, inside}
+use Rattle.example.proofs.example.Goals.{else-is_none-via-then-is_none+else-measured-eq0, else-is_none-via-else-is_none}
 use Rattle.example.proofs.example.Goals as goal
 
 pub returns-in_err-table : goal.returns-in_err-table
@@ -20,45 +20,54 @@ returns-in_err-table c =
 
 pub returns-then-not-has_room : goal.returns-then-not-has_room
 returns-then-not-has_room c =
-    answered-refused RoomShort (ExampleNo.short (sym c.in_ok-table.ensures.number) (omega (arith, c.if-not-has_room.ensures)))
+    answered-short (sym c.in_ok-table.ensures.number) (omega (arith, c.if-not-has_room.ensures))
 
-pub write_range_end-requires-clause-measured : goal.write_range_end-requires-clause-measured
-unfolding run
-write_range_end-requires-clause-measured c = (c.new-measured.ensures.measured, c.new-measured.result.table.well_formed.some, refl)
-
-pub returns-in-Some : goal.returns-in-Some
-returns-in-Some c =
+pub returns-then-measured-eq0 : goal.returns-then-measured-eq0
+returns-then-measured-eq0 c =
     let a = c.args in
-    let e = c.new-measured.ensures.same ∙ c.in_ok-table.ensures.bytes in
-    let start = c.in-Some.start_key.now in
-    let end = a.end_key.now in
-    let fits = rw c.in-Some.is at c.if-not-has_room.ensures in
-    rw (c.in-Some.is, c.ok_or.ensures.value)
-    (answered-walk c.write_between.new.out (λ w. start ≺ w) (λ w. w ≼ end) _ c.write_between.result
-    (sym c.in_ok-table.ensures.number) fits
-    (λ f. f) (λ len h m. between-shown h m) (rw e at c.write_between.ensures))
-
-pub returns-in-None : goal.returns-in-None
-returns-in-None c =
-    let a = c.args in
-    let e = c.new-measured.ensures.same ∙ c.in_ok-table.ensures.bytes in
     let m = c.new-measured.result in
-    let fits = rw c.in-None.is at c.if-not-has_room.ensures in
+    let absent = start-none a.start_key c.if-is_none.ensures in
+    let e = c.new-measured.ensures.same ∙ c.in_ok-table.ensures.bytes in
     let accepts = at_zero c.new-measured.ensures.measured 0 m.table.well_formed.some c.if-measured-eq0.true in
-    rw c.in-None.is (answered-shown (sym c.in_ok-table.ensures.number) fits a.out.now 0
+    rw absent (answered-shown (sym c.in_ok-table.ensures.number) (rw absent at c.if-not-has_room.ensures) a.out.now 0
     (empty-shown a.table.now a.end_key.now (rw e at accepts)))
 
-pub returns-in-None-2 : goal.returns-in-None-2
-returns-in-None-2 c =
-    let a = c.args in
-    let t = a.table.now in
+pub returns-then-is_none-2 : goal.returns-then-is_none-2
+returns-then-is_none-2 c =
+    let start_key = c.args.start_key in
+    let x = c.new-measured.ensures.measured in
+    let wf = c.new-measured.result.table.well_formed in
+    let left : EmptyLeft c.new-measured.result.table.bytes.now (start_now start_key) = elim c.else-is_none.branch [
+      | else-is_none-via-then-is_none+else-measured-eq0 w ↦ left-far x wf start_key w.if-measured-eq0.false
+      | else-is_none-via-else-is_none w ↦ left-some x wf start_key w.if-is_none.ensures
+    ] in
+    let z = inside x wf start_key c.unwrap_or.result _ c.unwrap_or.ensures refl left c.first_between-first.ensures in
     let e = c.new-measured.ensures.same ∙ c.in_ok-table.ensures.bytes in
-    let m = c.new-measured.result in
-    let end = a.end_key.now in
-    let fits = rw c.in-None.is at c.if-not-has_room.ensures in
-    let dead : flag m.table.bytes.now 0 ≡ 1 → ⊥ =
-    λ f. c.if-measured-eq0.false (zero-at c.new-measured.ensures.measured 0 m.table.well_formed.some f) in
-    rw (c.in-None.is, c.ok_or-in-None-2.ensures.value)
-    (answered-walk c.write_range_end.new.out (FromByte end 0 0) (λ w. w ≼ end) _ c.write_range_end.result
-    (sym c.in_ok-table.ensures.number) fits
-    (absent_none t end (rw e at dead)) (λ len h m. absent-shown t end h m) (rw e at c.write_range_end.ensures))
+    answered-none (sym c.in_ok-table.ensures.number) c.if-not-has_room.ensures (rw e at (none-marked z c.if-is_none-2.ensures))
+
+pub write-requires : goal.write-requires
+write-requires c =
+    let start_key = c.args.start_key in
+    let x = c.new-measured.ensures.measured in
+    let wf = c.new-measured.result.table.well_formed in
+    let left : EmptyLeft c.new-measured.result.table.bytes.now (start_now start_key) = elim c.else-is_none.branch [
+      | else-is_none-via-then-is_none+else-measured-eq0 w ↦ left-far x wf start_key w.if-measured-eq0.false
+      | else-is_none-via-else-is_none w ↦ left-some x wf start_key w.if-is_none.ensures
+    ] in
+    let z = inside x wf start_key c.unwrap_or.result _ c.unwrap_or.ensures refl left c.first_between-first.ensures in
+    let there : c.first_between-first.result.last < no_place = omega (arith, c.if-is_none-2.ensures) in
+    (x, z.between.leads there, omega (arith, last-short z there, c.if-not-has_room.ensures))
+
+pub returns : goal.returns
+returns c =
+    let start_key = c.args.start_key in
+    let x = c.new-measured.ensures.measured in
+    let wf = c.new-measured.result.table.well_formed in
+    let left : EmptyLeft c.new-measured.result.table.bytes.now (start_now start_key) = elim c.else-is_none.branch [
+      | else-is_none-via-then-is_none+else-measured-eq0 w ↦ left-far x wf start_key w.if-measured-eq0.false
+      | else-is_none-via-else-is_none w ↦ left-some x wf start_key w.if-is_none.ensures
+    ] in
+    let z = inside x wf start_key c.unwrap_or.result _ c.unwrap_or.ensures refl left c.first_between-first.ensures in
+    let e = c.new-measured.ensures.same ∙ c.in_ok-table.ensures.bytes in
+    let shown = written-shown z (omega (arith, c.if-is_none-2.ensures)) c.write.ensures in
+    answered-shown (sym c.in_ok-table.ensures.number) c.if-not-has_room.ensures c.write.new.out c.write.result (rw e at shown)

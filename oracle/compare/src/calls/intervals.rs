@@ -1,6 +1,8 @@
 //! The calls that take an automaton and an interval of keys.
 
 use model::automaton::{Table, number, table_hits};
+use model::first::first;
+use model::kinds::kinds;
 use model::settings::MOST_STATES;
 use tantivy_sstable::access;
 
@@ -174,16 +176,21 @@ impl Pattern {
         (no, matches.value())
     }
 
-    /// The number of an example: rows 21 to 23, then 24, then 25; none where the Rust panics.
-    fn example_number(&self, start: Option<&[u8]>, end: &[u8], room: usize) -> Option<u64> {
-        match self.mark(&EXAMPLE, start, end) {
-            (row, _) if row != 0 => Some(row),
-            _ if room < longer(start, end) + MOST_STATES => Some(24),
-            (_, mark) => mark.map(|mark| if mark { 0 } else { 25 }),
-        }
+    /// What is due of an example: rows 21 to 23, then 24, then 25, and with number 0 the string; none where the Rust panics, or where
+    /// it has another mark than the model has a string.
+    fn example_due(&self, start: Option<&[u8]>, end: &[u8], room: usize) -> Option<(u64, Vec<u8>)> {
+        let (row, mark) = self.mark(&EXAMPLE, start, end);
+        let table = match &self.table {
+            Err(_) => return Some((row, Vec::new())),
+            Ok(_) if room < longer(start, end) + MOST_STATES => return Some((24, Vec::new())),
+            Ok(table) => table,
+        };
+        let found = first(table, start, end);
+        let agreed = mark? == found.is_some();
+        agreed.then(|| found.map_or((25, Vec::new()), |found| (0, found)))
     }
 
-    /// An example in a buffer of `room` bytes. Returns the number. Which string it is, is free.
+    /// An example in a buffer of `room` bytes. Returns the number and the string.
     pub fn example(
         &self,
         tally: &mut Tally,
@@ -191,43 +198,34 @@ impl Pattern {
         absent: &[u8],
         end: &[u8],
         room: usize,
-    ) -> u64 {
-        let due = self.example_number(start, end, room);
+    ) -> (u64, Vec<u8>) {
+        let due = self.example_due(start, end, room);
         let keys = Keys::new(start, absent, end);
         let (mut out, mut len) = (Lent::buffer(room), Out::new());
         let no = example(&keys, &self.lent, &mut out, &mut len);
-        let found = usize::try_from(len.value())
-            .ok()
-            .and_then(|len| out.part().get(..len));
-        let fits = match (due, found) {
-            (Some(0), Some(string)) => self.accepts(string) && inside(start, end, string),
-            (_, string) => string == Some(&[]),
-        };
-        let right =
-            due == Some(no) && fits && len.guarded() && found.is_some_and(|f| out.holds_front(f));
-        let right = right && keys.untouched() && self.untouched();
-        let by = match due {
-            Some(0) => By::Range,
-            Some(25) => By::Rust,
+        let exact = due.as_ref().is_some_and(|(due, string)| {
+            no == *due && len.is(string.len() as u64) && out.holds_front(string)
+        });
+        let right = exact && keys.untouched() && self.untouched();
+        let by = match &due {
+            Some((25, _)) => By::Rust,
             _ => By::Model,
         };
         let print = keys
             .print(Print::of(&EXAMPLE).and(self.print))
             .number(room as u64);
-        tally.case(Case::new(&EXAMPLE, by, print, no, right), || {
+        let found = usize::try_from(len.value()).unwrap_or(usize::MAX);
+        let found = out.part().get(..found);
+        let new = tally.case(Case::new(&EXAMPLE, by, print, no, right), || {
             format!(
-                "{start:x?} {end:x?} into {room} gives {no} {found:x?}, not {due:?}; {}",
+                "{start:x?} {end:x?} into {room} gives {no} {found:x?}, not {due:x?}; {}",
                 self.about()
             )
         });
-        no
-    }
-
-    /// Whether the string leads from state 0 to a flag of 1.
-    fn accepts(&self, string: &[u8]) -> bool {
-        let (flags, next) = self.bytes[1..].split_at(usize::from(self.bytes[0]));
-        let step = |state: u8, &byte: &u8| next[256 * usize::from(state) + usize::from(byte)];
-        flags[usize::from(string.iter().fold(0, step))] == 1
+        if let (true, Ok(table), Some((0, string))) = (new, &self.table, &due) {
+            tally.kinds(&kinds(table, start, end, string));
+        }
+        (no, found.unwrap_or_default().to_vec())
     }
 
     /// The mark, and an example with room enough and no more.
@@ -240,8 +238,4 @@ impl Pattern {
 /// The longer key's length.
 fn longer(start: Option<&[u8]>, end: &[u8]) -> usize {
     start.unwrap_or_default().len().max(end.len())
-}
-
-fn inside(start: Option<&[u8]>, end: &[u8], string: &[u8]) -> bool {
-    start.is_none_or(|start| start < string) && string <= end
 }

@@ -87,7 +87,7 @@ fn interval(tally: &mut Tally, pattern: &Pattern, letter: &str, words: &mut Word
         return words.hold(tally, &CAN_BLOCK_MATCH, got, due);
     }
     let got = pattern.example(tally, start, &given, &end, words.number() as usize);
-    let due = words.number();
+    let due = (words.number(), words.bytes());
     words.hold(tally, &EXAMPLE, got, due);
 }
 

@@ -105,6 +105,8 @@ pub struct Tally {
     prints: Prints,
     /// a call, its row, and what the Rust did: how often
     outside: BTreeMap<(&'static str, u64, Outside), u64>,
+    /// kinds of examples, each call once: how often
+    kinds: BTreeMap<&'static str, u64>,
     differences: (u64, u64),
     shown: u64,
     began: Option<(Instant, u64, u64)>,
@@ -122,6 +124,7 @@ impl Tally {
             counts: calls.map(|call| Count::new(call)).collect(),
             prints: Prints::default(),
             outside: BTreeMap::new(),
+            kinds: BTreeMap::new(),
             differences: (0, 0),
             shown: 0,
             began: None,
@@ -192,6 +195,21 @@ impl Tally {
         if !right {
             self.count(call).failed += 1;
             self.failure(call.name, what);
+        }
+    }
+
+    /// The kinds of an example that wasn't asked for before.
+    pub fn kinds(&mut self, kinds: &[&'static str]) {
+        for kind in kinds {
+            *self.kinds.entry(kind).or_default() += 1;
+        }
+    }
+
+    /// Each of these kinds came up so often.
+    pub fn check_kinds(&self, kinds: &[&'static str], least: u64) {
+        for kind in kinds {
+            let often = self.kinds.get(kind).copied().unwrap_or_default();
+            assert!(often >= least, "examples, {kind}: {often}");
         }
     }
 

@@ -27,6 +27,7 @@ impl Tally {
         println!();
         self.print_calls();
         self.print_numbers();
+        self.print_kinds();
         let (shown, missed) = self.differences;
         let failed = self.counts.iter().map(|count| count.failed).sum::<u64>() + missed;
         (
@@ -85,6 +86,13 @@ impl Tally {
                 .filter(|(_, seen)| **seen > 0);
             let seen: Vec<String> = numbers.map(|(no, seen)| format!("{no}: {seen}")).collect();
             println!("  {}: {}", count.call.name, seen.join(", "));
+        }
+    }
+
+    fn print_kinds(&self) {
+        println!("examples by kind, one of several kinds often:");
+        for (kind, often) in &self.kinds {
+            println!("  {kind}: {often}");
         }
     }
 }

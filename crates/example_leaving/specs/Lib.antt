@@ -1,0 +1,2 @@
+pub mod First
+pub mod Leaving
