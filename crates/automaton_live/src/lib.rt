@@ -49,6 +49,8 @@ fn nearest_of_eight<const BACK: bool>(bytes: &[u8], reach: u64, at: usize) -> Op
 }
 
 impl<'a> Prepared<'a> {
+    // Inlined: handed out by value, the two arrays were set, set again and copied, over 500 bytes each time.
+    #[inline(always)]
     pub fn new(table: Table<'a>) -> Prepared<'a>
         ensures { IsPrepared table.entry.bytes.now result }
     {
@@ -80,17 +82,19 @@ impl<'a> Prepared<'a> {
 
     // The first byte that leads on from a state, from the front or from the back. Eight next states that equal eight that lead
     // nowhere are passed over; no eight equal those that the loop begins with. A loop counts the places, as above: it goes from the
-    // front or from the back by a constant, and hands on `dead`.
+    // front or from the back by a constant, and hands on `dead`. Eight are one load: read at a place of the row, they are put together of
+    // the bytes that `nearest_of_eight` looks at.
     fn nearest<const BACK: bool>(&self, state: usize) -> Option<usize>
         requires { Reach self.now.table.bytes.now self.now.reach × (state < states self.now.table.bytes.now) }
         ensures { Nearest (λ b. CanMatch self.now.table.bytes.now (next self.now.table.bytes.now state b)) BACK 256 result }
     {
         let reach = self.reach;
         let row = self.table.row(state);
+        let eights = row.as_chunks::<8>().0;
         let mut dead = u64::MAX;
         for k in 0..32 {
             let from = 8 * place::<BACK>(32, k);
-            let eight = serialize::deserialize_u64(row, from);
+            let eight = u64::from_le_bytes(eights[from / 8]);
             if eight != dead {
                 if let Some(j) = nearest_of_eight::<BACK>(row, reach, from) {
                     return Some(from + j);
@@ -109,6 +113,7 @@ impl<'a> Prepared<'a> {
         ensures first_live { FirstLive self.old.table.bytes.now state result }
         ensures ready { FirstsReady self.old.table.bytes.now self.new }
         ensures ends { self.new.ends ≡ self.old.ends }
+        ensures reach { self.new.reach ≡ self.old.reach }
     {
         if let Some(known) = self.firsts[state] {
             return known;
@@ -126,6 +131,7 @@ impl<'a> Prepared<'a> {
         ensures end_live { EndLive self.old.table.bytes.now state result }
         ensures ready { EndsReady self.old.table.bytes.now self.new }
         ensures firsts { self.new.firsts ≡ self.old.firsts }
+        ensures reach { self.new.reach ≡ self.old.reach }
     {
         if let Some(known) = self.ends[state] {
             return known;

@@ -99,7 +99,11 @@ impl Trail {
         let end = n.min(MAX_KEY_LEN);
         let mut i = self.known.min(end);
         let mut state = usize::from(self.states[i]);
-        while i < end && prepared.can_match(state) {
+        while i < end {
+            if !prepared.can_match(state) {
+                self.known = i;
+                return;
+            }
             let behind = table.accept(state, key[i]);
             i += 1;
             self.states[i] = behind as u8;
@@ -108,7 +112,7 @@ impl Trail {
             }
             state = behind;
         }
-        self.known = i;
+        self.known = end;
     }
 
     // Whether the last state can't match.

@@ -17,6 +17,7 @@ fn match_range_start(prepared: &mut Prepared, start_key: &[u8], state: usize) ->
     ensures exactly { Exactly result (MatchAbove prepared.old.table.bytes.now state start_key.now) }
     ensures ready { EndsReady prepared.old.table.bytes.now prepared.new }
     ensures firsts { prepared.new.firsts ≡ prepared.old.firsts }
+    ensures reach { prepared.new.reach ≡ prepared.old.reach }
 {
     let table = prepared.table;
     let mut at = state;
@@ -37,6 +38,7 @@ pub fn match_range_end(prepared: &mut Prepared, end_key: &[u8], state: usize) ->
     ensures exactly { Exactly result (MatchBetween prepared.old.table.bytes.now state [] end_key.now) }
     ensures ready { FirstsReady prepared.old.table.bytes.now prepared.new }
     ensures ends { prepared.new.ends ≡ prepared.old.ends }
+    ensures reach { prepared.new.reach ≡ prepared.old.reach }
 {
     let table = prepared.table;
     let mut at = state;
@@ -80,6 +82,7 @@ pub fn match_between(
         × (get_or start_key.now 0 0 < get_or end_key.now 0 0) }
     ensures exactly { Exactly result (MatchBetween prepared.old.table.bytes.now state start_key.now end_key.now) }
     ensures prepared { IsPrepared prepared.old.table.bytes.now prepared.new }
+    ensures reach { prepared.new.reach ≡ prepared.old.reach }
 {
     let table = prepared.table;
     let start_range = start_key[0];

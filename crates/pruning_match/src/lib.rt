@@ -29,6 +29,7 @@ pub fn can_block_match_from(
         × (base ≡ run prepared.old.table.bytes.now 0 (take n start_key.now)) × (base < states prepared.old.table.bytes.now) }
     ensures exactly { Exactly result (MatchBetween prepared.old.table.bytes.now 0 start_key.now end_key.now) }
     ensures prepared { IsPrepared prepared.old.table.bytes.now prepared.new }
+    ensures reach { prepared.new.reach ≡ prepared.old.reach }
 {
     if n == end_key.len() {
         return false;
@@ -50,6 +51,7 @@ fn can_block_match_automaton_with_start(
     requires { IsPrepared prepared.old.table.bytes.now prepared.old }
     ensures exactly { Exactly result (MatchBetween prepared.old.table.bytes.now 0 start_key.now end_key.now) }
     ensures prepared { IsPrepared prepared.old.table.bytes.now prepared.new }
+    ensures reach { prepared.new.reach ≡ prepared.old.reach }
 {
     let n = keys::common_prefix_len(start_key, end_key);
     let base = accept_prefix(prepared.table, &start_key[..n]);
@@ -57,10 +59,12 @@ fn can_block_match_automaton_with_start(
 }
 
 // The same for the first block too, which has no start and lets the empty string in.
+#[inline(always)]
 pub fn can_block_match(prepared: &mut Prepared, start_key: Option<&[u8]>, end_key: &[u8]) -> bool
     requires { IsPrepared prepared.old.table.bytes.now prepared.old }
     ensures exactly { Exactly result (Marked prepared.old.table.bytes.now (start_now start_key.entry) end_key.now) }
     ensures prepared { IsPrepared prepared.old.table.bytes.now prepared.new }
+    ensures reach { prepared.new.reach ≡ prepared.old.reach }
 {
     // A match: two closures would each hold `prepared`; one condition over both cases would be no shorter.
     match start_key {

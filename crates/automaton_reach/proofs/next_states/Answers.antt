@@ -50,14 +50,59 @@ states_of-word-requires c =
     let row = c.args.row.now in
     part-below row _ 0 (first-is row _ c.requires.0 c.as_chunks.ensures.front) c.requires.1 (omega arith)
 
-pub loop-quarter-init : goal.loop-quarter-init
-loop-quarter-init c =
+-- what is known before the first quarter
+first-held : (row part : List ℕ) → DigitsBelow 8 row → length row ≡ 256 → part ≡ take 8 (drop 0 row) → (last w : ℕ) → last ≡ eight_at row 0
+    → ((b : ℕ) → b < 8 → bit w (get_or part b 0) ≡ 1) → ((s : ℕ) → bit w s ≡ 1 → (b : ℕ) × (b < 8) × (get_or part b 0 ≡ s))
+    → Held row (64 * 0) last w
+first-held row part small h is last w e f g =
+    let all : Holds (λ k. get_or row (0 + k) 0) 8 w = part-holds row part 0 is f g in
+    held_first small e all
+
+-- a row whose words all equal the first
+whole-held : (row : List ℕ) → DigitsBelow 8 row → (last w : ℕ) → Held row (64 * 0) last w
+    → ((k : ℕ) → k < 32 → number_at row (8 * k) 8 ≡ last) → Held row 256 last w
+whole-held row small last w i same = step 3 (omega arith) (step 2 (omega arith) (step 1 (omega arith) (step 0 (omega arith) i)))
+  where
+    step : (q : ℕ) → q < 4 → Held row (64 * q) last w → Held row (64 * (q + 1)) last w
+    step q l h =
+        let e : 64 * q + 64 ≡ 64 * (q + 1) = omega arith in
+        subst (λ (x : ℕ). Held row x last w) e (held-repeats small h (λ k g.
+        let d : 8 * (8 * q + k) ≡ 64 * q + 8 * k = omega arith in
+        subst (λ (x : ℕ). eight_at row x ≡ last) d (same (8 * q + k) (omega arith))))
+
+pub returns-then-word-wanted-ne0-clause-by_index : goal.returns-then-word-wanted-ne0-clause-by_index
+returns-then-word-wanted-ne0-clause-by_index c =
+    let row = c.args.row.now in
+    let s = c.states_of-word in
+    let is = first-is row _ c.requires.0 c.as_chunks.ensures.front in
+    (first-held row _ (λ i. omega (arith, c.type_inv.row i)) c.requires.0 is _ s.result
+    (c.from_le_bytes-last.ensures ∙ part-word row _ 0 is (omega (arith, c.requires.0))) s.ensures.by_index s.ensures.by_index_2).only
+
+pub returns-then-row_repeats-clause-b_value : goal.returns-then-row_repeats-clause-b_value
+returns-then-row_repeats-clause-b_value c =
     let row = c.args.row.now in
     let small : DigitsBelow 8 row = λ i. omega (arith, c.type_inv.row i) in
     let s = c.states_of-word in
     let is = first-is row _ c.requires.0 c.as_chunks.ensures.front in
-    let h : Holds (λ k. get_or row (0 + k) 0) 8 s.result = part-holds row _ 0 is s.ensures.by_index s.ensures.by_index_2 in
-    held_first small (c.from_le_bytes-last.ensures ∙ part-word row _ 0 is (omega (arith, c.requires.0))) h
+    let held = first-held row _ small c.requires.0 is _ s.result
+    (c.from_le_bytes-last.ensures ∙ part-word row _ 0 is (omega (arith, c.requires.0))) s.ensures.by_index s.ensures.by_index_2 in
+    λ _. (whole-held row small _ s.result held (c.row_repeats.ensures c.if-row_repeats.true)).has
+
+pub returns-then-row_repeats-clause-by_index : goal.returns-then-row_repeats-clause-by_index
+returns-then-row_repeats-clause-by_index c =
+    let row = c.args.row.now in
+    let s = c.states_of-word in
+    let is = first-is row _ c.requires.0 c.as_chunks.ensures.front in
+    (first-held row _ (λ i. omega (arith, c.type_inv.row i)) c.requires.0 is _ s.result
+    (c.from_le_bytes-last.ensures ∙ part-word row _ 0 is (omega (arith, c.requires.0))) s.ensures.by_index s.ensures.by_index_2).only
+
+pub loop-quarter-init : goal.loop-quarter-init
+loop-quarter-init c =
+    let row = c.args.row.now in
+    let s = c.states_of-word in
+    let is = first-is row _ c.requires.0 c.as_chunks.ensures.front in
+    first-held row _ (λ i. omega (arith, c.type_inv.row i)) c.requires.0 is _ s.result
+    (c.from_le_bytes-last.ensures ∙ part-word row _ 0 is (omega (arith, c.requires.0))) s.ensures.by_index s.ensures.by_index_2
 
 pub loop-quarter-preserved-then-repeats : goal.loop-quarter-preserved-then-repeats
 loop-quarter-preserved-then-repeats c =
@@ -76,9 +121,6 @@ loop-bytes-init c =
     let q = c.loop-quarter.quarter-index in
     let e : 64 * q ≡ 64 * q + 8 * 0 = omega arith in
     subst (λ (x : ℕ). Held c.args.row.now x c.loop-quarter.last c.loop-quarter.word) e c.loop-quarter.invariant
-
-pub returns-then-word-wanted-ne0-clause-by_index : goal.returns-then-word-wanted-ne0-clause-by_index
-returns-then-word-wanted-ne0-clause-by_index c = c.loop-bytes.invariant.only
 
 pub states_of-word-requires-then-eight-last : goal.states_of-word-requires-then-eight-last
 states_of-word-requires-then-eight-last c =

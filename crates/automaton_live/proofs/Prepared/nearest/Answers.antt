@@ -1,10 +1,10 @@
 -- The eight of this turn has the nearest byte, or it is one more of those with none.
-use Rattle.std.proofs.Common.{◌≡◌, ℕ, ◌*◌, ◌<◌, sym, ◌∙◌, subst, arith}
+use Rattle.std.proofs.Common.{◌≡◌, ℕ, ◌*◌, ◌/◌, ◌<◌, sym, ◌∙◌, subst, arith}
 use denote.Param.{number}
 use Rattle.automaton.specs.Table.{next}
 use Rattle.automaton.specs.Words.{CanMatch}
 use Rattle.automaton.proofs.Rows.{row-small}
-use Rattle.automaton.proofs.Eights.{Blank}
+use Rattle.automaton.proofs.Eights.{eight_at, Blank, chunk-of, part-word}
 use Rattle.automaton_live.specs.contracts.Prepared.nearest.{BACK-type}
 use Rattle.automaton_live.proofs.Places.{Past, InEight, place-lt, past-more, eights-here, eights-none}
 use Rattle.automaton_live.proofs.Places.{eight-below, eight-some, eight-blank, eight-new, blank-none}
@@ -16,6 +16,12 @@ loop-k-init g c = record { past = λ m h. absurd (omega arith); blank = blank-no
 
 pub place-from-requires : goal.place-from-requires
 place-from-requires g c = omega arith
+
+pub bounds-eights-from : goal.bounds-eights-from
+bounds-eights-from g c =
+    let p = c.place-from in
+    let l : p.result < 32 = rw p.ensures (place-lt (BACK-type (number g.row.BACK)) 32 c.loop-k.k (omega arith)) in
+    omega (arith, c.as_chunks.ensures.front_len, c.row-row.ensures.row_len)
 
 pub nearest_of_eight-requires : goal.nearest_of_eight-requires
 nearest_of_eight-requires g c =
@@ -48,12 +54,16 @@ loop-k-preserved g c =
     let l : p.result < 32 = rw p.ensures (place-lt (BACK-type (number g.row.BACK)) 32 k (omega arith)) in
     let r = c.row-row.ensures in
     let small = row-small _ _ row r.by_index a.self.now.table.well_formed c.requires.1 r.row_len in
-    let x = c.deserialize_u64-eight in
+    let x = c.from_le_bytes-eight in
+    let part = chunk-of 8 (at / 8) row _ c.as_chunks.ensures.front (omega (arith, r.row_len)) in
+    let whole : 8 * (at / 8) ≡ at = omega arith in
+    let word : x.result ≡ eight_at row at =
+    subst (λ (n : ℕ). x.result ≡ eight_at row n) whole (x.ensures ∙ part-word row _ (8 * (at / 8)) part (omega (arith, r.row_len))) in
     let j = c.if-eight-dead in
     let d : Blank a.self.now.reach x.result =
     elim j.branch [
       | then-eight-dead+in_default w ↦ eight-new row a.self.now.reach at small
-          (BACK-type (number g.row.BACK)) x.result x.ensures w.in_default.ensures
+          (BACK-type (number g.row.BACK)) x.result word w.in_default.ensures
       | else-eight-dead w ↦ subst (Blank a.self.now.reach) (sym w.if-eight-dead.false) c.loop-k.invariant.blank
     ] in
     let e : j.dead ≡ x.result =
@@ -62,7 +72,7 @@ loop-k-preserved g c =
       past = past-more (InEight (λ b. CanMatch t (next t a.state b)))
           (BACK-type (number g.row.BACK)) 32 k p.result p.ensures c.loop-k.invariant.past
           (eight-blank a.self.now.table.well_formed a.state c.requires.1 row r.by_index at (omega arith) c.requires.0
-          small x.result x.ensures d);
+          small x.result word d);
       blank = subst (Blank a.self.now.reach) (sym e) d;
     }
 

@@ -38,6 +38,7 @@ loop-kb-preserved c =
       state = c.accept-at.ensures.1;
       ready = same-firsts l.invariant.ready c.first-least.ensures.ready;
       ends = c.first-least.ensures.ends ∙ l.invariant.ends;
+      reach = c.first-least.ensures.reach ∙ l.invariant.reach;
       same = rw c.accept-at.ensures.0 (Iff.trans l.invariant.same r);
     }
 

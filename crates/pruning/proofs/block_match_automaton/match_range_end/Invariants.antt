@@ -11,5 +11,6 @@ invariant-loop-kb l = let t = l.table.bytes.now in record {
   state : l.at < states t;
   ready : FirstsReady t l.prepared;
   ends : l.prepared.ends ≡ l.initial.prepared.ends;
+  reach : l.prepared.reach ≡ l.initial.prepared.reach;
   same : MatchBetween t l.state [] l.end_key ↔ MatchBetween t l.at [] (drop l.kb-index l.end_key);
 }

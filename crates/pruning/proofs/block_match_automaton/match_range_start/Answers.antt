@@ -28,6 +28,7 @@ loop-kb-preserved c =
       state = c.accept-at.ensures.1;
       ready = same-ends l.invariant.ready c.end-most.ensures.ready;
       firsts = c.end-most.ensures.firsts ∙ l.invariant.firsts;
+      reach = c.end-most.ensures.reach ∙ l.invariant.reach;
       same = rw c.accept-at.ensures.0 (Iff.trans l.invariant.same r);
     }
 

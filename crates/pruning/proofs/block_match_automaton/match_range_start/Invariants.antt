@@ -11,5 +11,6 @@ invariant-loop-kb l = let t = l.table.bytes.now in record {
   state : l.at < states t;
   ready : EndsReady t l.prepared;
   firsts : l.prepared.firsts ≡ l.initial.prepared.firsts;
+  reach : l.prepared.reach ≡ l.initial.prepared.reach;
   same : MatchAbove t l.state l.start_key ↔ MatchAbove t l.at (drop l.kb-index l.start_key);
 }
