@@ -1,4 +1,5 @@
 // The areas that are lent to a builder: five numbers for each block, and the bytes of the keys.
+use layout::MAX_BLOCKS;
 use std::alloc::{AllocError, Global};
 
 const NUMBER_MARK: u64 = 0xa5a5_a5a5_a5a5_a5a5;
@@ -32,13 +33,20 @@ impl Areas {
         self.blocks.as_chunks::<5>().0.get(i).copied()
     }
 
+    // Number k of the blocks; 0 where the area ends before it.
+    fn number(&self, k: usize) -> u64 {
+        self.blocks.get(k).copied().unwrap_or(0)
+    }
+
     // Where the keys of n blocks end.
     pub fn keys_end(&self, n: usize) -> Option<u64> {
         if n == 0 {
             return Some(0);
         }
-        let [.., offset, len] = self.record(n - 1)?;
-        offset.checked_add(len)
+        if n > MAX_BLOCKS {
+            return None;
+        }
+        self.number(5 * n - 2).checked_add(self.number(5 * n - 1))
     }
 }
 

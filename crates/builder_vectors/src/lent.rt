@@ -44,7 +44,8 @@ impl Lent {
     // N COUNT V1 .. KEYS: a builder with any count over areas with any content
     pub fn set(&mut self, alloc: Global, given: &[u64], keys: &[u8]) -> Result<bool, AllocError> {
         match given {
-            [n, count, blocks @ ..] if *count == blocks.len() as u64 => {
+            [n, count, blocks @ ..]
+                if *count == blocks.len() as u64 && keys.len() as u64 <= MOST_BYTES => {
                 *self = Lent {
                     builder: SSTableIndexBuilder::new(*n as usize),
                     areas: Areas::with(alloc, blocks, keys)?,
@@ -57,16 +58,16 @@ impl Lent {
 
     // START END ORD NO, and the key: an add
     pub fn adds(&mut self, given: &[u64], key: &[u8]) -> Result<bool, AllocError> {
-        let [start, end, first_ordinal, due @ ..] = given else {
+        let [start, end, first_ordinal, no] = *given else {
             return Ok(false);
         };
         let before = self.areas.clone()?;
         let n = self.builder.n;
-        let block = BlockAddr::from([*start, *end, *first_ordinal]);
+        let block = BlockAddr::from([start, end, first_ordinal]);
         let answer = self.add(key, block);
         // A match: map_or_else would take two closures.
         Ok(
-            is_told(due, answer.map(|()| []))
+            is_told(&[no], answer.map(|()| []))
                 && match answer {
                     Ok(()) => {
                         self.builder.n.checked_sub(n) == Some(1)
@@ -103,6 +104,9 @@ impl Lent {
 
     // NO, and the next key: the last key is shortened
     pub fn shortens(&mut self, given: &[u64], next_key: &[u8]) -> Result<bool, AllocError> {
+        let [no] = *given else {
+            return Ok(false);
+        };
         let before = self.areas.clone()?;
         let n = self.builder.n;
         let areas = &mut self.areas;
@@ -115,7 +119,7 @@ impl Lent {
         let answer = self.keep(called);
         // A match: map_or_else would take two closures for these two lines.
         Ok(
-            is_told(given, answer.map(|()| []))
+            is_told(&[no], answer.map(|()| []))
                 && self.builder.n == n
                 && match answer {
                     Ok(()) => is_shortened(n, &before, &self.areas),

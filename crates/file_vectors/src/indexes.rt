@@ -2,6 +2,7 @@
 ghost use Rattle.index.specs.Opening.{Opens};
 
 use crate::files;
+use crate::files::FILE_LEN;
 use index::SSTableIndexV3;
 use layout::refusals::Refusal;
 use line_text::Refused;
@@ -40,12 +41,13 @@ fn want_a_version(data: &[u8]) -> bool {
     })
 }
 
-// Whether STEM.index opens as STEM.expected says.
-pub fn is_same(rt: &(impl Files + AllocGlobal), stem: &str) -> Result<bool, AllocError> {
-    let file = files::read(rt, stem, "index")?;
-    let expected = files::read(rt, stem, "expected")?;
-    let (Some(file), Some(expected)) = (file, expected) else {
+// Whether NAME.index opens as NAME.expected says.
+pub fn is_same(rt: &(impl Files + AllocGlobal), name: &str) -> Result<bool, AllocError> {
+    let Some(file) = files::read(rt, name, FILE_LEN)? else {
         return Ok(false);
     };
-    Ok(want_a_version(&file) && is_text(rt.alloc(), files::version(stem), &file, &expected)?)
+    let Some(expected) = files::read_beside(rt, name, "expected", FILE_LEN)? else {
+        return Ok(false);
+    };
+    Ok(want_a_version(&file) && is_text(rt.alloc(), files::version(name), &file, &expected)?)
 }

@@ -19,15 +19,12 @@ const ROW_OF_QUESTIONS: usize = 1;
 
 const ROW_OF_AUTOMATA: usize = 2;
 
-// Counts the file of this name. A name of no kind differs.
+// Counts the file of this name, whose kind stands behind the last dot. A name of no kind differs.
 fn replay(rt: &(impl Files + AllocGlobal), name: &str, tallies: &mut Tallies) -> io::Result<()> {
-    match name.split_once('.') {
-        Some((stem, "index")) => tallies.count(Some(ROW_OF_INDEXES), indexes::is_same(rt, stem)?),
-        Some((stem, "questions")) => questions::count(rt, stem, tallies)?,
-        Some((stem, "automaton")) => tallies.count(
-            Some(ROW_OF_AUTOMATA),
-            marks::is_same(rt, stem)?,
-        ),
+    match name.rsplit_once('.') {
+        Some((_, "index")) => tallies.count(Some(ROW_OF_INDEXES), indexes::is_same(rt, name)?),
+        Some((_, "questions")) => questions::count(rt, name, tallies)?,
+        Some((_, "automaton")) => tallies.count(Some(ROW_OF_AUTOMATA), marks::is_same(rt, name)?),
         _ => tallies.count(None, false),
     }
     Ok(())

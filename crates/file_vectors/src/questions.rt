@@ -1,7 +1,10 @@
 // Questions to an index file, one a line, with their answers.
+use crate::files::FILE_LEN;
 use crate::{ROW_OF_QUESTIONS, files};
 use case_text::Case;
 use index::SSTableIndexV3;
+use layout::refusals::Refusal;
+use std::alloc::{AllocError, Global};
 use std::io;
 use std::rt::Files;
 use vector_parts::tally::Tallies;
@@ -10,6 +13,9 @@ use vectors::driver;
 use vectors::driver::Letter;
 
 const ROW: Option<usize> = Some(ROW_OF_QUESTIONS);
+
+// No key of a question is longer.
+const LONGEST_KEY: usize = 2048;
 
 // What a line asks.
 #[derive(Clone, Copy)]
@@ -62,11 +68,18 @@ const LETTERS: [Letter<Kind>; 6] = [
     },
 ];
 
+// The record of the file with so many terms, as an opening with them answers it.
+fn with_terms(opened: SSTableIndexV3, terms: u64) -> Result<SSTableIndexV3, Refusal> {
+    if terms < opened.terms {
+        return Err(Refusal::TermsBad);
+    }
+    Ok(SSTableIndexV3 { terms, ..opened })
+}
+
 // Whether the file opens with so many terms as the line says, and to the same record but for their number.
 fn opens_again(opened: SSTableIndexV3, data: &[u8], terms: u64, due: &[u64]) -> bool {
     let answer = index_load::load(opened.version, terms, data);
-    let same = SSTableIndexV3 { terms, ..opened };
-    is_told(due, answer.map(|_| [])) && answer.ok().is_none_or(|again| again == same)
+    answer == with_terms(opened, terms) && is_told(due, answer.map(|_| []))
 }
 
 // The same with a version, and the least number of terms. Where it doesn't open, the check says so too.
@@ -93,13 +106,13 @@ fn is_answered(kind: Kind, case: Case<'_>, opened: SSTableIndexV3, data: &[u8]) 
         (Kind::ByVersion, [version, due @ ..]) => opens_as(opened, data, *version, due),
         // TERMS ORDINAL NO ID
         (Kind::ByOrdinal, [terms, ord, due @ ..]) => {
-            let answer = index_load::load(opened.version, *terms, data).and_then(
-                |again| index_lookup::locate_with_ord(again, data, *ord),
-            );
+            let answer = with_terms(opened, *terms).and_then(|opened| index_lookup::locate_with_ord(
+                opened, data, *ord,
+            ));
             is_told(due, answer.map(|found| [found.block_id as u64]))
         }
         // NO ID
-        (Kind::ByKey, due) => {
+        (Kind::ByKey, due) if case.bytes.len() <= LONGEST_KEY => {
             let answer = index_lookup::locate_with_key(opened, data, case.string(0));
             is_told(due, answer.map(|id| [id as u64]))
         }
@@ -114,16 +127,37 @@ fn is_answered(kind: Kind, case: Case<'_>, opened: SSTableIndexV3, data: &[u8]) 
     }
 }
 
-// Counts a case for each line of STEM.questions, asked of STEM.index. No line at all differs.
-pub fn count(rt: &(impl Files + AllocGlobal), stem: &str, tallies: &mut Tallies) -> io::Result<()> {
-    let text = files::read(rt, stem, "questions")?;
-    let file = files::read(rt, stem, "index")?;
+// Whether a line begins with a letter above.
+fn asks(line: &[u8]) -> bool {
+    LETTERS
+        .iter()
+        .any(|letter| line.first() == Some(&letter.letter))
+}
+
+// The lines that ask something. Each other line differs, a comment too.
+fn asked(alloc: Global, text: &[u8], tallies: &mut Tallies) -> Result<Vec<u8>, AllocError> {
+    let mut asked = Vec::new(alloc);
+    for line in text.split_inclusive(|byte| *byte == b'\n') {
+        if asks(line) {
+            asked.extend_from_slice(line)?;
+        } else {
+            tallies.count(ROW, false);
+        }
+    }
+    Ok(asked)
+}
+
+// Counts a case for each line of NAME.questions, asked of NAME.index. No line at all differs.
+pub fn count(rt: &(impl Files + AllocGlobal), name: &str, tallies: &mut Tallies) -> io::Result<()> {
+    let text = files::read(rt, name, FILE_LEN)?;
+    let file = files::read_beside(rt, name, "index", FILE_LEN)?;
     let (Some(text), Some(file)) = (text, file) else {
         tallies.count(ROW, false);
         return Ok(());
     };
-    match index_load::load_least(files::version(stem), &file) {
+    match index_load::load_least(files::version(name), &file) {
         Ok(opened) if !text.is_empty() => {
+            let text = asked(rt.alloc(), &text, tallies)?;
             driver::compare(rt.alloc(), &text, &LETTERS, tallies, |kind, case| {
                 Ok(is_answered(kind, case, opened, &file))
             })

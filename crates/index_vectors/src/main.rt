@@ -176,7 +176,7 @@ fn is_same(
     let text = case.string(0);
     match kind {
         Kind::OpenFile => opened.opens_file(alloc, given, text),
-        Kind::OpenChanged => opened.opens_changed(given, text),
+        Kind::OpenChanged => opened.opens_changed(alloc, given, text),
         Kind::OpenByRule => opened.opens_by_rule(alloc, given),
         Kind::OpenAgain => Ok(opened.opens_again(given)),
         Kind::SetRecord => Ok(opened.sets_record(given)),

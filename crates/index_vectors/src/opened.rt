@@ -7,6 +7,9 @@ use std::alloc::{AllocError, Global};
 use store::Located;
 use vector_parts::told::is_told;
 
+// The most bytes that a change replaces.
+const LONGEST: usize = 128;
+
 // Where a group record has its first ordinal.
 const FIRST_ORDINAL: usize = 16;
 
@@ -63,23 +66,38 @@ impl Opened {
         Ok(self.opens(*version, opening))
     }
 
-    // VERSION AT TERMS NO N .., and the bytes in place of the file's own from AT on
-    pub fn opens_changed(&self, given: &[u64], part: &[u8]) -> Result<bool, AllocError> {
+    // Exchanges the file's bytes from `at` on for the part's. False where the file doesn't have them.
+    fn exchange(&mut self, at: usize, part: &mut [u8]) -> bool {
+        let Some((_, rest)) = self.file.split_at_mut_checked(at) else {
+            return false;
+        };
+        let Some((own, _)) = rest.split_at_mut_checked(part.len()) else {
+            return false;
+        };
+        own.swap_with_slice(part);
+        true
+    }
+
+    // VERSION AT TERMS NO N .., and the bytes in place of the file's own from AT on. They are put back.
+    pub fn opens_changed(
+        &mut self,
+        alloc: Global,
+        given: &[u64],
+        part: &[u8],
+    ) -> Result<bool, AllocError> {
         let [version, at, terms, due @ ..] = given else {
             return Ok(false);
         };
-        let mut file = self.file.clone()?;
-        let Some((_, rest)) = file.split_at_mut_checked(*at as usize) else {
+        let at = *at as usize;
+        let mut other = part.to_vec(alloc)?;
+        if other.len() > LONGEST || !self.exchange(at, &mut other) {
             return Ok(false);
-        };
-        let Some((own, _)) = rest.split_at_mut_checked(part.len()) else {
-            return Ok(false);
-        };
-        own.copy_from_slice(part);
-        Ok(is_told(
-            due,
-            index_load::load(*version, *terms, &file).map(|opened| <[u64; 9]>::from(opened)),
-        ))
+        }
+        let answer = index_load::load(*version, *terms, &self.file);
+        Ok(
+            self.exchange(at, &mut other)
+                && is_told(due, answer.map(|opened| <[u64; 9]>::from(opened))),
+        )
     }
 
     // N DIRECTORY LEN RECORDS LEN ADDRESSES LEN TERMS VERSION: this record from here on. This and `block_count` are as in

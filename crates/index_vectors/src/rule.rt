@@ -1,6 +1,6 @@
 // The file by the rule, of a version: n keys, key i the 3 bytes of i, highest first; groups that share their fields, with slopes and
 // widths of 1; address bytes FF, as many as a full group needs. So block i is i..i + 1 from ordinal i on.
-ghost use Rattle.std.specs.Prelude.{◌≤◌};
+ghost use Rattle.std.specs.Prelude.{◌≡◌, ◌+◌, ◌≤◌, IfOk, take, vec_len};
 
 use layout::versions;
 use std::alloc::{AllocError, Global};
@@ -10,7 +10,10 @@ const MOST: u64 = 65537;
 const RECORD: u32 = 36;
 
 // The record of a group whose block `first` is its first, with so many more.
-fn put_record(out: &mut Vec<u8>, first: u32, more: u16) -> Result<(), AllocError> {
+fn put_record(out: &mut Vec<u8>, first: u32, more: u16) -> Result<(), AllocError>
+    ensures { IfOk result (λ _. (vec_len out.new ≡ vec_len out.old + 36)
+        × (take (vec_len out.old) out.new.items ≡ out.old.items)) }
+{
     out.extend_from_slice(&0u64.to_le_bytes())?;
     out.extend_from_slice(&u64::from(first).to_le_bytes())?;
     out.extend_from_slice(&u64::from(first).to_le_bytes())?;

@@ -8,6 +8,9 @@ use layout::refusals::Refusal;
 use std::alloc::{AllocError, Global};
 use vector_parts::told::is_told;
 
+// No file of a line is longer.
+const LONGEST_FILE: usize = 4096;
+
 #[derive(Drop)]
 pub struct Subject {
     table: Vec<u8>,
@@ -31,11 +34,7 @@ impl Subject {
         how: Table,
         case: Case<'_>,
     ) -> Result<bool, AllocError> {
-        let Some(table) = how.made(alloc, case, &self.table)? else {
-            return Ok(false);
-        };
-        self.table = table;
-        Ok(true)
+        how.set(alloc, case, &mut self.table)
     }
 
     // VERSION N, and the file: its count of blocks, 0 where it is refused. No listing depends on the number of terms.
@@ -48,6 +47,9 @@ impl Subject {
         let [version, n] = *given else {
             return Ok(false);
         };
+        if content.len() > LONGEST_FILE {
+            return Ok(false);
+        }
         self.file = content.to_vec(alloc)?;
         self.record = index_load::load_least(version, &self.file).ok();
         Ok(n == self.block_count() as u64)

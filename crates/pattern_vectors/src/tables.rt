@@ -5,6 +5,9 @@ use case_text::Case;
 use std::alloc::{AllocError, Global};
 use vector_parts::draws::Draws;
 
+// No table is longer: 255 states and a byte.
+const LONGEST: usize = 65537;
+
 // How a line makes a table.
 #[derive(Clone, Copy)]
 pub enum Table {
@@ -34,40 +37,30 @@ fn front(alloc: Global, flags: &[u8]) -> Result<Option<(Vec<u8>, u8)>, AllocErro
     Ok(Some((table, count)))
 }
 
-// Next states as runs: how many less one, and the state. None where they aren't those of all states.
-fn by_runs(alloc: Global, flags: &[u8], runs: &[u8]) -> Result<Option<Vec<u8>>, AllocError> {
-    let Some((mut table, m)) = front(alloc, flags)? else {
-        return Ok(None);
+// Appends next states as runs, as far as there is room: how many less one, and the state. False where they aren't those of m states.
+fn put_runs(table: &mut Vec<u8>, m: u8, runs: &[u8]) -> Result<bool, AllocError> {
+    let (runs, []) = runs.as_chunks::<2>() else {
+        return Ok(false);
     };
     let len = table.len() + 256 * usize::from(m);
-    let (runs, others) = runs.as_chunks::<2>();
     for [more, state] in runs {
         let behind = table.len() + 1 + usize::from(*more);
-        table.resize(behind, *state)?;
+        table.resize(behind.min(LONGEST), *state)?;
     }
-    Ok((others.is_empty() && table.len() == len).then_some(table))
+    Ok(table.len() == len)
 }
 
 // The next state of s with byte b is (s * a + c + b / d) modulo the count of states.
-fn by_rule(
-    alloc: Global,
-    flags: &[u8],
-    a: u16,
-    c: u16,
-    d: u64,
-) -> Result<Option<Vec<u8>>, AllocError>
-    requires { 0 < d }
+fn put_rule(table: &mut Vec<u8>, m: u8, a: u16, c: u16, d: u64) -> Result<(), AllocError>
+    requires { (0 < m) × (0 < d) }
 {
-    let Some((mut table, m)) = front(alloc, flags)? else {
-        return Ok(None);
-    };
     let m = u64::from(m);
     // A `for` over the states: one chain of all rows would be a flat_map of chains.
     for s in 0..m {
         let row = s * u64::from(a) + u64::from(c);
         table.extend((0..256).map(|b| ((row + b / d) % m) as u8))?;
     }
-    Ok(Some(table))
+    Ok(())
 }
 
 // The next state that v draws among m: the last one for k draws of 256.
@@ -79,10 +72,9 @@ fn drawn(v: u64, m: u64, k: u64) -> u8
 }
 
 // Next states by a generator from `seed` on. The last state stays.
-fn by_draws(alloc: Global, flags: &[u8], seed: u64, k: u64) -> Result<Option<Vec<u8>>, AllocError> {
-    let Some((mut table, m)) = front(alloc, flags)? else {
-        return Ok(None);
-    };
+fn put_draws(table: &mut Vec<u8>, m: u8, seed: u64, k: u64) -> Result<(), AllocError>
+    requires { 0 < m }
+{
     let m = u64::from(m);
     let mut draws = Draws::new(seed);
     table.extend((0..256 * (m - 1)).map(
@@ -90,50 +82,81 @@ fn by_draws(alloc: Global, flags: &[u8], seed: u64, k: u64) -> Result<Option<Vec
             requires { (0 < m) × (m < 256) }
         { drawn(draws.draw(), m, k) },
     ))?;
-    table.resize(table.len() + 256, (m - 1) as u8)?;
-    Ok(Some(table))
+    table.resize(table.len() + 256, (m - 1) as u8)
 }
 
-// The bytes with a part in place of their own from `at` on, beyond their end too.
-fn changed(
-    alloc: Global,
-    bytes: &[u8],
-    at: u64,
-    part: &[u8],
-) -> Result<Option<Vec<u8>>, AllocError> {
-    let Some((front, own)) = bytes.split_at_checked(at as usize) else {
-        return Ok(None);
-    };
-    let mut table = front.to_vec(alloc)?;
-    table.extend_from_slice(part)?;
-    if let Some(behind) = own.get(part.len()..) {
-        table.extend_from_slice(behind)?;
+// Puts a part in place of the table's own from `at` on, beyond its end too. False where there is no such place or no room.
+fn put_part(table: &mut Vec<u8>, at: u64, part: &[u8]) -> Result<bool, AllocError> {
+    let at = at as usize;
+    if at > table.len() || part.len() > LONGEST.saturating_sub(at) {
+        return Ok(false);
     }
-    Ok(Some(table))
+    let end = at + part.len();
+    if table.len() < end {
+        table.resize(end, 0)?;
+    }
+    table[at..end].copy_from_slice(part);
+    Ok(true)
 }
 
 impl Table {
-    // What a line makes of the table `old`; nothing where the line is bad.
-    pub fn made(
+    // Makes another table of this one. False where the line is bad.
+    pub fn set(
         self,
         alloc: Global,
         case: Case<'_>,
-        old: &[u8],
-    ) -> Result<Option<Vec<u8>>, AllocError> {
+        table: &mut Vec<u8>,
+    ) -> Result<bool, AllocError> {
         let one = case.string(0);
         match (self, case.numbers) {
-            (Table::Whole, []) => Ok(Some(one.to_vec(alloc)?)),
-            (Table::Runs, []) => by_runs(alloc, one, case.string(1)),
+            (Table::Whole, []) => {
+                *table = one.to_vec(alloc)?;
+                Ok(true)
+            }
+            (Table::Part, [at]) => put_part(table, *at, one),
+            (Table::Front, [len]) if *len <= table.len() as u64 => {
+                table.truncate(*len as usize);
+                Ok(true)
+            }
+            (Table::Runs | Table::Rule | Table::Draws, _) => self.set_by_flags(alloc, case, table),
+            _ => Ok(false),
+        }
+    }
+
+    // A new table with these flags. As far as a bad line makes one, it stands in place of the front of the old one.
+    fn set_by_flags(
+        self,
+        alloc: Global,
+        case: Case<'_>,
+        table: &mut Vec<u8>,
+    ) -> Result<bool, AllocError> {
+        let Some((mut made, m)) = front(alloc, case.string(0))? else {
+            return Ok(false);
+        };
+        if self.put_next(case, &mut made, m)? {
+            *table = made;
+            return Ok(true);
+        }
+        let len = made.len().min(table.len());
+        table[..len].copy_from_slice(&made[..len]);
+        Ok(false)
+    }
+
+    // Appends the next states of m states. False where the line is bad.
+    fn put_next(self, case: Case<'_>, table: &mut Vec<u8>, m: u8) -> Result<bool, AllocError>
+        requires { 0 < m }
+    {
+        match (self, case.numbers) {
+            (Table::Runs, []) => put_runs(table, m, case.string(1)),
             (Table::Rule, [a @ ..=0xffff, c @ ..=0xffff, d @ 1..]) => {
-                by_rule(alloc, one, *a as u16, *c as u16, *d)
+                put_rule(table, m, *a as u16, *c as u16, *d)?;
+                Ok(true)
             }
-            (Table::Draws, [seed, k]) if *seed < 1 << 31 => by_draws(alloc, one, *seed, *k),
-            (Table::Part, [at]) => changed(alloc, old, *at, one),
-            (Table::Front, [len]) => {
-                let front = old.get(..*len as usize);
-                Ok(front.map(|front| front.to_vec(alloc)).transpose()?)
+            (Table::Draws, [seed, k]) if *seed < 1 << 31 => {
+                put_draws(table, m, *seed, *k)?;
+                Ok(true)
             }
-            _ => Ok(None),
+            _ => Ok(false),
         }
     }
 }

@@ -17,20 +17,33 @@ use group::area::put_block;
 use group_write::AreaGroup;
 use layout::META_LEN;
 use layout::refusals::Refusal;
+use std::alloc::AllocError;
 use store::grouping::Grouping;
 use store_write::GroupPlace;
 
 // The numbers of a record in the window: numbers and not blocks, since AreaGroup reads the builder's area, which is C's numbers with five
 // a block, by the same code.
-const STRIDE: usize = 3;
+pub const STRIDE: usize = 3;
 
-// A list's records, in groups of `group_len`.
-#[derive(Drop)]
+// A list's records, in groups of `group_len`. They are lent, so that a writer is copied whatever they are.
 pub struct BlockAddrStoreWriter<'a, R> {
     pub records: &'a R,
     pub group_len: usize,
     pub ghost len: { GroupLenOk group_len },
 }
+
+// By hand, since a derive asks the same of the records.
+impl<'a, R> Clone for BlockAddrStoreWriter<'a, R> {
+    ghost is_clone = { λ x y. y ≡ x };
+
+    ghost is_infallible = { λ _. Unit {0} };
+
+    fn clone(&self) -> Result<BlockAddrStoreWriter<'a, R>, AllocError> {
+        Ok(*self)
+    }
+}
+
+impl<'a, R> Copy for BlockAddrStoreWriter<'a, R> {}
 
 impl<'a, R: Records> BlockAddrStoreWriter<'a, R> {
     fn grouping(&self) -> Grouping

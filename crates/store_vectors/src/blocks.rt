@@ -1,7 +1,9 @@
 // Blocks in an area of numbers, three a block.
-ghost use Rattle.std.specs.Prelude.{◌≡◌, true, ℕ, suc, ◌+◌, ◌*◌, ◌≤◌, ◌<◌, length};
+ghost use Rattle.std.specs.Prelude.{◌≡◌, true, ℕ, suc, ◌+◌, ◌*◌, ◌≤◌, ◌<◌, length, IfSome};
+ghost use Rattle.layout.specs.Versions.{group_len_of};
 ghost use Rattle.group.specs.Blocks.{block_at};
 ghost use Rattle.group.specs.Legal.{NumbersOk, Follows};
+ghost use Rattle.store.specs.Facts.{StoreArea};
 
 use group::area::block_at;
 use layout::{MAX_BLOCKS, versions};
@@ -47,7 +49,10 @@ fn follow(area: &[u64], n: usize) -> bool
 }
 
 // The blocks in an area of just their numbers, in groups as an index of this version has them, if they are legal.
-pub fn legal(version: u64, area: &[u64]) -> Option<AreaStore<'_>> {
+pub fn legal(version: u64, area: &[u64]) -> Option<AreaStore<'_>>
+    ensures { IfSome result (λ blocks. StoreArea area.now 3 blocks.n × (length area.now ≡ 3 * blocks.n)
+        × (blocks.area.now ≡ area.now) × (blocks.stride ≡ 3) × (blocks.group_len ≡ group_len_of version)) }
+{
     let n = area.len() / STRIDE;
     if n > MAX_BLOCKS || area.len() % STRIDE != 0 {
         return None;

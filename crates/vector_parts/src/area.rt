@@ -23,16 +23,32 @@ pub fn framed<T: Copy + PartialEq>(area: &[T], place: usize, n: usize, mark: T) 
     before.iter().all(|item| *item == mark).then_some(part)
 }
 
+// The remainder of a number with one digit more. Only where that is beyond 2^64 - 1 is it divided as one of 128 bits.
+fn next(rest: u64, base: u64, digit: u64, modulus: u64) -> u64
+    requires { 0 < modulus }
+    ensures { result < modulus }
+{
+    match base
+        .checked_mul(rest)
+        .and_then(|high| high.checked_add(digit))
+    {
+        Some(number) => number % modulus,
+        None => {
+            let number = u128::from(base) * u128::from(rest) + u128::from(digit);
+            (number % u128::from(modulus)) as u64
+        }
+    }
+}
+
 // The remainder of the number whose digits the items are, the first one highest.
 pub fn remainder<T: Copy + Into<u64>>(items: &[T], base: u64, modulus: u64) -> u64
     requires { 0 < modulus }
     ensures { result < modulus }
 {
-    let mut rest: u128 = 0;
+    let mut rest: u64 = 0;
     // A fold's closure would have to ask that the remainder so far is below the modulus.
     for item in items {
-        let digit: u64 = (*item).into();
-        rest = (u128::from(base) * rest + u128::from(digit)) % u128::from(modulus);
+        rest = next(rest, base, (*item).into(), modulus);
     }
-    rest as u64
+    rest
 }
