@@ -2,6 +2,7 @@
 use mathlib.Core.Path.{◌≡◌, refl}
 use mathlib.Core.List.{List, [], ◌∷◌, ◌++◌}
 use mathlib.Core.Bool.{Bool}
+use mathlib.Core.Logic.{◌⊎◌, inl, inr}
 use Prim.Native.Nat.{ℕ, zero, suc, ◌+◌, ◌≤◌, ◌<◌}
 use native.Mathlib.Numerals.{add-one}
 use native.Mathlib.Omega.{arith}
@@ -92,6 +93,13 @@ can-match-here e = can-match-hits (hits-nil e)
 
 pub can-match-step : {t : List ℕ} (s b : ℕ) → b < 256 → CanMatch t (next t s b) → CanMatch t s
 can-match-step s b h m = can-match-hits (hits-cons s b h m.hits)
+
+pub can-match-cases : {t : List ℕ} (s : ℕ) → CanMatch t s → (flag t s ≡ 1) ⊎ ((b : ℕ) × (b < 256) × CanMatch t (next t s b))
+can-match-cases {t} s m =
+    word-cases (λ w. Unit {0}) ((flag t s ≡ 1) ⊎ ((b : ℕ) × (b < 256) × CanMatch t (next t s b)))
+    (λ e p. inl e)
+    (λ b w h i p. inr (b, h, can-match-hits i))
+    m
 
 -- what `can_match` tells, by the word of `reach`
 pub can-match-exactly : {t : List ℕ} {word : ℕ} → Reach t word → (s : ℕ) → s < states t → (r : Bool) → Exactly r (bit word s ≡ 1)

@@ -7,7 +7,9 @@ use native.Mathlib.Nat.{add_assoc, add_comm, add_left_comm, add-mul, add-zero, z
 use native.Mathlib.Nat.{mul_right_comm, mul-le-mul_left}
 use native.Mathlib.Omega.{arith}
 use lib.ListN.{length, take, get_or}
+use lib.Dec.{lit<}
 use lib.Pow.{pow-add, field, mod-mod-pow, shr-shr, high, low}
+use lib.Seq.{ext_get_or, take_all, take-length}
 use Rattle.serialize.specs.Digits.{of_digits, le_val, le_bytes, DigitsBelow}
 use Rattle.serialize.proofs.Digits.{of_digits-suc, of_digits-take, of_digits-digits_of, of_digits-digit, sub-field}
 use Rattle.bitpacker.specs.Bits.{bytes_of}
@@ -123,6 +125,24 @@ module _ (r o : ℕ) (rs os : List ℕ) (hr : DigitsBelow r rs) (ho : DigitsBelo
       ∙ ap (λ (x : ℕ). x / 2 ^ r) (joint i)
       ∙ high (get_or os i 0) r (hr i)
 
+  -- the first i pairs with range i, and the first i pairs
+  half_lt : (i : ℕ) → group_val r o (take i rs) (take i os) < 2 ^ range_bit r o i
+      → group_val r o (take (suc i) rs) (take i os) < 2 ^ ordinal_bit r o i
+  half_lt i h =
+      rw (← (group-range r o i rs (take i os)), add_comm (range_bit r o i) r)
+      (join-lt (get_or rs i 0) r (group_val r o (take i rs) (take i os)) (range_bit r o i) (hr i) h)
+
+  pairs_lt : (i : ℕ) → group_val r o (take i rs) (take i os) < 2 ^ range_bit r o i
+  pairs_lt zero = rw (group-none r o, group-bits-none r o) (lit< tt)
+  pairs_lt (suc i) =
+      rw (← (group-ordinal r o i (take (suc i) rs) os), ← (group-bits-ordinal r o i), add_comm (ordinal_bit r o i) o)
+      (join-lt (get_or os i 0) o (group_val r o (take (suc i) rs) (take i os)) (ordinal_bit r o i) (ho i) (half_lt i (pairs_lt i)))
+
+  -- the number has no more bits than the fields
+  pub group-lt : length rs ≡ length os + 1 → group_val r o rs os < 2 ^ group_bits r o (length os)
+  group-lt e =
+      rw (take_all (suc (length os)) rs (omega arith), take-length os) at (half_lt (length os) (pairs_lt (length os)))
+
   -- bytes that begin with the group's give each field back
   pub group-read-back : (l : List ℕ) (i : ℕ) → DigitsBelow 8 l
       → take (bytes_of (group_bits r o (length os))) l ≡ le_bytes (bytes_of (group_bits r o (length os))) (group_val r o rs os)
@@ -134,3 +154,16 @@ module _ (r o : ℕ) (rs os : List ℕ) (hr : DigitsBelow r rs) (ho : DigitsBelo
     λ k. read-written l (group_bits r o (length os)) (group_val r o rs os) (ordinal_bit r o i) o h e (ordinal-within r o i (length os) k)
         ∙ group-read-ordinal i,
   )
+
+-- equal numbers mean equal fields
+pub group-inj : (r o : ℕ) (rs rs' os os' : List ℕ) → DigitsBelow r rs → DigitsBelow r rs' → DigitsBelow o os → DigitsBelow o os'
+    → length rs ≡ length rs' → length os ≡ length os'
+    → group_val r o rs os ≡ group_val r o rs' os' → (rs ≡ rs') × (os ≡ os')
+group-inj r o rs rs' os os' hr hr' ho ho' lr lo e = (
+  ext_get_or 0 rs rs' lr
+      (λ i _. sym (group-read-range r o rs os hr ho i) ∙ ap (λ (x : ℕ). x / 2 ^ range_bit r o i % 2 ^ r) e
+      ∙ group-read-range r o rs' os' hr' ho' i),
+  ext_get_or 0 os os' lo
+      (λ i _. sym (group-read-ordinal r o rs os hr ho i) ∙ ap (λ (x : ℕ). x / 2 ^ ordinal_bit r o i % 2 ^ o) e
+      ∙ group-read-ordinal r o rs' os' hr' ho' i),
+)

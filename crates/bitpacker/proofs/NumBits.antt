@@ -3,7 +3,7 @@ use mathlib.Core.Path.{◌≡◌, refl}
 use mathlib.Core.Bool.{Bool, true, false}
 use mathlib.Core.Logic.{◌⊎◌, inl, inr, ⊎_elim}
 use Prim.Native.Nat.{ℕ, suc, ◌-◌, ◌^◌, ◌≤◌, ◌<◌}
-use native.Mathlib.Nat.{lt_of_lt_of_le, lt_of_not-le, le_of_suc-le-suc, pow-suc}
+use native.Mathlib.Nat.{lt_of_lt_of_le, lt_of_le_of_lt, lt_of_not-le, le_of_suc-le-suc, pow-suc}
 use native.Mathlib.Omega.{arith}
 use borrow.Author.Tests.{leb-true, leb-false}
 use lib.Count.{count_leading_zeros, leading_length}
@@ -43,3 +43,8 @@ num_bits_of-le b x k h =
     let t = leading_length 64 x (lt_of_lt_of_le h (pow_mono {j = 64} (omega arith))) in
     let short : t.0 ≤ b = le_of_suc-le-suc (lt_of_not-le (λ (g : suc b ≤ t.0). let m = pow_mono g in let s = pow-suc 2 b in omega arith)) in
     ⊎_elim (λ c. omega arith) (λ c. omega arith) (num_bits_of-cases x)
+
+pub num_bits_of-mono : (x y : ℕ) → x ≤ y → y < 2 ^ 64 → num_bits_of x ≤ num_bits_of y
+num_bits_of-mono x y h k =
+    let top = num_bits_of-max x in
+    ⊎_elim (λ c. num_bits_of-le (num_bits_of y) x c.0 (lt_of_le_of_lt h (num_bits_of-lt y k))) (λ c. omega arith) (num_bits_of-cases y)

@@ -2,15 +2,15 @@
 use mathlib.Core.Path.{◌≡◌, refl, sym, ap, ◌∙◌}
 use mathlib.Core.List.{List}
 use Prim.Native.Nat.{ℕ, ◌+◌, ◌*◌, ◌/◌, ◌%◌, ◌^◌, ◌≤◌, ◌<◌}
-use native.Mathlib.Nat.{add_comm, zero-add, mul_assoc, mul-add-mod_self_right, mul-add-div_right}
+use native.Mathlib.Nat.{add_comm, zero-add, mul_assoc, mul-add-mod_self_right, mul-add-div_right, div-lt_iff_lt-mul}
 use native.Mathlib.Omega.{arith}
 use lib.Dec.{lit<}
-use lib.ListN.{length}
+use lib.ListN.{length, take}
 use lib.Pow.{pow-add, pow_pos, shr_lt, shr-shr}
 use lib.Seq.{sets, length-sets}
 use Rattle.serialize.specs.Digits.{digits_of, le_bytes}
 use Rattle.serialize.proofs.Digits.{length-digits_of, digits_of-add}
-use Rattle.serialize.proofs.Stores.{sets-append}
+use Rattle.serialize.proofs.Stores.{sets-append, sets-part}
 use Rattle.bitpacker.specs.declared.BitPacker.{BitPacker}
 use Rattle.bitpacker.specs.Bits.{bytes_of}
 use Rattle.bitpacker.specs.Packer.{Waiting, joined_to, words_of, leaving, packed_with}
@@ -47,6 +47,13 @@ more_bytes d w j N M e =
 module _ {d l : List ℕ} {p : BitPacker} {b N : ℕ} (k : Packed d l p b N) where
   pub packed-length : length l ≡ length d
   packed-length = ap length k.out ∙ length-sets d 0 (le_bytes p.written N)
+
+  -- what it took has no more than b bits
+  pub packed-small : N < 2 ^ b
+  packed-small =
+      let low = k.waiting.low in
+      let h : N / 2 ^ (8 * p.written) < 2 ^ p.filled = rw k.rest at low in
+      rw (← k.count, add_comm (8 * p.written) p.filled, pow-add 2 p.filled (8 * p.written)) ((div-lt_iff_lt-mul (pow_pos (8 * p.written))).0 h)
 
   -- a field more
   pub packed-write : (v n : ℕ) → v < 2 ^ n → Packed d (sets l p.written (leaving p v n)) (packed_with p v n) (b + n) (v * 2 ^ b + N)
@@ -99,3 +106,10 @@ module _ {d l : List ℕ} {p : BitPacker} {b N : ℕ} (k : Packed d l p b N) whe
 
   pub packed-room-flush : b ≤ 8 * length d → Waiting p × (p.written + bytes_of p.filled ≤ length l)
   packed-room-flush room = (k.waiting, omega (arith, packed-length))
+
+-- what `flush` leaves, as a reader finds it
+pub packed-front : (d : List ℕ) (b N : ℕ) → b ≤ 8 * length d
+    → take (bytes_of b) (sets d 0 (le_bytes (bytes_of b) N)) ≡ le_bytes (bytes_of b) N
+packed-front d b N room =
+    let e = length-digits_of 8 (bytes_of b) N in
+    rw e at (sets-part d (le_bytes (bytes_of b) N) 0 (omega arith))

@@ -87,6 +87,10 @@ module _ (n : ℕ) (B K : List ℕ) where
   unfolding area_view
   next-none h = simp (eq-eqb n 0 h)
 
+  pub last_none : n ≡ 0 → (area_view n B K).last ≡ record { start = 0; end = 0; first_ordinal = 0 }
+  unfolding area_view
+  last_none h = simp (eq-eqb n 0 h)
+
   pub key-none : n ≡ 0 → (area_view n B K).last_key ≡ []
   unfolding area_view
   key-none h = simp (eq-eqb n 0 h)

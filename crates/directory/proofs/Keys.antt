@@ -1,8 +1,8 @@
 -- Laws of the keys of lent areas: how many there are, each of them, the first of them, and where their numbers stand.
 use mathlib.Core.Path.{◌≡◌, refl, ap}
 use mathlib.Core.List.{List, [], ◌∷◌}
-use Prim.Native.Nat.{ℕ, zero, suc, ◌+◌, ◌-◌, ◌≤◌, ◌<◌}
-use native.Mathlib.Nat.{add-zero, add-suc, suc-add, not-suc-le-zero, le_of_suc-le-suc}
+use Prim.Native.Nat.{ℕ, zero, suc, ◌+◌, ◌-◌, ◌*◌, ◌≤◌, ◌<◌}
+use native.Mathlib.Nat.{add-zero, add-suc, suc-add, mul-suc, mul-le-mul_left, le_trans, not-suc-le-zero, le_of_suc-le-suc}
 use native.Mathlib.Numerals.{add-one}
 use native.Mathlib.Omega.{arith}
 use lib.ListN.{length, get_or, drop, length-drop}
@@ -37,6 +37,10 @@ module _ (area : List ℕ) (stride field : ℕ) (keys : List ℕ) where
       rw e (unfold keys_at in refl)
 
   module _ (n : ℕ) (ok : KeysArea area stride field keys n) (i : ℕ) (h : i < n) where
+    -- both numbers of key i stand in the area
+    pub record-inside : stride * i + stride ≤ length area
+    record-inside = le_trans (rw (mul-suc stride i) at (mul-le-mul_left stride h)) ok.inside
+
     pub length-key_at : length (key_at area stride field keys i) ≡ length_at area stride field i
     length-key_at =
         length-take-le (length_at area stride field i) (drop (offset_at area stride field i) keys)

@@ -7,7 +7,7 @@ use Prim.Native.Nat.{ℕ, zero, suc, ◌+◌, ◌*◌, ◌≤◌, ◌<◌}
 use native.Mathlib.Nat.{add-zero, add-suc, suc-add, zero-add, le_refl, le_of_suc-le-suc, not-suc-le-zero}
 use native.Mathlib.Omega.{arith}
 use lib.ListN.{length, get_or, take, drop, length-drop, take-append-drop}
-use lib.Seq.{length-take-le, take-length, take-add, drop-drop, drop-length}
+use lib.Seq.{length-take-le, take-length, take-add, drop-drop, drop-length, ext_get_or}
 use borrow.Table.Steps.{cases}
 use Rattle.keys.specs.Order.{◌≺◌}
 use Rattle.serialize.specs.Digits.{le_bytes, DigitsBelow}
@@ -33,6 +33,19 @@ module _ (ks : List (List ℕ)) (d : List ℕ) (r : ReadsBack ks d) where
   unfolding key_begin
   begin-back zero h = unfold key_bytes in refl
   begin-back (suc i) h = omega (arith, r.offset i h, length_back i h, length-key_bytes-suc ks i h)
+
+module _ (ks : List (List ℕ)) (rest : List ℕ) (b : Bounded ks) where
+  pub count-written : count_of (directory_bytes ks ++ rest) ≡ length ks
+  count-written = (reads-back ks rest b).count
+
+  pub offset-written : (i : ℕ) → i < length ks → key_offset (directory_bytes ks ++ rest) i ≡ length (key_bytes (take i ks))
+  offset-written = (reads-back ks rest b).offset
+
+  pub length-written : (i : ℕ) → i < length ks → key_length (directory_bytes ks ++ rest) i ≡ length (get_or ks i [])
+  length-written = length_back ks (directory_bytes ks ++ rest) (reads-back ks rest b)
+
+  pub key-written : (i : ℕ) → i < length ks → key_of (directory_bytes ks ++ rest) (length ks) i ≡ get_or ks i []
+  key-written = key_back ks (directory_bytes ks ++ rest) (reads-back ks rest b)
 
 -- ---- the directory alone
 
@@ -104,6 +117,14 @@ module _ (d : List ℕ) where
   pub get_or-keys_in : (i : ℕ) → i < count_of d → get_or (keys_in d) i [] ≡ key_of d (count_of d) i
   get_or-keys_in i h = get_or-keys_from d (count_of d) 0 (count_of d) i h ∙ rw (zero-add i)
 
+-- what was written has the keys written
+pub keys_in-written : (ks : List (List ℕ)) → Bounded ks → keys_in (directory_bytes ks) ≡ ks
+keys_in-written ks b =
+    let same : length (keys_in (directory_bytes ks)) ≡ length ks = length-keys_in (directory_bytes ks) ∙ count-whole ks b in
+    ext_get_or [] (keys_in (directory_bytes ks)) ks same
+    (λ i h. get_or-keys_in (directory_bytes ks) i (omega (arith, length-keys_in (directory_bytes ks)))
+    ∙ rw (count-whole ks b) (key-whole ks b i (omega arith)))
+
 -- ---- a directory that row 12 lets pass
 
 -- the bytes of pair i, then those behind it
@@ -132,6 +153,14 @@ module _ (d : List ℕ) (good : directory_bad d ≡ false) where
   length-key i h =
       length-take-le (key_length d i) (drop (4 + 8 * count_of d + key_offset d i) d)
       (omega (arith, length-drop (4 + 8 * count_of d + key_offset d i) d, (is-inside d (count_of d) i (keys-inside d ok i h)).bytes))
+
+  pub bounded-keys_in : Bounded (keys_in d)
+  bounded-keys_in = record {
+    few = rw (length-keys_in d) ok.few;
+    short = λ i l.
+        let h : i < count_of d = rw (length-keys_in d) at l in
+        rw (get_or-keys_in d i h, length-key i h) (ok.pairs.short i h);
+  }
 
   -- the keys from key i on stand at its offset, and with the last one the bytes end
   keys-are : (i count : ℕ) → i + count ≡ count_of d

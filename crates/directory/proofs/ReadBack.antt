@@ -5,7 +5,7 @@ use Prim.Native.Nat.{ℕ, zero, suc, ◌+◌, ◌*◌, ◌^◌, ◌≤◌, ◌<�
 use native.Mathlib.Nat.{add-zero, zero-add, add_assoc, not-suc-le-zero, le_of_suc-le-suc}
 use native.Mathlib.Omega.{arith}
 use lib.ListN.{length, get_or, take, drop, length-append}
-use lib.Seq.{take_at, drop_at, drop-append_seam, take-append_seam, drop-drop, drop-cons, ext_get_or}
+use lib.Seq.{take_at, drop_at, drop-append_seam, take-append_seam, drop-drop, drop-cons, ext_get_or, sets, sets-eq}
 use Rattle.serialize.specs.Digits.{le_val, le_bytes}
 use Rattle.serialize.proofs.Digits.{length-digits_of, of_digits-digits_of-lt}
 use Rattle.directory.specs.Directory.{pairs, key_bytes, directory_bytes}
@@ -122,6 +122,12 @@ reads-back keys rest b = record {
   key = read-key keys rest;
 }
 
+-- a directory written from the front of an output
+pub written-reads-back : (keys : List (List ℕ)) (out : List ℕ) → Bounded keys → length (directory_bytes keys) ≤ length out
+    → ReadsBack keys (sets out 0 (directory_bytes keys))
+written-reads-back keys out b h =
+    rw (sets-eq (directory_bytes keys) out 0 (omega arith)) (reads-back keys (drop (0 + length (directory_bytes keys)) out) b)
+
 -- a reader finds one list of keys
 pub read-once : (ks ks' : List (List ℕ)) (d : List ℕ) → ReadsBack ks d → ReadsBack ks' d → ks ≡ ks'
 read-once ks ks' d p q = ext_get_or [] ks ks' same_length same_key
@@ -148,3 +154,7 @@ directory_bytes-inj ks ks' r r' b b' e = (same, rests)
     rests =
         sym (drop-append_seam (directory_bytes ks) r)
         ∙ rw (e, same) (drop-append_seam (directory_bytes ks') r')
+
+-- the directories alone
+pub directory_bytes-inj-whole : (ks ks' : List (List ℕ)) → Bounded ks → Bounded ks' → directory_bytes ks ≡ directory_bytes ks' → ks ≡ ks'
+directory_bytes-inj-whole ks ks' b b' e = (directory_bytes-inj ks ks' [] [] b b' (ap (λ (l : List ℕ). l ++ []) e)).0

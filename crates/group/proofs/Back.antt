@@ -1,13 +1,16 @@
 -- What was written is read back: bytes that begin with a group's give its blocks, so that equal bytes mean equal blocks.
 use Prim.Native.Nat.{ℕ, zero, suc, ◌+◌, ◌-◌, ◌*◌, ◌/◌, ◌%◌, ◌^◌, ◌≤◌, ◌<◌, suc-le-suc}
-use mathlib.Core.Path.{◌≡◌, sym, ◌∙◌}
+use mathlib.Core.Path.{◌≡◌, sym, ap, ◌∙◌}
 use mathlib.Core.Bool.{false}
 use mathlib.Core.List.{List, ◌∷◌}
+use native.Mathlib.Nat.{le_of_suc-le-suc}
 use native.Mathlib.Omega.{arith}
 use borrow.Author.Tests.{le-ltb}
 use lib.Dec.{ltb}
 use lib.ListN.{length, take, get_or}
+use lib.Seq.{ext_get_or, take-length}
 use Rattle.serialize.specs.Digits.{le_val, le_bytes, DigitsBelow}
+use Rattle.serialize.proofs.Digits.{digits_of-below}
 use Rattle.bitpacker.specs.Bits.{bytes_of}
 use Rattle.bitpacker.specs.Fields.{group_val, range_bit, ordinal_bit, group_bits}
 use Rattle.bitpacker.proofs.Fields.{group-read-back}
@@ -88,3 +91,18 @@ module _ (m : BlockAddrBlockMetadata) (b : BlockAddr) (bs : List BlockAddr) (fit
   pub block_back : (i : ℕ) → i ≤ length bs → block_read m (le_val l) i ≡ block_of (b ∷ bs) i
   unfolding block_read
   block_back i h = rw (start_back i h, end_back i h, ordinal-back i h)
+
+-- equal bytes mean equal blocks
+pub blocks-inj : (m : BlockAddrBlockMetadata) (b b' : BlockAddr) (bs bs' : List BlockAddr) → Fitting m b bs → Fitting m b' bs'
+    → Legal (block_of (b ∷ bs)) (suc (length bs)) → Legal (block_of (b' ∷ bs')) (suc (length bs'))
+    → addr_bytes m b bs ≡ addr_bytes m b' bs' → b ∷ bs ≡ b' ∷ bs'
+blocks-inj m b b' bs bs' fit fit' legal legal' e =
+    let l = addr_bytes m b bs in
+    let n : length bs ≡ length bs' = sym fit.blocks ∙ fit'.blocks in
+    let front : take (length l) l ≡ l = take-length l in
+    let bytes : DigitsBelow 8 l =
+    unfold addr_bytes in
+    digits_of-below 8 (bytes_of (group_bits m.range_start_nbits m.first_ordinal_nbits (length bs))) (group_number m b bs) in
+    ext_get_or (record { start = 0; end = 0; first_ordinal = 0 }) (b ∷ bs) (b' ∷ bs') (ap suc n)
+    (λ i h. sym (block_back m b bs fit legal l bytes front i (le_of_suc-le-suc h))
+    ∙ block_back m b' bs' fit' legal' l bytes (rw (← e) front) i (omega arith))

@@ -2,7 +2,7 @@
 use Prim.Native.Nat.{ℕ, zero, suc, ◌+◌, ◌-◌, ◌*◌, ◌≤◌, ◌<◌}
 use mathlib.Core.Path.{◌≡◌, refl, ap, ◌∙◌}
 use mathlib.Core.List.{List, ◌∷◌}
-use native.Mathlib.Nat.{add-zero, mul-suc, mul-le-mul_left, le_refl}
+use native.Mathlib.Nat.{add-zero, mul-suc, mul-le-mul, mul-le-mul_left, le_refl}
 use native.Mathlib.Omega.{arith}
 use lib.ListN.{length, get_or}
 use Rattle.group.specs.Blocks.{block_of, block_at, blocks_at}
@@ -66,6 +66,12 @@ module _ {area : List ℕ} {stride first count : ℕ} (group : GroupArea area st
   group-inside j h =
       let m = mul-le-mul_left {m = suc (first + j)} {n = first + count} stride (omega arith) in
       omega (arith, mul-suc stride (first + j))
+
+  pub group-within : first + count ≤ length area
+  group-within = omega (
+    arith,
+    mul-le-mul {n₁ = 1} {m₁ = first + count} {n₂ = stride} {m₂ = first + count} (omega arith) (le_refl _),
+  )
 
   pub group-start-le : (j : ℕ) → j < count → get_or area (stride * first) 0 ≤ get_or area (stride * (first + j)) 0
   group-start-le j h = rw add-zero at (starts-rise group.legal j h)

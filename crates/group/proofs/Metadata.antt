@@ -7,7 +7,7 @@ use native.Mathlib.Omega.{arith}
 use lib.ListN.{length, take, drop}
 use lib.Seq.{take_all, take-add, drop-drop}
 use Rattle.serialize.specs.Digits.{digits_of, le_bytes, DigitsBelow, number_at}
-use Rattle.serialize.proofs.Numbers.{part-of-front, number-back, number-bytes}
+use Rattle.serialize.proofs.Numbers.{part-of-front, number-back, number_lt, number-bytes}
 use Rattle.group.specs.Meta.{meta_bytes, metadata_at}
 use Rattle.group.specs.declared.BlockAddrBlockMetadata.{BlockAddrBlockMetadata}
 
@@ -83,6 +83,19 @@ module _ (s : List ℕ) (at : ℕ) (below : DigitsBelow 8 s) where
       (more 24 4 (omega arith)
       (more 16 8 (omega arith)
       (more 8 8 (omega arith) (number-bytes s at 8 (omega arith) below)))))))
+
+  pub metadata_at-fits : MetaFits (metadata_at s at)
+  unfolding metadata_at
+  metadata_at-fits = record {
+    offset = number_lt s at 8 below;
+    range-start = number_lt s (at + 8) 8 below;
+    first-ordinal = number_lt s (at + 16) 8 below;
+    range-start-slope = number_lt s (at + 24) 4 below;
+    first-ordinal-slope = number_lt s (at + 28) 4 below;
+    first-ordinal-nbits = number_lt s (at + 32) 1 below;
+    range-start-nbits = number_lt s (at + 33) 1 below;
+    block-len = number_lt s (at + 34) 2 below;
+  }
 
 -- different records have different bytes
 pub meta-inj : (m m' : BlockAddrBlockMetadata) → MetaFits m → MetaFits m' → meta_bytes m ≡ meta_bytes m' → m ≡ m'

@@ -100,6 +100,10 @@ module _ (first field slope i width : ℕ) where
       le_of_suc-le-suc (lt_of_not-le (λ (g : first + field + slope * i < 2 ^ (width - 1)). let e = value-below g in omega arith)) in
       omega (arith, value-above above)
 
+  -- and a sum that isn't below 0 is the value
+  pub value-is : (v : ℕ) → first + field + slope * i ≡ v + 2 ^ (width - 1) → value_read first field slope i width ≡ v
+  value-is v e = let above : 2 ^ (width - 1) ≤ first + field + slope * i = omega arith in omega (arith, value-above above)
+
 -- the value behind the first, at i instead of suc j
 pub range_read-suc : (m : BlockAddrBlockMetadata) (N i : ℕ) → 0 < i
     → range_read m N i

@@ -5,18 +5,19 @@ use mathlib.Core.List.{List}
 use mathlib.Core.Logic.{◌⊎◌, inl, inr, ⊎_elim}
 use Prim.Native.Nat.{ℕ, ◌≤◌, ◌<◌}
 use native.Mathlib.Nat.{mul-zero}
+use native.Mathlib.Omega.{arith}
 use lib.Dec.{ltb}
 use borrow.Author.Tests.{ltb-true, ltb-false}
 use borrow.Table.Steps.{cases}
 use Rattle.std.specs.Prelude.{Result}
-use lib.ListN.{length}
+use lib.ListN.{length, drop, length-take, length-drop}
 use Rattle.group.specs.declared.BlockAddr.{BlockAddr}
 use Rattle.group.specs.Legal.{Legal}
 use Rattle.group.specs.Blocks.{no_block}
 use Rattle.group.specs.Rows.{are_numbers_bad}
 use Rattle.group.proofs.Legal.{numbers-good}
 use Rattle.store.specs.Read.{group_meta, store_block, block_or, StoreOk, OrdFoundAs}
-use Rattle.store.specs.Facts.{GroupLenOk}
+use Rattle.store.specs.Facts.{GroupLenOk, GroupRecordsOk}
 use Rattle.store.specs.declared.Located.{Located}
 use Rattle.store.proofs.Lookup.{read-block, first-of-group}
 use Rattle.directory.specs.Read.{key_of, Sorted, FoundAs}
@@ -24,7 +25,7 @@ use Rattle.layout.specs.declared.refusals.Refusal.{Refusal}
 use Rattle.index.specs.declared.SSTableIndexV3.{SSTableIndexV3}
 use Rattle.index.specs.Parts.{group_records_part, addrs_part, directory_part, count_in, block_in, separator_in}
 use Rattle.index.specs.Opening.{OpensBy}
-use Rattle.index.specs.Lookups.{opened_bad_by, directory_at, metas_at, addrs_at, first_ordinal_at, OrdRefuses, ByOrdExact}
+use Rattle.index.specs.Lookups.{opened_bad_by, OpenedFits, directory_at, metas_at, addrs_at, first_ordinal_at, Refuses, OrdRefuses, ByOrdExact}
 use Rattle.index.proofs.Fits.{bad-unfit}
 use Rattle.index.proofs.OpenFacts.{OpenFacts, opens-facts-by}
 
@@ -33,11 +34,26 @@ pub bad-unopened : (L : ℕ) (f : List ℕ) (opened : SSTableIndexV3) → GroupL
     → OpensBy L f opened → ⊥
 bad-unopened L f opened len e o = bad-unfit L opened (length f) e (opens-facts-by L f opened len o).fits
 
+-- group records enough
+pub enough-records : (L : ℕ) (f : List ℕ) (opened : SSTableIndexV3) (recs : List ℕ) → OpenedFits L opened (length f) → recs ≡ metas_at opened f
+    → GroupRecordsOk L recs opened.n
+enough-records L f opened recs fits e = record {
+  some = fits.some;
+  few = fits.few;
+  long = rw e (omega (arith, fits, length-take opened.metas_len (drop opened.metas f), length-drop opened.metas f));
+}
+
 -- ---- a block that was read
 
 -- a legal one keeps row 3
 pub kept : (block : ℕ → BlockAddr) (n i : ℕ) (b : BlockAddr) → Legal block n → i < n → b ≡ block i → are_numbers_bad b ≡ true → ⊥
 kept block n i b legal h e bad = true≢false (sym bad ∙ numbers-good b (rw e (legal.numbers i h)))
+
+-- ---- a refusal's number is above 0
+
+pub refuses-above : (row k : ℕ) → 0 < row → Refuses row k → 0 < k
+refuses-above row k h (inl e) = omega arith
+refuses-above row k h (inr e) = omega arith
 
 -- ---- an ordinal that isn't below the number of terms
 

@@ -87,6 +87,9 @@ pub ≼-cases : (a b : List ℕ) → a ≼ b → (a ≺ b) ⊎ (a ≡ b)
 pub ≺-≼-trans : (a b c : List ℕ) → a ≺ b → b ≼ c → a ≺ c
 ≺-≼-trans a b c p q = ⊎_elim (λ h. less-trans a b c p h) (λ h. rw h at p) (≼-cases b c q)
 
+pub ≼-≺-trans : (a b c : List ℕ) → a ≼ b → b ≺ c → a ≺ c
+≼-≺-trans a b c p q = ⊎_elim (λ h. less-trans a b c h q) (λ h. rw h q) (≼-cases a b p)
+
 pub ≼_trans : (a b c : List ℕ) → a ≼ b → b ≼ c → a ≼ c
 ≼_trans a b c p q = ⊎_elim (λ h. less-asym a c (≺-≼-trans a b c h q)) (λ h. rw h q) (≼-cases a b p)
 
@@ -108,6 +111,25 @@ pub prefix-≺ : (a : List ℕ) (x : ℕ) (b : List ℕ) → a ≺ (a ++ (x ∷ 
 unfolding less
 prefix-≺ [] x b = refl
 prefix-≺ (y ∷ a) x b = simp (eq-eqb y y refl) (prefix-≺ a x b)
+
+-- what lies between two byte strings that begin with p begins with p
+pub between-prefix : (p a b s : List ℕ) → (p ++ a) ≼ s → s ≼ (p ++ b) → (t : List ℕ) × (s ≡ p ++ t)
+unfolding less
+between-prefix [] a b s l r = (s, refl)
+between-prefix (x ∷ p) a b [] l r = absurd (let z : ◌≡◌ {A = ℕ} 0 1 = cc in omega arith)
+between-prefix (x ∷ p) a b (y ∷ s) l r =
+    cases (eqb x y)
+    (λ e.
+    let f : x ≡ y = eqb-true x y e in
+    let g : eqb y x ≡ true = eq-eqb y x (sym f) in
+    let h : (t : List ℕ) × (s ≡ p ++ t) = between-prefix p a b s (simp g at l) (simp e at r) in
+    (h.0, cc h.1))
+    (λ e.
+    let g : eqb y x ≡ false = ne_eqb y x (λ h. eqb-false x y e (sym h)) in
+    let m : ltb y x ≡ false = simp g at l in
+    let n : ltb x y ≡ false = simp e at r in
+    let f : x ≡ y = omega (arith, ltb-false) in
+    absurd (eqb-false x y e f))
 
 -- ---- the common prefix
 

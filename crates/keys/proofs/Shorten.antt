@@ -1,5 +1,5 @@
 -- Laws of the shortened separator: it lies between left and right, and differs from left in at most one byte and the length.
-use Prim.Native.Nat.{ℕ, zero, suc, ◌+◌, ◌-◌, ◌≤◌, ◌<◌}
+use Prim.Native.Nat.{ℕ, zero, suc, ◌+◌, ◌-◌, ◌^◌, ◌≤◌, ◌<◌}
 use mathlib.Core.Path.{◌≡◌, refl, sym, ap, ◌∙◌}
 use mathlib.Core.Logic.{◌⊎◌, inl, inr, ⊎_elim}
 use mathlib.Core.List.{List, [], ◌∷◌, ◌++◌, append_assoc}
@@ -166,6 +166,27 @@ shorten-length (x ∷ xs) (y ∷ ys) =
     cases (eqb x y)
     (λ e. simp e (omega (arith, shorten-length xs ys)))
     (λ e. simp e (omega (arith, raise-length xs)))
+
+-- ---- bytes stay bytes
+
+raise-bytes : (s : List ℕ) → ((i : ℕ) → get_or s i 0 < 2 ^ 8) → (i : ℕ) → get_or (raise s) i 0 < 2 ^ 8
+unfolding raise
+raise-bytes [] h i = h i
+raise-bytes (x ∷ xs) h zero =
+    cases (eqb x 255) (λ e. simp e (h 0)) (λ e. simp e (omega (arith, h 0, eqb-false x 255 e)))
+raise-bytes (x ∷ xs) h (suc i) =
+    cases (eqb x 255) (λ e. simp e (raise-bytes xs (λ j. h (suc j)) i)) (λ e. simp e (omega arith))
+
+pub shorten-bytes : (left right : List ℕ) → ((i : ℕ) → get_or left i 0 < 2 ^ 8) → (i : ℕ) → get_or (shorten left right) i 0 < 2 ^ 8
+unfolding shorten
+shorten-bytes [] right h i = h i
+shorten-bytes (x ∷ xs) [] h zero = h 0
+shorten-bytes (x ∷ xs) [] h (suc i) = raise-bytes xs (λ j. h (suc j)) i
+shorten-bytes (x ∷ xs) (y ∷ ys) h zero = cases (eqb x y) (λ e. simp e (h 0)) (λ e. simp e (h 0))
+shorten-bytes (x ∷ xs) (y ∷ ys) h (suc i) =
+    cases (eqb x y)
+    (λ e. simp e (shorten-bytes xs ys (λ j. h (suc j)) i))
+    (λ e. simp e (raise-bytes xs (λ j. h (suc j)) i))
 
 -- ---- in place, where left stands in the key area K
 

@@ -14,7 +14,8 @@ use Rattle.index.specs.Opening.{group_of}
 use Rattle.index.specs.Lookups.{opened_bad, directory_at}
 use Rattle.index.proofs.Fits.{fits-passes}
 use Rattle.index.proofs.OpenFacts.{OpenFacts}
-use Rattle.listing.specs.Listing.{keys_outside, listing_no, separator_at}
+use Rattle.listing.specs.Listing.{keys_outside, listing_no, separator_at, ListingLeaves}
+use Rattle.listing.proofs.ListedOnce.{leaves-same}
 use Rattle.listing.proofs.Outside.{outside-fronts}
 use Rattle.listing.proofs.Rows.{past-20}
 
@@ -32,3 +33,8 @@ module _ {f : List ℕ} {opened : SSTableIndexV3} (o : OpenFacts (group_of opene
   pub opened-separator : (i : ℕ) → separator_at opened f i ≡ separator_in f i
   unfolding separator_in
   opened-separator i = rw (o.directory, o.count)
+
+  pub opened-leaves : (t marks written : List ℕ) (k count : ℕ) → ListingLeaves t (separator_at opened f) opened.n marks written k count
+      → ListingLeaves t (separator_in f) opened.n marks written k count
+  opened-leaves t marks written k count =
+      leaves-same t (separator_at opened f) (separator_in f) opened.n (λ i h. opened-separator i) marks written k count

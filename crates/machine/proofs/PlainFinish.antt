@@ -11,6 +11,7 @@ use lib.Seq.{sets, sets-eq, drop-append_seam}
 use borrow.Author.Tests.{lt-ltb, le-ltb, ltb-true, ltb-false}
 use borrow.Table.Steps.{cases}
 use Rattle.serialize.proofs.Stores.{sets-part}
+use Rattle.directory.specs.Directory.{directory_bytes}
 use Rattle.builder.specs.Calls.{builder_of}
 use Rattle.builder.specs.Index.{Settings, index_bytes}
 use Rattle.builder.specs.Finish.{Finish, unwritten}
@@ -30,6 +31,10 @@ module _ (es : List Entry) where
   pub directory-none : length es < 2 → plain_directory es ≡ []
   unfolding plain_directory
   directory-none h = simp (lt-ltb (length es) 2 h)
+
+  pub directory-some : 2 ≤ length es → plain_directory es ≡ directory_bytes (separators_of es)
+  unfolding plain_directory
+  directory-some h = simp (le-ltb (length es) 2 h)
 
 module _ (S : Settings) (es : List Entry) (out : List ℕ) where
   pub plain-refused : length out < length (plain_index S es) → plain_finish S es out ≡ unwritten 9 (builder_of (length es)) out
@@ -57,6 +62,9 @@ module _ (S : Settings) (es : List Entry) (out : List ℕ) where
   module _ (accepted : (plain_finish S es out).no ≡ 0) where
     pub plain_fits : length (plain_index S es) ≤ length out
     plain_fits = ⊎_elim (λ p. absurd (let z : ⊥ = omega (arith, p.1) in z)) (λ p. p.0) plain-number
+
+    pub plain-total : (plain_finish S es out).total ≡ length (plain_index S es)
+    plain-total = ap (λ (f : Finish). f.total) (plain-taken plain_fits)
 
     -- the index is the first total bytes of the output, and the bytes after it stay
     pub plain-front : take (plain_finish S es out).total (plain_finish S es out).out ≡ plain_index S es

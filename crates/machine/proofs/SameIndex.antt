@@ -1,13 +1,18 @@
 -- The indexes of two lists of calls have equal bytes exactly when their blocks and separators are equal.
-use Prim.Native.Nat.{ℕ, ◌≤◌}
+use Prim.Native.Nat.{ℕ, zero, suc, ◌≤◌, ◌<◌}
 use mathlib.Core.Path.{◌≡◌, sym, ap, ◌∙◌}
 use mathlib.Core.List.{List, [], ◌++◌}
 use native.Mathlib.Omega.{arith}
-use lib.ListN.{length, take, length-append}
+use lib.Dec.{eqb}
+use lib.ListN.{length, get_or, take, length-append}
 use lib.Seq.{take_at, take-append_seam}
+use borrow.Author.Tests.{eqb-true, eqb-false}
+use borrow.Table.Steps.{cases}
 use Rattle.layout.specs.Layout.{max_blocks}
 use Rattle.serialize.specs.Digits.{le_bytes}
 use Rattle.serialize.proofs.Digits.{length-digits_of}
+use Rattle.keys.specs.Order.{◌≺◌}
+use Rattle.keys.proofs.Order.{less-trans}
 use Rattle.group.specs.declared.BlockAddr.{BlockAddr}
 use Rattle.directory.specs.Directory.{directory_bytes}
 use Rattle.directory.proofs.Lengths.{Bounded}
@@ -20,7 +25,7 @@ use Rattle.builder.proofs.IndexBytes.{length-index_bytes}
 use Rattle.machine.specs.Plain.{Entry, Call, plain_end, blocks_of, separators_of, SameLists, plain_index}
 use Rattle.machine.specs.Runs.{FreshState, rooms_of}
 use Rattle.machine.proofs.Rules.{EntriesOk, run-rules}
-use Rattle.machine.proofs.Indexed.{length-oldest, entries-legal, separators-short}
+use Rattle.machine.proofs.Indexed.{length-oldest, entries-legal, separators-short, separators-rise}
 use Rattle.machine.proofs.PlainFinish.{plain-none, plain-some}
 
 -- ---- the entries' index
@@ -40,6 +45,15 @@ module _ (es : List Entry) (ok : EntriesOk es) where
     few = omega (arith, length-oldest (λ (e : Entry). e.key) es);
     short = λ i h. separators-short es ok i (omega (arith, length-oldest (λ (e : Entry). e.key) es));
   }
+
+  -- a later separator is above each one before it
+  pub separators-above : (i j : ℕ) → i < j → j < length es → get_or (separators_of es) i [] ≺ get_or (separators_of es) j []
+  separators-above i zero h l = absurd (let z : ⊥ = omega arith in z)
+  separators-above i (suc j) h l =
+      let step = separators-rise es ok j l in
+      cases (eqb i j)
+      (λ t. rw (eqb-true i j t) step)
+      (λ t. less-trans _ _ _ (separators-above i j (omega (arith, eqb-false i j t)) (omega arith)) step)
 
 -- ---- equal bytes
 

@@ -2,7 +2,7 @@
 use mathlib.Core.Path.{◌≡◌, sym, subst, subst₂, ◌∙◌}
 use mathlib.Core.List.{List, [], ◌∷◌, ◌++◌}
 use mathlib.Core.Bool.{false, false≢true}
-use mathlib.Core.Option.{none}
+use mathlib.Core.Option.{none, some}
 use mathlib.Core.Logic.Iff
 use mathlib.Core.Logic.{◌⊎◌, inl, inr, ⊎_elim, ◌↔◌}
 use Prim.Native.Nat.{ℕ, ◌+◌, ◌-◌, ◌≤◌, ◌<◌, zero-le}
@@ -185,6 +185,9 @@ marked-none t end =
       λ m. i.0 (word-map (λ w. Unit {0} × (w ≼ end)) (λ w. w ≼ end) (λ w p. p.1) m),
       λ m. word-map (λ w. w ≼ end) (λ w. Unit {0} × (w ≼ end)) (λ w p. (tt, p)) (i.1 m),
     )
+
+pub marked-some : (t a end : List ℕ) → Marked t (some a) end ↔ MatchBetween t 0 a end
+marked-some t a end = Iff.rfl
 
 -- ---- a key from its byte i on
 pub after-end : (t : List ℕ) (s : ℕ) (key : List ℕ) (i : ℕ) → length key ≤ i → MatchAbove t s (drop i key) ↔ LiveByte t s 0 256

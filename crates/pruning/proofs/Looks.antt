@@ -90,13 +90,13 @@ module _ (t : List ℕ) (s x y : ℕ) (a b : List ℕ) (l : x < y) (h : y < 256)
       (λ m. record { byte = m.byte; low = omega (arith, m.low); high = omega (arith, m.high); rest = m.rest })
       (λ m. byte_at y x (y + 1) (omega arith) (omega arith) (upto-can t (next t s y) b m)))
 
-  parted-low : (end : ℕ) → EndLive t s end → end ≤ x → Parted t s x y a b → ⊥
+  pub parted-low : (end : ℕ) → EndLive t s end → end ≤ x → Parted t s x y a b → ⊥
   parted-low end e g p =
       let m = parted-byte p in
       let k = end-above t s end e x (record { byte = m.byte; low = m.low; high = omega (arith, m.high); rest = m.rest }) in
       omega arith
 
-  parted-high : (first : ℕ) → FirstLive t s first → y < first → Parted t s x y a b → ⊥
+  pub parted-high : (first : ℕ) → FirstLive t s first → y < first → Parted t s x y a b → ⊥
   parted-high first f g p =
       let m = parted-byte p in
       let k = first_below t s first f (y + 1) (omega arith) (record { byte = m.byte; low = zero-le; high = m.high; rest = m.rest }) in

@@ -1,13 +1,15 @@
--- Laws of digits of k bits, over every k: taking and dropping digits, one digit of a number, and that a number written is the number read.
+-- Laws of digits of k bits, over every k: appending, taking and dropping digits, one digit of a number, and that a number written
+-- is the number read.
 use mathlib.Core.Path.{◌≡◌, refl, sym, ap, ap₂, ◌∙◌}
 use mathlib.Core.List.{List, [], ◌∷◌, ◌++◌}
 use Prim.Native.Nat.{ℕ, zero, suc, ◌+◌, ◌-◌, ◌*◌, ◌/◌, ◌%◌, ◌^◌, ◌≤◌, ◌<◌}
 use native.Mathlib.Nat.{mul-suc, mul_assoc, mul_comm, div-one, zero-div, zero-mod, mod-one, mod-lt, mod-eq_of_lt, div-div-eq-div-mul}
-use native.Mathlib.Nat.{add-zero, add-mul, add_assoc, mul-one, mul-zero, zero-mul, zero-add, suc-add}
+use native.Mathlib.Nat.{add-zero, add-mul, add_assoc, mul-one, mul-zero, zero-mul, zero-add, suc-add, not-suc-le-zero}
+use native.Mathlib.Nat.{le_of_suc-le-suc}
 use native.Mathlib.Omega.{arith}
 use lib.Arith.{digits_div, digits_mod, mod-mul}
 use lib.ListN.{length, take, drop, get_or}
-use lib.Seq.{get_or-drop}
+use lib.Seq.{get_or-drop, take-length}
 use lib.Pow.{pow-add, pow_pos, field, mod-mod-pow}
 use Rattle.serialize.specs.Digits.{of_digits, digits_of, DigitsBelow}
 
@@ -49,6 +51,14 @@ of_digits-take k (suc n) (x ∷ xs) h =
 
 pub of_digits-take-lt : (k n : ℕ) (l : List ℕ) → DigitsBelow k l → of_digits k (take n l) < 2 ^ (k * n)
 of_digits-take-lt k n l h = rw (of_digits-take k n l h) (mod-lt (of_digits k l) (pow_pos (k * n)))
+
+pub of_digits-lt : (k : ℕ) (l : List ℕ) → DigitsBelow k l → of_digits k l < 2 ^ (k * length l)
+of_digits-lt k l h = rw (take-length l) at (of_digits-take-lt k (length l) l h)
+
+pub of_digits-append : (k : ℕ) (a b : List ℕ) → of_digits k (a ++ b) ≡ of_digits k b * 2 ^ (k * length a) + of_digits k a
+unfolding of_digits
+of_digits-append k [] b = rw (mul-zero k) (omega arith)
+of_digits-append k (x ∷ xs) b = rw (of_digits-append k xs b, pow-mul-suc, add-mul, mul_assoc, add_assoc) refl
 
 pub below-drop : (k n : ℕ) (l : List ℕ) → DigitsBelow k l → DigitsBelow k (drop n l)
 below-drop k n l h i = rw get_or-drop (h (n + i))
@@ -92,6 +102,12 @@ digits_of-of_digits k (x ∷ xs) h =
 -- equal digits mean equal numbers
 pub digits_of-inj : (k w u v : ℕ) → u < 2 ^ (k * w) → v < 2 ^ (k * w) → digits_of k w u ≡ digits_of k w v → u ≡ v
 digits_of-inj k w u v hu hv e = sym (of_digits-digits_of-lt k w u hu) ∙ ap (of_digits k) e ∙ of_digits-digits_of-lt k w v hv
+
+pub take-digits_of : (k j w v : ℕ) → j ≤ w → take j (digits_of k w v) ≡ digits_of k j v
+unfolding digits_of
+take-digits_of k zero w v h = refl
+take-digits_of k (suc j) zero v h = absurd (not-suc-le-zero h)
+take-digits_of k (suc j) (suc w) v h = ap (λ (r : List ℕ). v % 2 ^ k ∷ r) (take-digits_of k j w (v / 2 ^ k) (le_of_suc-le-suc h))
 
 pub digits_of-below : (k w v : ℕ) → DigitsBelow k (digits_of k w v)
 unfolding digits_of

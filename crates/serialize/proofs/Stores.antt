@@ -5,7 +5,8 @@ use Prim.Native.Nat.{ℕ, suc, ◌+◌, ◌-◌, ◌*◌, ◌^◌, ◌≤◌, �
 use native.Mathlib.Nat.{add-zero, zero-add, add-suc, suc-add}
 use native.Mathlib.Omega.{arith}
 use lib.ListN.{length, take, drop, set, length-set, length-take, length-drop, take-append-drop, drop_of_length-le, get_or}
-use lib.Seq.{sets, sets-eq, take-length, take_at, drop_at, length-take-le, take_all, drop-set-add, take-set-le, get_or-take, get_or-drop}
+use lib.Seq.{sets, sets-eq, take-length, take_at, drop_at, length-take-le, take_all, drop-set-add, take-set-le, drop-set-lt}
+use lib.Seq.{get_or-take, get_or-drop}
 use borrow.Rule.Slice.PartMut.{put_mid}
 use Rattle.std.proofs.lemmas.List.{set-append_left}
 use Rattle.serialize.specs.Digits.{le_val, le_bytes}
@@ -29,6 +30,11 @@ sets-part d w at h =
       drop_at (take at d) (w ++ drop (at + length w) d) at (length-take-le at d (omega arith)),
     )
     (take_at w (drop (at + length w) d) (length w) refl)
+
+-- what stands behind stays
+pub sets-outside-drop : (d w : List ℕ) (at n : ℕ) → at + length w ≤ n → drop n (sets d at w) ≡ drop n d
+sets-outside-drop d [] at n h = refl
+sets-outside-drop d (x ∷ w) at n h = sets-outside-drop (set d at x) w (suc at) n (omega arith) ∙ drop-set-lt n d at x (omega arith)
 
 pub get_or-sets : (d w : List ℕ) (at j : ℕ) → at + length w ≤ length d → j < length w → get_or (sets d at w) (at + j) 0 ≡ get_or w j 0
 get_or-sets d w at j h l = let part = sets-part d w at h in grind (arith, get_or-drop, get_or-take, part)

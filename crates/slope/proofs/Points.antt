@@ -7,7 +7,7 @@ use native.Mathlib.Nat.{add-zero, mul-zero, sub-zero}
 use native.Mathlib.Numerals.{add-one}
 use borrow.Author.Tests.{le-leb, lt-leb}
 use lib.ListN.{get_or}
-use Rattle.slope.specs.Column.{column}
+use Rattle.slope.specs.Column.{column, ColumnOk, ValueOk}
 use Rattle.slope.specs.Extremes.{New, point_of, Sloped, slope_left, ExtremesAt}
 use Rattle.slope.specs.Slope.{Point, points_from, slope_at, lower_point, higher_point, lowest, highest, slope_between, best_slope}
 use Rattle.slope.specs.declared.Point as code
@@ -42,6 +42,9 @@ module _ (n : ℕ) (p q : code.Point) (g : Sloped n p) (h : Sloped n q) where
   higher-stays l = simp (lt-leb (slope_at (point_of p)) (slope_at (point_of q)) (rw (g.sloped, h.sloped) at l))
 
 module _ (area : List ℕ) (at stride base count : ℕ) where
+  pub first-value : ColumnOk area at stride base count → 0 < count → ValueOk area base at
+  first-value ok h = rw (mul-zero, add-zero) at (ok.values 0 h)
+
   left-start : 0 < count
       → slope_left area at stride base count (record { i = 1; v = get_or area at 0 - base })
       (record { i = 1; v = get_or area at 0 - base }) 1 ≡ best_slope (column area at stride base count)

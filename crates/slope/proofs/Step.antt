@@ -2,9 +2,13 @@
 use Prim.Native.Nat.{ℕ, suc, ◌+◌, ◌*◌, ◌/◌, ◌%◌, ◌^◌, ◌≤◌, ◌<◌}
 use mathlib.Core.Path.{◌≡◌}
 use native.Mathlib.Omega.{arith}
-use native.Mathlib.Nat.{div-eq_of_lt-le, le-div_iff_mul-le, mod-eq_of_lt, suc-mul}
+use native.Mathlib.Nat.{div-eq_of_lt-le, le-div_iff_mul-le, mod-eq_of_lt, mul-le-mul, suc-mul}
 use native.Mathlib.Numerals.{add-one}
 use Rattle.std.proofs.lemmas.Nat.{div_below}
+
+-- both ends fit a word
+pub room : (s i : ℕ) → s < 2 ^ 32 → i ≤ 2 ^ 31 → s * i + i < 2 ^ 64
+room s i hs hi = omega (arith, mul-le-mul {n₁ = s} {m₁ = i} {n₂ = 2 ^ 32} {m₂ = 2 ^ 31} (omega arith) hi)
 
 module _ (s i v : ℕ) (pos : 0 < i) where
   pub below : s < 2 ^ 32 → v < s * i → v / i % 2 ^ 32 < s

@@ -61,6 +61,10 @@ module _ {L : ℕ} (some : 1 ≤ L) where
       let rest : n - first - L ≡ n - (first + count) = omega arith in
       group-count-suc (n - first) (omega arith) ∙ ap (λ (x : ℕ). suc (group_count L x)) rest
 
+-- what the group of the blocks from L * g on leaves
+pub group-left : (L n g : ℕ) → n - L * g - min L (n - L * g) ≡ n - L * (g + 1)
+group-left L n g = rw (add-one g, mul-suc L g) (omega arith)
+
 -- ---- blocks of an area
 
 module _ (area : List ℕ) (stride : ℕ) where

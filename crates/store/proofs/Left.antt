@@ -63,6 +63,11 @@ module _ {area : List ℕ} {stride n L : ℕ} {out₀ : List ℕ} {base : ℕ} {
     pub bits-turn : length (bits area stride n L first) ≡ length one-bits + length (bits area stride n L (first + count))
     bits-turn = length-addrs-turn best_slope group.some area stride n first count is more
 
+    -- there is room for the group
+    pub record-room : meta-at + 36 ≤ base + offset
+    record-room =
+        omega (arith, left.records-end, group-count-turn group.some n first count is more)
+
     pub bits-room : length (store_bytes best_slope L (blocks_at area stride 0 n)) ≤ length out₀
         → base + offset + length one-bits ≤ length out
     bits-room h =

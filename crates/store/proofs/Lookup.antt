@@ -4,7 +4,7 @@ use mathlib.Core.Bool.{Bool, false, ◌||◌}
 use mathlib.Core.List.{List}
 use mathlib.Core.Logic.{⊎_elim}
 use Prim.Native.Nat.{ℕ, zero, suc, ◌+◌, ◌-◌, ◌*◌, ◌/◌, ◌%◌, ◌≤◌, ◌<◌}
-use native.Mathlib.Nat.{add-zero, add_assoc, mul-suc, mod-eq_of_lt, div-eq_of_lt, mul-div-le, mul-add-div}
+use native.Mathlib.Nat.{add-zero, add_assoc, mul-suc, mod-eq_of_lt, div-eq_of_lt, mul-div-le, mul-add-div, div-add-mod, mod-lt}
 use native.Mathlib.Nat.{mul-add-mod_self_left, eq-or-lt_of_le, lt_of_not-le, le_of_suc-le-suc}
 use native.Mathlib.Numerals.{add-one}
 use native.Mathlib.Omega.{arith}
@@ -28,11 +28,18 @@ use Rattle.store.proofs.Groups.{group-count-lt}
 -- ---- groups
 
 module _ (L n : ℕ) (some : 1 ≤ L) where
+  pub groups-some : 1 ≤ n → 1 ≤ group_count L n
+  groups-some h = group-count-lt some n 0 (omega arith)
+
   pub block-begins : (i : ℕ) → i < n → L * (i / L) < n
   block-begins i h = omega (arith, mul-div-le i L)
 
   pub block-there : (i : ℕ) → i < n → i / L < group_count L n
   block-there i h = group-count-lt some n (i / L) (block-begins i h)
+
+  -- a block's place in its group
+  pub inner-there : (i : ℕ) → i < n → i % L < len_of_group L n (i / L)
+  inner-there i h = let p : 0 < L = omega arith in omega (arith, mod-lt i p, div-add-mod i L)
 
 -- ---- blocks
 

@@ -12,7 +12,9 @@ use lib.ListN.{length, take, drop, length-append, length-take, length-drop}
 use lib.Seq.{ext_get_or, get_or-take, get_or-drop, take_at, drop_at}
 use Rattle.serialize.specs.Digits.{le_val, le_bytes, DigitsBelow}
 use Rattle.serialize.proofs.Digits.{length-digits_of, digits_of-inj, below-drop}
-use Rattle.group.specs.Blocks.{block_of}
+use Rattle.slope.specs.Slope.{best_slope}
+use Rattle.slope.proofs.Widths.{best_slope-lt}
+use Rattle.group.specs.Blocks.{block_of, blocks_at}
 use Rattle.group.specs.Legal.{limit, Legal}
 use Rattle.group.specs.Write.{meta_of, group_number, addr_bytes}
 use Rattle.group.specs.Read.{block_read}
@@ -20,17 +22,17 @@ use Rattle.group.specs.Facts.{Fitting}
 use Rattle.group.specs.declared.BlockAddr.{BlockAddr}
 use Rattle.group.specs.declared.BlockAddrBlockMetadata.{BlockAddrBlockMetadata}
 use Rattle.group.proofs.Legal.{numbers-good}
-use Rattle.group.proofs.Blocks.{legal-same}
+use Rattle.group.proofs.Blocks.{legal-same, length-blocks_at}
 use Rattle.group.proofs.Metadata.{MetaFits, meta-back}
 use Rattle.group.proofs.Written.{fits, meta-fits, length-addr_bytes}
 use Rattle.group.proofs.Reading.{GroupOk, group-not-bad}
 use Rattle.group.proofs.Back.{block_back}
 use Rattle.store.specs.Store.{group_count, group_addrs, group_records, addrs, store_bytes}
 use Rattle.store.specs.Read.{group_meta, len_of_group, store_block, meta_bad, store_get, StoreOk}
-use Rattle.store.specs.Facts.{GroupLenOk}
+use Rattle.store.specs.Facts.{GroupLenOk, StoreArea}
 use Rattle.std.specs.Prelude.{Some}
 use Rattle.store.proofs.Groups.{group-count-above, group-count-below, group-count-lt, group-first-lt, group-count-le, legal-take}
-use Rattle.store.proofs.Groups.{legal-drop}
+use Rattle.store.proofs.Groups.{legal-drop, store-legal}
 use Rattle.store.proofs.Stored.{below-append, length-records, addrs-le, group-cons, record-at, bits_at, bits_inside, addrs-below}
 
 -- records and address bytes that give the blocks bs
@@ -46,6 +48,16 @@ pub record Storable (choose : List ℕ → ℕ) (L : ℕ) (bs : List BlockAddr) 
   pub group : GroupLenOk L
   pub few : length bs ≤ 65536
   pub legal : Legal (block_of bs) (length bs)
+
+-- the blocks of an area, as they are written
+pub area-storable : {area : List ℕ} {stride n L : ℕ} → StoreArea area stride n → GroupLenOk L
+    → Storable best_slope L (blocks_at area stride 0 n)
+area-storable {area} {stride} {n} store group = record {
+  slopes = best_slope-lt;
+  group = group;
+  few = rw (length-blocks_at area stride 0 n) store.few;
+  legal = store-legal store;
+}
 
 -- ---- one group
 

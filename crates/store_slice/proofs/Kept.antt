@@ -1,18 +1,20 @@
 -- Records that hit no row are legal blocks, and no more than a store has.
-use mathlib.Core.Path.{◌≡◌}
+use mathlib.Core.Path.{◌≡◌, sym}
 use mathlib.Core.Bool.{Bool, false}
 use mathlib.Core.List.{List, [], ◌∷◌}
 use Prim.Native.Nat.{ℕ, zero, suc, ◌≤◌, ◌<◌}
 use native.Mathlib.Omega.{arith}
 use lib.Dec.{ltb}
-use lib.ListN.{length}
+use lib.ListN.{length, take}
+use lib.Seq.{get_or-take, length-take-le}
 use borrow.Author.Tests.{ltb-false}
 use Rattle.std.proofs.lemmas.Bool.{or_parts}
 use Rattle.group.specs.declared.BlockAddr.{BlockAddr}
-use Rattle.group.specs.Blocks.{block_of}
+use Rattle.group.specs.Blocks.{no_block, block_of}
 use Rattle.group.specs.Legal.{Legal}
 use Rattle.group.specs.Rows.{are_numbers_bad, is_join_bad, is_ordinal_bad}
 use Rattle.group.proofs.Legal.{numbers-ok, follows}
+use Rattle.group.proofs.Blocks.{legal-same}
 use Rattle.store_slice.specs.Slice.{any_bad, pair_bad, block_list_no}
 use Rattle.store_slice.proofs.Scan.{no_number}
 
@@ -45,3 +47,8 @@ module _ (bs : List BlockAddr) (none : block_list_no bs ≡ 0) where
     follows = λ i h. follows (block_of bs i) (block_of bs (suc i)) (pair-kept is_join_bad bs i h rows.1) (pair-kept is_ordinal_bad bs i h
         rows.2);
   }
+
+-- the first m of a list
+pub first-legal : (bs : List BlockAddr) (m : ℕ) → m ≤ length bs → block_list_no (take m bs) ≡ 0 → Legal (block_of bs) m
+first-legal bs m h none =
+    legal-same (λ i l. sym (get_or-take m bs i no_block l)) (rw (length-take-le m bs h) at (records-legal (take m bs) none))

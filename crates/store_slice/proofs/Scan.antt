@@ -1,15 +1,20 @@
 -- Rows over a list of records, read off what was seen of them one after the other.
 use mathlib.Core.Path.{◌≡◌, refl, sym, ◌∙◌, ap}
 use mathlib.Core.Bool.{Bool, true, false, ◌||◌, cond, or_assoc, or-false}
-use mathlib.Core.List.{List, [], ◌∷◌}
-use Prim.Native.Nat.{ℕ, suc, ◌+◌, ◌<◌}
+use mathlib.Core.List.{List, [], ◌∷◌, ◌++◌}
+use Prim.Native.Nat.{ℕ, suc, ◌+◌, ◌≤◌, ◌<◌}
 use native.Mathlib.Nat.{add-zero, zero-add}
 use Rattle.std.specs.List.{fold, range_with_len}
+use native.Mathlib.Numerals.{add-one}
 use native.Mathlib.Omega.{arith}
-use lib.ListN.{length}
+use lib.Dec.{ltb}
+use lib.ListN.{length, take}
+use lib.Seq.{take-suc}
+use borrow.Author.Tests.{ltb-false, le-ltb}
+use Rattle.std.proofs.lemmas.Bool.{or_parts}
 use Rattle.std.specs.Prelude.{Option, None, Some}
 use Rattle.group.specs.declared.BlockAddr.{BlockAddr}
-use Rattle.group.specs.Blocks.{block_of}
+use Rattle.group.specs.Blocks.{no_block, block_of}
 use Rattle.group.specs.Rows.{are_numbers_bad, is_join_bad, is_ordinal_bad}
 use Rattle.store_slice.specs.declared.rows.Seen.{Seen}
 use Rattle.store_slice.specs.Slice.{any_bad, pair_bad, block_list_no}
@@ -49,6 +54,17 @@ module _ (bad : BlockAddr → BlockAddr → Bool) (hit : Seen → Bool)
 
 -- ---- one record after the other
 
+seen-behind : (s : Seen) (bs : List BlockAddr) (b : BlockAddr) → seen_all s (bs ++ (b ∷ [])) ≡ seen_with (seen_all s bs) b
+unfolding seen_all
+seen-behind s [] b = refl
+seen-behind s (a ∷ bs) b = seen-behind (seen_with s a) bs b
+
+pub seen_next : (bs : List BlockAddr) (i : ℕ) → i < length bs
+    → seen_with (seen_all none_seen (take i bs)) (block_of bs i) ≡ seen_all none_seen (take (i + 1) bs)
+seen_next bs i h =
+    sym (seen-behind none_seen (take i bs) (block_of bs i))
+    ∙ ap (seen_all none_seen) (sym (take-suc bs i no_block h) ∙ ap (λ (k : ℕ). take k bs) (sym (add-one i)))
+
 fold-from : (bs : List BlockAddr) (f : ℕ → BlockAddr) (s : Seen) (a : ℕ) → ((i : ℕ) → i < length bs → f (a + i) ≡ block_of bs i)
     → fold (λ (t : Seen) (i : ℕ). seen_with t (f i)) s (range_with_len a (length bs)) ≡ seen_all s bs
 unfolding seen_all
@@ -72,6 +88,20 @@ no_number false false true d e = absurd (let z : ⊥ = omega arith in z)
 no_number false false false true e = absurd (let z : ⊥ = omega arith in z)
 no_number false false false false e = (refl, refl, refl, refl)
 
+-- a row that was hit stays hit
+pub seen-before : (s : Seen) (b : BlockAddr) (n : ℕ) → seen_number (seen_with s b) n ≡ 0 → seen_number s n ≡ 0
+unfolding seen_number seen_with
+seen-before s b n e =
+    let joins = breaks_behind is_join_bad s.last b in
+    let ordinals = breaks_behind is_ordinal_bad s.last b in
+    let none = no_number (s.numbers_bad || are_numbers_bad b) (s.join_bad || joins) (s.ordinal_bad || ordinals) (ltb 65536 n) e in
+    rw (
+      (or_parts s.numbers_bad (are_numbers_bad b) none.0).0,
+      (or_parts s.join_bad joins none.1).0,
+      (or_parts s.ordinal_bad ordinals none.2).0,
+      none.3,
+    ) refl
+
 -- ---- all of them
 
 pub seen_no : (bs : List BlockAddr) → seen_number (seen_all none_seen bs) (length bs) ≡ block_list_no bs
@@ -82,3 +112,16 @@ seen_no bs =
       seen-from-none is_join_bad (λ s. s.join_bad) (λ s b. refl) bs refl,
       seen-from-none is_ordinal_bad (λ s. s.ordinal_bad) (λ s b. refl) bs refl,
     ) refl
+
+-- the first of n records hit no row
+pub seen_few : (s : Seen) (n : ℕ) → seen_number s n ≡ 0 → n ≤ 65536
+unfolding seen_number
+seen_few s n e = ltb-false 65536 n (no_number s.numbers_bad s.join_bad s.ordinal_bad (ltb 65536 n) e).3
+
+pub seen_none : (bs : List BlockAddr) (n : ℕ) → length bs ≤ n → seen_number (seen_all none_seen bs) n ≡ 0 → block_list_no bs ≡ 0
+unfolding seen_number
+seen_none bs n h e =
+    let s = seen_all none_seen bs in
+    let none = no_number s.numbers_bad s.join_bad s.ordinal_bad (ltb 65536 n) e in
+    let few : ltb 65536 (length bs) ≡ false = le-ltb 65536 (length bs) (omega (arith, seen_few s n e)) in
+    sym (seen_no bs) ∙ rw (none.0, none.1, none.2, few) refl

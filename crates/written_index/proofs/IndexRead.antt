@@ -115,6 +115,23 @@ module _ {choose : List ℕ → ℕ} {L : ℕ} {bs : List BlockAddr} {ks : List 
       ap (λ (n : ℕ). (block_in L f (n - 1)).first_ordinal) written-count
       ∙ ap (λ (b : BlockAddr). b.first_ordinal) (written-block (length bs - 1) (omega (arith, w.two)))
 
+  -- the opened record: n, the places of the directory, the group records and the address bytes, the number of terms and the version
+  pub written-record : (version terms : ℕ) → opened_of version terms f ≡ record {
+    n = length bs;
+    directory = 0;
+    directory_len = length (directory_bytes ks);
+    metas = length (directory_bytes ks) + 8;
+    metas_len = 36 * groups;
+    addrs = length (directory_bytes ks) + 8 + 36 * groups;
+    addrs_len = length (addrs choose L groups bs);
+    terms = terms;
+    version = version;
+  }
+  unfolding opened_of
+  written-record version terms =
+      let left : length (store_bytes choose L bs) - (8 + 36 * groups) ≡ length (addrs choose L groups bs) = omega (arith, length-store) in
+      rw (written-count, store-len, records-len, parts.directory-len, left)
+
   -- a number of terms that isn't above the last first ordinal gets 28
   pub written-refused : (version terms : ℕ) → version_no version ≡ 0 → terms ≤ last_first bs → open_def L version terms f ≡ Err TermsBad
   written-refused version terms good h = refused-below L version terms f good written-file (omega (arith, last-first))
@@ -127,23 +144,6 @@ module _ {choose : List ℕ → ℕ} {L : ℕ} {bs : List BlockAddr} {ks : List 
 
     pub written-facts : OpenFacts L f (opened_of version terms f)
     written-facts = opens-facts-by L f (opened_of version terms f) w.group (opens-own L version terms f (opened_of version terms f) opens)
-
-    -- the opened record: n, the places of the directory, the group records and the address bytes, the number of terms and the version
-    pub written-record : opened_of version terms f ≡ record {
-      n = length bs;
-      directory = 0;
-      directory_len = length (directory_bytes ks);
-      metas = length (directory_bytes ks) + 8;
-      metas_len = 36 * groups;
-      addrs = length (directory_bytes ks) + 8 + 36 * groups;
-      addrs_len = length (addrs choose L groups bs);
-      terms = terms;
-      version = version;
-    }
-    unfolding opened_of
-    written-record =
-        let left : length (store_bytes choose L bs) - (8 + 36 * groups) ≡ length (addrs choose L groups bs) = omega (arith, length-store) in
-        rw (written-count, store-len, records-len, parts.directory-len, left)
 
     count : (opened_of version terms f).n ≡ length bs
     count = written-facts.count ∙ written-count
