@@ -175,9 +175,9 @@ fn is_same(
     let given = case.numbers;
     let text = case.string(0);
     match kind {
-        Kind::OpenFile => opened.opens_file(alloc, given, text),
+        Kind::OpenFile => opened.opens_file(given, text),
         Kind::OpenChanged => opened.opens_changed(alloc, given, text),
-        Kind::OpenByRule => opened.opens_by_rule(alloc, given),
+        Kind::OpenByRule => opened.opens_by_rule(given),
         Kind::OpenAgain => Ok(opened.opens_again(given)),
         Kind::SetRecord => Ok(opened.sets_record(given)),
         Kind::Find(question) => {

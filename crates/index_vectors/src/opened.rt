@@ -46,23 +46,19 @@ impl Opened {
         self.opens(*version, opening)
     }
 
-    // VERSION TERMS NO N .., and the file
-    pub fn opens_file(
-        &mut self,
-        alloc: Global,
-        given: &[u64],
-        content: &[u8],
-    ) -> Result<bool, AllocError> {
-        self.file = content.to_vec(alloc)?;
+    // VERSION TERMS NO N .., and the file. Here and below it takes the room of the one before.
+    pub fn opens_file(&mut self, given: &[u64], content: &[u8]) -> Result<bool, AllocError> {
+        self.file.clear();
+        self.file.extend_from_slice(content)?;
         Ok(self.opens_again(given))
     }
 
     // VERSION COUNT TERMS NO N ..: the file by the rule
-    pub fn opens_by_rule(&mut self, alloc: Global, given: &[u64]) -> Result<bool, AllocError> {
+    pub fn opens_by_rule(&mut self, given: &[u64]) -> Result<bool, AllocError> {
         let [version, count, opening @ ..] = given else {
             return Ok(false);
         };
-        self.file = rule::file(alloc, *version, *count)?;
+        rule::put_file(&mut self.file, *version, *count)?;
         Ok(self.opens(*version, opening))
     }
 

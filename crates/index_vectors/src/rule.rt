@@ -9,6 +9,11 @@ const MOST: u64 = 65537;
 
 const RECORD: u32 = 36;
 
+// A file has fewer than so many bytes for each block, its 11 and a share of a group's record, and so many beside them.
+const BYTES: usize = 12;
+
+const BESIDE: usize = 128;
+
 // The record of a group whose block `first` is its first, with so many more.
 fn put_record(out: &mut Vec<u8>, first: u32, more: u16) -> Result<(), AllocError>
     ensures { IfOk result (λ _. (vec_len out.new ≡ vec_len out.old + 36)
@@ -38,13 +43,14 @@ fn put_store(out: &mut Vec<u8>, n: u32, group: u32) -> Result<(), AllocError>
     out.resize(out.len() + group as usize / 4, 0xff)
 }
 
-// The file of n blocks; an empty one where they are too many, which opening refuses by row 10.
-pub fn file(alloc: Global, version: u64, n: u64) -> Result<Vec<u8>, AllocError> {
-    let mut out = Vec::new(alloc);
+// Makes the file of n blocks in the place of `out`'s, in one room; an empty one where they are too many, which opening refuses by row 10.
+pub fn put_file(out: &mut Vec<u8>, version: u64, n: u64) -> Result<(), AllocError> {
+    out.clear();
     if n > MOST {
-        return Ok(out);
+        return Ok(());
     }
     let n = n as u32;
+    out.reserve_exact(BYTES * n as usize + BESIDE)?;
     out.extend_from_slice(&n.to_le_bytes())?;
     // Loops: each turn puts several bytes, so that a chain would be a flat_map of chains.
     for i in 0..n {
@@ -55,7 +61,6 @@ pub fn file(alloc: Global, version: u64, n: u64) -> Result<Vec<u8>, AllocError> 
         out.extend_from_slice(&i.to_be_bytes()[1..])?;
     }
     let directory_len = out.len() as u64;
-    put_store(&mut out, n, versions::group_len(version) as u32)?;
-    out.extend_from_slice(&directory_len.to_le_bytes())?;
-    Ok(out)
+    put_store(out, n, versions::group_len(version) as u32)?;
+    out.extend_from_slice(&directory_len.to_le_bytes())
 }

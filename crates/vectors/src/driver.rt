@@ -1,5 +1,5 @@
 // What the programs that replay a list share: its text, a case from each line, and the count of the cases that differ.
-ghost use Rattle.std.specs.Prelude.{◌≡◌, ◌≤◌, ◌<◌, IfOk, IfSome, length, take, vec_len};
+ghost use Rattle.std.specs.Prelude.{◌≡◌, ◌≤◌, ◌<◌, ◌++◌, IfOk, IfSome, MatchOption, length, take, vec_len};
 ghost use Rattle.std.specs.Io.{ReadsAtMost};
 ghost use Rattle.std.specs.Io.KnownBytes.{Consumes, IsAtEnd};
 
@@ -81,10 +81,15 @@ fn fitting<K: Copy>(letter: Option<&Letter<K>>, case: Case<'_>) -> Option<K> {
     (letter.strings == case.spans.len()).then_some(letter.kind)
 }
 
-// The lines of a text, each with the byte that ends it. A Vec, since a `for` over the split itself gets no proof beside a closure
-// that is called each turn.
-fn lines(alloc: Global, text: &[u8]) -> Result<Vec<&[u8]>, AllocError> {
-    text.split_inclusive(|byte| *byte == b'\n').collect(alloc)
+// The first line, with the byte that ends it, and the text behind it; nothing where there is no text. std's split_inclusive gets no
+// proof beside a closure that is called each turn, unless its lines are collected first.
+fn first_line(text: &[u8]) -> Option<(&[u8], &[u8])>
+    ensures { MatchOption result (length text.now ≡ 0)
+        (λ parts. (length parts.1.now < length text.now) × (parts.0.now ++ parts.1.now ≡ text.now)) }
+{
+    let last = text.len().checked_sub(1)?;
+    let end = text.iter().position(|byte| *byte == b'\n').unwrap_or(last);
+    Some(text.split_at(end + 1))
 }
 
 // Counts the case of each line. A bad line differs, and so does one with another number of byte strings than its letter's.
@@ -99,7 +104,9 @@ pub fn compare<K: Copy, F: FnMut(K, Case<'_>) -> io::Result<bool>>(
     ensures { vec_len tallies.new.rows ≡ vec_len tallies.old.rows }
 {
     let mut room = Room::new(alloc, MOST_NUMBERS, MOST_STRINGS, MOST_BYTES)?;
-    for line in &lines(alloc, text)? {
+    let mut rest = text;
+    while let Some((line, behind)) = first_line(rest) {
+        rest = behind;
         let letter = letter_of(letters, line);
         let is_same = match room.parse(line) {
             Line::Comment => continue,
