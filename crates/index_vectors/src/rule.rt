@@ -9,11 +9,6 @@ const MOST: u64 = 65537;
 
 const RECORD: u32 = 36;
 
-// A file has fewer than so many bytes for each block, its 11 and a share of a group's record, and so many beside them.
-const BYTES: usize = 12;
-
-const BESIDE: usize = 128;
-
 // The record of a group whose block `first` is its first, with so many more.
 fn put_record(out: &mut Vec<u8>, first: u32, more: u16) -> Result<(), AllocError>
     ensures { IfOk result (λ _. (vec_len out.new ≡ vec_len out.old + 36)
@@ -43,6 +38,13 @@ fn put_store(out: &mut Vec<u8>, n: u32, group: u32) -> Result<(), AllocError>
     out.resize(out.len() + group as usize / 4, 0xff)
 }
 
+// How long the file of n blocks is: three numbers, a pair and a key each, the groups' records, and the address bytes.
+fn file_len(n: u32, group: u32) -> usize
+    requires { (n ≤ 65537) × (128 ≤ group) × (group ≤ 256) }
+{
+    (20 + 11 * n + RECORD * n.div_ceil(group) + group / 4) as usize
+}
+
 // Makes the file of n blocks in the place of `out`'s, in one room; an empty one where they are too many, which opening refuses by row 10.
 pub fn put_file(out: &mut Vec<u8>, version: u64, n: u64) -> Result<(), AllocError> {
     out.clear();
@@ -50,7 +52,8 @@ pub fn put_file(out: &mut Vec<u8>, version: u64, n: u64) -> Result<(), AllocErro
         return Ok(());
     }
     let n = n as u32;
-    out.reserve_exact(BYTES * n as usize + BESIDE)?;
+    let group = versions::group_len(version) as u32;
+    out.reserve_exact(file_len(n, group))?;
     out.extend_from_slice(&n.to_le_bytes())?;
     // Loops: each turn puts several bytes, so that a chain would be a flat_map of chains.
     for i in 0..n {
@@ -61,6 +64,6 @@ pub fn put_file(out: &mut Vec<u8>, version: u64, n: u64) -> Result<(), AllocErro
         out.extend_from_slice(&i.to_be_bytes()[1..])?;
     }
     let directory_len = out.len() as u64;
-    put_store(out, n, versions::group_len(version) as u32)?;
+    put_store(out, n, group)?;
     out.extend_from_slice(&directory_len.to_le_bytes())
 }

@@ -1,5 +1,5 @@
 // What the programs that replay a list share: its text, a case from each line, and the count of the cases that differ.
-ghost use Rattle.std.specs.Prelude.{◌≡◌, ◌≤◌, ◌<◌, ◌++◌, IfOk, IfSome, MatchOption, length, take, vec_len};
+ghost use Rattle.std.specs.Prelude.{◌≡◌, ◌≢◌, ◌≤◌, ◌<◌, ◌+◌, ◌-◌, ◌++◌, IfOk, IfSome, MatchOption, get_or, length, take, vec_len, ℕ};
 ghost use Rattle.std.specs.Io.{ReadsAtMost};
 ghost use Rattle.std.specs.Io.KnownBytes.{Consumes, IsAtEnd};
 
@@ -81,14 +81,24 @@ fn fitting<K: Copy>(letter: Option<&Letter<K>>, case: Case<'_>) -> Option<K> {
     (letter.strings == case.spans.len()).then_some(letter.kind)
 }
 
+// The place of the first byte that ends a line.
+fn line_end(text: &[u8]) -> Option<usize>
+    ensures { MatchOption result ((k : ℕ) → k < length text.now → get_or text.now k 0 ≢ 10)
+        (λ place. (place < length text.now) × ((k : ℕ) → k < place → get_or text.now k 0 ≢ 10) × (get_or text.now place 0 ≡ 10)) }
+{
+    text.iter().position(|byte| *byte == b'\n')
+}
+
 // The first line, with the byte that ends it, and the text behind it; nothing where there is no text. std's split_inclusive gets no
 // proof beside a closure that is called each turn, unless its lines are collected first.
 fn first_line(text: &[u8]) -> Option<(&[u8], &[u8])>
-    ensures { MatchOption result (length text.now ≡ 0)
-        (λ parts. (length parts.1.now < length text.now) × (parts.0.now ++ parts.1.now ≡ text.now)) }
+    ensures parts { MatchOption result (length text.now ≡ 0)
+        (λ parts. (0 < length parts.0.now) × (parts.0.now ++ parts.1.now ≡ text.now)) }
+    ensures inside { IfSome result (λ parts. (k : ℕ) → k + 1 < length parts.0.now → get_or parts.0.now k 0 ≢ 10) }
+    ensures end { IfSome result (λ parts. 0 < length parts.1.now → get_or parts.0.now (length parts.0.now - 1) 0 ≡ 10) }
 {
     let last = text.len().checked_sub(1)?;
-    let end = text.iter().position(|byte| *byte == b'\n').unwrap_or(last);
+    let end = line_end(text).unwrap_or(last);
     Some(text.split_at(end + 1))
 }
 
