@@ -55,13 +55,18 @@ impl<'a> Case<'a> {
     }
 }
 
-// The decimal number that a token spells, if it is one of at most 2^64 - 1.
+// The decimal number that a token spells, if it is one of at most 2^64 - 1. std's parse takes a sign, too, and a text.
 fn decimal(token: &[u8]) -> Option<u64> {
-    // std's parse takes a sign, too.
-    if !token.iter().all(|byte| byte.is_ascii_digit()) {
-        return None;
+    let mut number: u64 = 0;
+    for byte in token {
+        if !byte.is_ascii_digit() {
+            return None;
+        }
+        number = number
+            .checked_mul(10)?
+            .checked_add(u64::from(*byte - b'0'))?;
     }
-    std::str::from_utf8(token).ok()?.parse().ok()
+    (!token.is_empty()).then_some(number)
 }
 
 // Puts the bytes that hex digits spell, two each, to the front of the area. How many, if they are digits and have room.

@@ -1,7 +1,7 @@
 // Questions to an index file, one a line, with their answers.
 use crate::files::FILE_LEN;
 use crate::{ROW_OF_QUESTIONS, files};
-use case_text::Case;
+use case_text::{Line, Room};
 use index::SSTableIndexV3;
 use layout::refusals::Refusal;
 use std::alloc::{AllocError, Global};
@@ -9,64 +9,15 @@ use std::io;
 use std::rt::Files;
 use vector_parts::tally::Tallies;
 use vector_parts::told::is_told;
-use vectors::driver;
-use vectors::driver::Letter;
 
 const ROW: Option<usize> = Some(ROW_OF_QUESTIONS);
 
-// No key of a question is longer.
+// A question holds no more than so many numbers and byte strings, and no longer key.
+const MOST_NUMBERS: usize = 8;
+
+const MOST_STRINGS: usize = 1;
+
 const LONGEST_KEY: usize = 2048;
-
-// What a line asks.
-#[derive(Clone, Copy)]
-enum Kind {
-    ById,
-    ByTerms,
-    ByVersion,
-    ByOrdinal,
-    ByKey,
-    IsCanonical,
-}
-
-// The letter of each kind, with the row of its tally and how many byte strings its lines have.
-const LETTERS: [Letter<Kind>; 6] = [
-    Letter {
-        letter: b'i',
-        kind: Kind::ById,
-        row: ROW,
-        strings: 0,
-    },
-    Letter {
-        letter: b't',
-        kind: Kind::ByTerms,
-        row: ROW,
-        strings: 0,
-    },
-    Letter {
-        letter: b'v',
-        kind: Kind::ByVersion,
-        row: ROW,
-        strings: 0,
-    },
-    Letter {
-        letter: b'o',
-        kind: Kind::ByOrdinal,
-        row: ROW,
-        strings: 0,
-    },
-    Letter {
-        letter: b'k',
-        kind: Kind::ByKey,
-        row: ROW,
-        strings: 1,
-    },
-    Letter {
-        letter: b'c',
-        kind: Kind::IsCanonical,
-        row: ROW,
-        strings: 0,
-    },
-];
 
 // The record of the file with so many terms, as an opening with them answers it.
 fn with_terms(opened: SSTableIndexV3, terms: u64) -> Result<SSTableIndexV3, Refusal> {
@@ -92,32 +43,35 @@ fn opens_as(opened: SSTableIndexV3, data: &[u8], version: u64, due: &[u64]) -> b
     same && is_told(due, answer.map(|_| []))
 }
 
-// Whether the answer to a line's question is the line's own.
-fn is_answered(kind: Kind, case: Case<'_>, opened: SSTableIndexV3, data: &[u8]) -> bool {
-    match (kind, case.numbers) {
+// Whether the answer to a line's question is the line's own. A line that asks nothing has none, and so a comment hasn't.
+fn is_answered(line: Line<'_>, opened: SSTableIndexV3, data: &[u8]) -> bool {
+    let Line::Case(case) = line else {
+        return false;
+    };
+    match (case.kind, case.spans.len(), case.numbers) {
         // ID NO START END ORDINAL
-        (Kind::ById, [id, due @ ..]) => {
+        (b'i', 0, [id, due @ ..]) => {
             let answer = index_lookup::get_block(opened, data, *id);
             is_told(due, answer.map(|addr| <[u64; 3]>::from(addr)))
         }
         // TERMS NO
-        (Kind::ByTerms, [terms, due @ ..]) => opens_again(opened, data, *terms, due),
+        (b't', 0, [terms, due @ ..]) => opens_again(opened, data, *terms, due),
         // VERSION NO
-        (Kind::ByVersion, [version, due @ ..]) => opens_as(opened, data, *version, due),
+        (b'v', 0, [version, due @ ..]) => opens_as(opened, data, *version, due),
         // TERMS ORDINAL NO ID
-        (Kind::ByOrdinal, [terms, ord, due @ ..]) => {
+        (b'o', 0, [terms, ord, due @ ..]) => {
             let answer = with_terms(opened, *terms).and_then(|opened| index_lookup::locate_with_ord(
                 opened, data, *ord,
             ));
             is_told(due, answer.map(|found| [found.block_id as u64]))
         }
-        // NO ID
-        (Kind::ByKey, due) if case.bytes.len() <= LONGEST_KEY => {
+        // KEY NO ID
+        (b'k', 1, due) => {
             let answer = index_lookup::locate_with_key(opened, data, case.string(0));
             is_told(due, answer.map(|id| [id as u64]))
         }
         // NO
-        (Kind::IsCanonical, due) => {
+        (b'c', 0, due) => {
             is_told(
                 due,
                 canonical::check_canonical(opened.version, data).map(|()| []),
@@ -127,24 +81,19 @@ fn is_answered(kind: Kind, case: Case<'_>, opened: SSTableIndexV3, data: &[u8]) 
     }
 }
 
-// Whether a line begins with a letter above.
-fn asks(line: &[u8]) -> bool {
-    LETTERS
-        .iter()
-        .any(|letter| line.first() == Some(&letter.letter))
-}
-
-// The lines that ask something. Each other line differs, a comment too.
-fn asked(alloc: Global, text: &[u8], tallies: &mut Tallies) -> Result<Vec<u8>, AllocError> {
-    let mut asked = Vec::new(alloc);
+// Counts a case for each line. It isn't `driver::compare`, which passes over comments, and counts a line of no letter in no row.
+fn count_lines(
+    alloc: Global,
+    text: &[u8],
+    opened: SSTableIndexV3,
+    data: &[u8],
+    tallies: &mut Tallies,
+) -> Result<(), AllocError> {
+    let mut room = Room::new(alloc, MOST_NUMBERS, MOST_STRINGS, LONGEST_KEY)?;
     for line in text.split_inclusive(|byte| *byte == b'\n') {
-        if asks(line) {
-            asked.extend_from_slice(line)?;
-        } else {
-            tallies.count(ROW, false);
-        }
+        tallies.count(ROW, is_answered(room.parse(line), opened, data));
     }
-    Ok(asked)
+    Ok(())
 }
 
 // Counts a case for each line of NAME.questions, asked of NAME.index. No line at all differs.
@@ -157,10 +106,7 @@ pub fn count(rt: &(impl Files + AllocGlobal), name: &str, tallies: &mut Tallies)
     };
     match index_load::load_least(files::version(name), &file) {
         Ok(opened) if !text.is_empty() => {
-            let text = asked(rt.alloc(), &text, tallies)?;
-            driver::compare(rt.alloc(), &text, &LETTERS, tallies, |kind, case| {
-                Ok(is_answered(kind, case, opened, &file))
-            })
+            Ok(count_lines(rt.alloc(), &text, opened, &file, tallies)?)
         }
         _ => {
             tallies.count(ROW, false);
