@@ -73,8 +73,11 @@ fn decimal(token: &[u8]) -> Option<u64> {
 fn put_bytes(digits: &[u8], area: &mut [u8]) -> Option<usize>
     ensures { (length area.new ≡ length area.old) × IfSome result (λ n. n ≤ length area.new) }
 {
-    // The crate hex takes upper case, too.
-    if digits.iter().any(|byte| byte.is_ascii_uppercase()) {
+    // The crate hex takes upper case, too. With `any` the bytes would be looked at one by one.
+    if digits
+        .iter()
+        .fold(false, |found, byte| found | byte.is_ascii_uppercase())
+    {
         return None;
     }
     let len = digits.len() / 2;

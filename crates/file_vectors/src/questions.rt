@@ -1,7 +1,7 @@
 // Questions to an index file, one a line, with their answers.
 use crate::files::FILE_LEN;
 use crate::{ROW_OF_QUESTIONS, files};
-use case_text::{Line, Room};
+use case_text::{Case, Line, Room};
 use index::SSTableIndexV3;
 use layout::refusals::Refusal;
 use std::alloc::{AllocError, Global};
@@ -9,6 +9,7 @@ use std::io;
 use std::rt::Files;
 use vector_parts::tally::Tallies;
 use vector_parts::told::is_told;
+use vectors::driver::Letter;
 
 const ROW: Option<usize> = Some(ROW_OF_QUESTIONS);
 
@@ -18,6 +19,57 @@ const MOST_NUMBERS: usize = 8;
 const MOST_STRINGS: usize = 1;
 
 const LONGEST_KEY: usize = 2048;
+
+// What a line asks.
+#[derive(Clone, Copy)]
+enum Kind {
+    ById,
+    ByTerms,
+    ByVersion,
+    ByOrdinal,
+    ByKey,
+    IsCanonical,
+}
+
+// The letter of each kind, with the row of its tally and how many byte strings its lines have.
+const LETTERS: [Letter<Kind>; 6] = [
+    Letter {
+        letter: b'i',
+        kind: Kind::ById,
+        row: ROW,
+        strings: 0,
+    },
+    Letter {
+        letter: b't',
+        kind: Kind::ByTerms,
+        row: ROW,
+        strings: 0,
+    },
+    Letter {
+        letter: b'v',
+        kind: Kind::ByVersion,
+        row: ROW,
+        strings: 0,
+    },
+    Letter {
+        letter: b'o',
+        kind: Kind::ByOrdinal,
+        row: ROW,
+        strings: 0,
+    },
+    Letter {
+        letter: b'k',
+        kind: Kind::ByKey,
+        row: ROW,
+        strings: 1,
+    },
+    Letter {
+        letter: b'c',
+        kind: Kind::IsCanonical,
+        row: ROW,
+        strings: 0,
+    },
+];
 
 // The record of the file with so many terms, as an opening with them answers it.
 fn with_terms(opened: SSTableIndexV3, terms: u64) -> Result<SSTableIndexV3, Refusal> {
@@ -43,35 +95,32 @@ fn opens_as(opened: SSTableIndexV3, data: &[u8], version: u64, due: &[u64]) -> b
     same && is_told(due, answer.map(|_| []))
 }
 
-// Whether the answer to a line's question is the line's own. A line that asks nothing has none, and so a comment hasn't.
-fn is_answered(line: Line<'_>, opened: SSTableIndexV3, data: &[u8]) -> bool {
-    let Line::Case(case) = line else {
-        return false;
-    };
-    match (case.kind, case.spans.len(), case.numbers) {
+// Whether the answer to a line's question is the line's own.
+fn is_answered(kind: Kind, case: Case<'_>, opened: SSTableIndexV3, data: &[u8]) -> bool {
+    match (kind, case.numbers) {
         // ID NO START END ORDINAL
-        (b'i', 0, [id, due @ ..]) => {
+        (Kind::ById, [id, due @ ..]) => {
             let answer = index_lookup::get_block(opened, data, *id);
             is_told(due, answer.map(|addr| <[u64; 3]>::from(addr)))
         }
         // TERMS NO
-        (b't', 0, [terms, due @ ..]) => opens_again(opened, data, *terms, due),
+        (Kind::ByTerms, [terms, due @ ..]) => opens_again(opened, data, *terms, due),
         // VERSION NO
-        (b'v', 0, [version, due @ ..]) => opens_as(opened, data, *version, due),
+        (Kind::ByVersion, [version, due @ ..]) => opens_as(opened, data, *version, due),
         // TERMS ORDINAL NO ID
-        (b'o', 0, [terms, ord, due @ ..]) => {
+        (Kind::ByOrdinal, [terms, ord, due @ ..]) => {
             let answer = with_terms(opened, *terms).and_then(|opened| index_lookup::locate_with_ord(
                 opened, data, *ord,
             ));
             is_told(due, answer.map(|found| [found.block_id as u64]))
         }
-        // KEY NO ID
-        (b'k', 1, due) => {
+        // NO ID
+        (Kind::ByKey, due) => {
             let answer = index_lookup::locate_with_key(opened, data, case.string(0));
             is_told(due, answer.map(|id| [id as u64]))
         }
         // NO
-        (b'c', 0, due) => {
+        (Kind::IsCanonical, due) => {
             is_told(
                 due,
                 canonical::check_canonical(opened.version, data).map(|()| []),
@@ -81,7 +130,28 @@ fn is_answered(line: Line<'_>, opened: SSTableIndexV3, data: &[u8]) -> bool {
     }
 }
 
-// Counts a case for each line. It isn't `driver::compare`, which passes over comments, and counts a line of no letter in no row.
+// The letter above that a line begins with.
+fn letter_of(line: &[u8]) -> Option<Letter<Kind>> {
+    LETTERS
+        .iter()
+        .find(|letter| line.first() == Some(&letter.letter))
+        .copied()
+}
+
+// Whether a line asks something, and the answer is its own.
+fn is_right(line: &[u8], room: &mut Room, opened: SSTableIndexV3, data: &[u8]) -> bool {
+    let Some(letter) = letter_of(line) else {
+        return false;
+    };
+    match room.parse(line) {
+        Line::Case(case) => {
+            letter.strings == case.spans.len() && is_answered(letter.kind, case, opened, data)
+        }
+        _ => false,
+    }
+}
+
+// Counts a case for each line, a comment too, which `driver::compare` passes over.
 fn count_lines(
     alloc: Global,
     text: &[u8],
@@ -91,7 +161,7 @@ fn count_lines(
 ) -> Result<(), AllocError> {
     let mut room = Room::new(alloc, MOST_NUMBERS, MOST_STRINGS, LONGEST_KEY)?;
     for line in text.split_inclusive(|byte| *byte == b'\n') {
-        tallies.count(ROW, is_answered(room.parse(line), opened, data));
+        tallies.count(ROW, is_right(line, &mut room, opened, data));
     }
     Ok(())
 }
