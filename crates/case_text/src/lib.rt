@@ -2,9 +2,11 @@
 // byte string in lower-case hex, any other a decimal number. A line that begins with `#` is a comment.
 #![tactic(auto)]
 
-ghost use Rattle.std.specs.Prelude.{◌≡◌, ◌≤◌, ◌<◌, ◌-◌, true, [], length, take, drop};
+ghost use Rattle.std.specs.Prelude.{◌≡◌, ◌≤◌, ◌<◌, ◌-◌, ◌^◌, true, [], length, take, drop};
 ghost use Rattle.std.specs.Prelude.{IfOk, IfSome, MatchOption, get_or, slice_get, vec_len};
-ghost use Rattle.case_text.specs.Cases.{BeginsWith, FitsInto};
+ghost use Rattle.std.specs.Option.{is_some};
+ghost use Rattle.std.specs.Str.Parse.{digits_value};
+ghost use Rattle.case_text.specs.Cases.{BeginsWith, Digits, FitsInto};
 
 use std::alloc::{AllocError, Global};
 
@@ -56,7 +58,13 @@ impl<'a> Case<'a> {
 }
 
 // The decimal number that a token spells, if it is one of at most 2^64 - 1. std's parse takes a sign, too, and a text.
-fn decimal(token: &[u8]) -> Option<u64> {
+fn decimal(token: &[u8]) -> Option<u64>
+    ensures value { IfSome result (λ n. Digits token.now × (n ≡ digits_value 10 token.now)) }
+    ensures some { Digits token.now → digits_value 10 token.now < 2 ^ 64 → is_some result ≡ true }
+{
+    if token.is_empty() {
+        return None;
+    }
     let mut number: u64 = 0;
     for byte in token {
         if !byte.is_ascii_digit() {
@@ -66,7 +74,7 @@ fn decimal(token: &[u8]) -> Option<u64> {
             .checked_mul(10)?
             .checked_add(u64::from(*byte - b'0'))?;
     }
-    (!token.is_empty()).then_some(number)
+    Some(number)
 }
 
 // Puts the bytes that hex digits spell, two each, to the front of the area. How many, if they are digits and have room.
